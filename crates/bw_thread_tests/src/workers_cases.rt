@@ -21,6 +21,9 @@ use std::thread::{Threads, join};
 // The greatest number of looks that a gate takes for another worker's coming to some point.
 const TURNS: u32 = 100_000_000;
 
+// The greatest number of periods until draws of two workers alternate. It is mostly the first.
+const MOST_PERIODS: u32 = 1000;
+
 // The parent, weight, limit and demand of a group.
 type Group = (Option<u32>, u64, Option<u64>, u64);
 
@@ -37,6 +40,8 @@ static POD_AND_JOB: [Group; 5] = [
 
 static TWO_GROUPS: [Group; 3] = [ROOT, (Some(0), 100, None, 20), (Some(0), 200, None, 20)];
 
+static THOUSANDS: [Group; 3] = [ROOT, (Some(0), 100, None, 1000), (Some(0), 100, None, 1000)];
+
 static LEAF_OF_THREE: [Group; 2] = [ROOT, (Some(0), 100, None, 3)];
 
 // A host with 20 slices on each processor, these groups, and their plan.
@@ -48,7 +53,21 @@ fn planned(
 ) -> Result<(Instance, Plan), AllocError>
     ensures { IfOk result (λ t. IsPlan t.0 t.1.amounts.items) }
 {
-    let Ok(shape) = HostShape::new(processors, 100_000, 5000) else {
+    planned_for(rt, alloc, processors, 100_000, 5000, groups)
+}
+
+// A host with this period and these slices, in microseconds, these groups, and their plan.
+fn planned_for(
+    rt: &impl Abort,
+    alloc: Global,
+    processors: u64,
+    period_us: u64,
+    slice_us: u64,
+    groups: &[Group],
+) -> Result<(Instance, Plan), AllocError>
+    ensures { IfOk result (λ t. IsPlan t.0 t.1.amounts.items) }
+{
+    let Ok(shape) = HostShape::new(processors, period_us, slice_us) else {
         panic!(rt; "no host")
     };
     let mut rows = Vec::new(alloc);
@@ -101,8 +120,6 @@ pub(crate) struct Without(pub(crate) u32);
 
 impl Gate for Without {
     ghost used = { λ gate leaf. not (leaf == gate.0) };
-
-    const MAY_HOLD: bool = false;
 
     fn before(&self, worker: u32, nth: u64) {
         let _ = (worker, nth);
@@ -285,8 +302,6 @@ impl InTurn {
 impl Gate for InTurn {
     ghost used = { λ gate leaf. not (leaf == gate.unused) };
 
-    const MAY_HOLD: bool = false;
-
     fn before(&self, worker: u32, nth: u64) {
         self.called(worker, nth, 0);
     }
@@ -357,27 +372,42 @@ fn give_backs_are_not_told(rt: HostRuntime) -> Result<(), Fail> {
     Ok(())
 }
 
-// Without a gate that may hold one, each worker ends before the next one begins.
-fn serve_in_seat_order<R: Threads + Wait + Clock + Abort + Sync>(
+// The number of entries that stand behind one of another seat.
+fn changes_of_seat(history: &[Entry<PoolCall, PoolReply>]) -> u32 {
+    let Some(mut last) = first_caller(history) else {
+        return 0;
+    };
+    let mut changes = 0u32;
+    for entry in history {
+        if entry.seat != last {
+            changes = changes.saturating_add(1);
+        }
+        last = entry.seat;
+    }
+    changes
+}
+
+// Some period in which draws of different workers alternate, under the gate of the program, which
+// holds none. One after another, two workers change once.
+fn serve_side_by_side<R: Threads + Wait + Clock + Abort + Sync>(
     rt: &R,
     alloc: Global,
 ) -> Result<(), AllocError> {
-    let (instance, plan) = planned(rt, alloc, 2, &TWO_GROUPS)?;
-    let served = served(rt, alloc, &instance, &plan, &NoGate, &[40, 20, 20])?;
-    let mut last = 0;
-    for entry in served.history.iter() {
-        assert!(rt; last <= entry.seat);
-        last = entry.seat;
+    let (instance, plan) = planned_for(rt, alloc, 2, 1_000_000, 1000, &THOUSANDS)?;
+    for _period in 0..MOST_PERIODS {
+        let served = served(rt, alloc, &instance, &plan, &NoGate, &[2000, 1000, 1000])?;
+        if changes_of_seat(&served.history) > 1 {
+            return Ok(());
+        }
     }
-    assert!(rt; last == 1);
-    Ok(())
+    panic!(rt; "the workers never met")
 }
 
 #[test]
-fn one_after_another(rt: HostRuntime) -> Result<(), Fail> {
+fn draws_alternate(rt: HostRuntime) -> Result<(), Fail> {
     let alloc = rt.alloc();
-    if serve_in_seat_order(&rt, alloc).is_err() {
-        serve_in_seat_order(&rt, alloc)?;
+    if serve_side_by_side(&rt, alloc).is_err() {
+        serve_side_by_side(&rt, alloc)?;
     }
     Ok(())
 }

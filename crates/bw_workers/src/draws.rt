@@ -5,6 +5,7 @@ ghost use Rattle.bw_workers.specs.Rounds.{draws_in};
 ghost use Rattle.bw_workers.specs.Working.{Asks, calls_of};
 
 use crate::gate::Gate;
+use bw_door::Door;
 use bw_pool::{PoolCall, PoolReply, SlicePool};
 use bw_ticket::{Seat, TicketLock};
 use std::rt::Clock;
@@ -37,10 +38,11 @@ fn tell_after<G: Gate>(gate: &G, seat: &Seat<SlicePool>, begun: Begun)
     gate.after(worker, nth);
 }
 
-// One call of a seat that has calls left.
+// One call of a seat that has calls left, through the door.
 fn ask<R: Wait + Clock>(
     rt: &R,
     lock: &TicketLock<SlicePool>,
+    door: &Door,
     seat: &mut Seat<SlicePool>,
     call: PoolCall,
 ) -> PoolReply
@@ -49,15 +51,17 @@ fn ask<R: Wait + Clock>(
     requires left { 0 < seat.old.calls_left }
     ensures { Asks seat.old call result seat.new }
 {
-    let Ok(answer) = seat.call(rt, lock, call) else {
+    let Ok(answer) = door.call(rt, lock, seat, call) else {
         unreachable!()
     };
     answer.reply
 }
 
-/// A worker's seat, and its gate. The gate is told of each draw, and of no other call.
+/// A worker's seat, the door of all workers, and the worker's gate. The gate is told of each draw,
+/// and of no other call.
 pub(crate) struct Draws<'a, G: Gate> {
     seat: Seat<SlicePool>,
+    door: &'a Door,
     gate: &'a G,
     // number of draws of the seat so far
     nth: u64,
@@ -65,14 +69,19 @@ pub(crate) struct Draws<'a, G: Gate> {
 
 impl<'a, G: Gate> Draws<'a, G> {
     /// The seat has made no call yet.
-    pub(crate) fn new(seat: Seat<SlicePool>, gate: &'a G) -> Draws<'a, G>
+    pub(crate) fn new(seat: Seat<SlicePool>, door: &'a Door, gate: &'a G) -> Draws<'a, G>
         requires fresh { seat.own ≡ [] }
         ensures seat { result.seat ≡ seat }
         ensures gate { result.gate.now ≡ gate.now }
         ensures none { result.nth ≡ 0 }
         ensures counted { result.nth ≡ draws_in (calls_of result.seat) }
     {
-        Draws { seat, gate, nth: 0 }
+        Draws {
+            seat,
+            door,
+            gate,
+            nth: 0,
+        }
     }
 
     /// Draws one slice of the leaf. The gate is told before and after, with the number of the
@@ -94,7 +103,7 @@ impl<'a, G: Gate> Draws<'a, G> {
         ensures counted { self.new.nth ≡ draws_in (calls_of self.new.seat) }
     {
         let begun = tell_before(self.gate, &self.seat, self.nth);
-        let reply = ask(rt, lock, &mut self.seat, PoolCall::Draw { leaf, ask: 1 });
+        let reply = ask(rt, lock, self.door, &mut self.seat, PoolCall::Draw { leaf, ask: 1 });
         tell_after(self.gate, &self.seat, begun);
         self.nth += 1;
         reply
@@ -116,7 +125,7 @@ impl<'a, G: Gate> Draws<'a, G> {
         ensures nth { self.new.nth ≡ self.old.nth }
         ensures counted { self.new.nth ≡ draws_in (calls_of self.new.seat) }
     {
-        ask(rt, lock, &mut self.seat, PoolCall::GiveBack { leaf, n: 1 })
+        ask(rt, lock, self.door, &mut self.seat, PoolCall::GiveBack { leaf, n: 1 })
     }
 
     /// Whether the leaf uses its slices.
@@ -132,6 +141,7 @@ impl<'a, G: Gate> Draws<'a, G> {
     {
         let Draws {
             seat,
+            door: _,
             gate: _,
             nth: _,
         } = self;

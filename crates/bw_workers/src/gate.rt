@@ -7,11 +7,8 @@ pub trait Gate: Sync {
     // Whether a leaf uses its slices. It depends on the value of the gate alone.
     ghost used: { Self → ℕ → Bool };
 
-    /// Whether a call of the gate may hold a worker until another one has come to some point. If
-    /// none does, the workers run one after another.
-    const MAY_HOLD: bool = true;
-
-    /// Called before a worker's draw number `nth`, from 0.
+    /// Called before a worker's draw number `nth`, from 0. It may hold the worker until another one
+    /// has come to some point.
     fn before(&self, worker: u32, nth: u64);
 
     /// Called after that draw is answered.
@@ -28,8 +25,6 @@ pub struct NoGate;
 
 impl Gate for NoGate {
     ghost used = { λ gate leaf. true };
-
-    const MAY_HOLD: bool = false;
 
     fn before(&self, worker: u32, nth: u64) {
         let _ = (worker, nth);

@@ -14,6 +14,7 @@ ghost use Rattle.bw_workers.specs.Serving.{AreSeatsOf, AreInRounds, IsMadeBy, ca
 use crate::fault::ServeFault;
 use crate::gate::Gate;
 use crate::threads::run_workers;
+use bw_door::Door;
 use bw_machine::Entry;
 use bw_model::Instance;
 use bw_model::limits::MAX_GROUPS;
@@ -71,8 +72,8 @@ fn calls_each(instance: &Instance, leaves: &[u32]) -> u32
 /// Serves one period: opens a lock round a pool of the plan, with one seat for each processor, and
 /// runs a worker for each seat.
 ///
-/// Each worker has a thread of its own. All run at once if the gate may hold one, and otherwise one
-/// after another, the only one of a host in the calling thread.
+/// Each worker has a thread of its own, and all run at once. The only one of a host runs in the
+/// calling thread. They pass a door one at a time before they draw a ticket.
 ///
 /// A worker draws 1 slice from each leaf in row order, round and round. It gives back at once a
 /// slice of a leaf that the gate does not use. It does not ask again a leaf that answered short or
@@ -123,7 +124,8 @@ pub fn serve<G: Gate, R: Threads + Wait + Clock + Sync>(
         Err(OpenFault::OutOfMemory) => return Err(ServeFault::OutOfMemory),
         Err(_) => unreachable!(),
     };
-    let seats = run_workers(rt, alloc, &lock, seats, instance, &leaves, gate)?;
+    let door = Door::new();
+    let seats = run_workers(rt, alloc, &lock, &door, seats, instance, &leaves, gate)?;
     let handed_back = Snapshot::of(&seats);
     let used = Snapshot::of(&lock);
     let Ok(Closed { machine, history }) = close(lock, seats) else {

@@ -1,8 +1,4 @@
-//! The workers of all seats, each in a thread of its own.
-//!
-//! Every schedule of the draws is proved, so the cheapest is taken. Where threads meet, a ticket
-//! lock hands over at each draw, mostly by a sleep and a wake. So workers run at once only if the
-//! gate may hold one of them until another has drawn.
+//! The workers of all seats, each in a thread of its own, all at once.
 ghost use Rattle.std.specs.Prelude.{◌≡◌, ◌+◌, ◌*◌, ◌≤◌, length, IfOk};
 ghost use Rattle.bw_model.specs.Host.{slices_per_processor};
 ghost use Rattle.bw_workers.specs.Working.{IsLeaves, IsDrainedSeat};
@@ -11,6 +7,7 @@ ghost use Rattle.bw_workers.specs.Serving.{IsReady, AreReady, AreBack};
 use crate::fault::ServeFault;
 use crate::gate::Gate;
 use crate::worker::work;
+use bw_door::Door;
 use bw_model::Instance;
 use bw_model::limits::MAX_GROUPS;
 use bw_pool::SlicePool;
@@ -63,6 +60,7 @@ fn at_once<G: Gate, R: Threads + Wait + Clock + Sync>(
     rt: &R,
     alloc: Global,
     lock: &TicketLock<SlicePool>,
+    door: &Door,
     seats: Vec<Seat<SlicePool>>,
     instance: &Instance,
     leaves: &[u32],
@@ -102,7 +100,7 @@ fn at_once<G: Gate, R: Threads + Wait + Clock + Sync>(
                     ensures { IsDrainedSeat (G.used gate.entry.now) instance.entry.now.rows
                         (slices_per_processor instance.entry.now.shape)
                         lock.entry.now.lock_id seat.number result }
-                { work(rt, lock, seat, instance, mine, gate) };
+                { work(rt, lock, door, seat, instance, mine, gate) };
                 let Ok(child) = scope.spawn_with(promise, run) else {
                     return Err(ServeFault::NotStarted);
                 };
@@ -116,11 +114,12 @@ fn at_once<G: Gate, R: Threads + Wait + Clock + Sync>(
     )
 }
 
-// Works a seat in a thread of its own, which has ended at the return.
-fn in_a_thread<G: Gate, R: Threads + Wait + Clock + Sync>(
+// Works a seat in the calling thread.
+fn worked<G: Gate, R: Wait + Clock>(
     rt: &R,
     alloc: Global,
     lock: &TicketLock<SlicePool>,
+    door: &Door,
     seat: Seat<SlicePool>,
     instance: &Instance,
     leaves: &[u32],
@@ -133,68 +132,16 @@ fn in_a_thread<G: Gate, R: Threads + Wait + Clock + Sync>(
     ensures { IfOk result (λ s. IsDrainedSeat (G.used gate.now) instance.now.rows
         (slices_per_processor instance.now.shape) lock.now.lock_id seat.number s) }
 {
-    thread::scope(
-        thread::scope_env(),
-        rt,
-        |scope| -> Result<Seat<SlicePool>, ServeFault>
-            requires ready { IsReady lock.now.lock_id
-                (slices_per_processor instance.now.shape + 2 * length leaves.now)
-                seat.number seat }
-            requires leaves { IsLeaves instance.now.rows leaves.now }
-            requires few { length leaves.now ≤ MAX_GROUPS }
-            ensures { IfOk result (λ s. IsDrainedSeat (G.used gate.entry.now)
-                instance.entry.now.rows (slices_per_processor instance.entry.now.shape)
-                lock.entry.now.lock_id seat.number s) }
-        {
-            let mine = Vec::from_slice(alloc, leaves)?;
-            let promise = promise_of(lock, instance, gate, &seat);
-            let run = move || -> Seat<SlicePool>
-                requires { IsReady lock.now.lock_id
-                    (slices_per_processor instance.now.shape + 2 * length mine.items)
-                    seat.number seat ×
-                    IsLeaves instance.now.rows mine.items × (length mine.items ≤ MAX_GROUPS) }
-                ensures { IsDrainedSeat (G.used gate.entry.now) instance.entry.now.rows
-                    (slices_per_processor instance.entry.now.shape)
-                    lock.entry.now.lock_id seat.number result }
-            { work(rt, lock, seat, instance, mine, gate) };
-            let Ok(child) = scope.spawn_with(promise, run) else {
-                return Err(ServeFault::NotStarted);
-            };
-            Ok(child.join(rt))
-        },
-    )
+    let mine = Vec::from_slice(alloc, leaves)?;
+    Ok(work(rt, lock, door, seat, instance, mine, gate))
 }
 
-// Works a seat: in the calling thread if it is the only one, and else in a thread of its own.
-fn worked<G: Gate, R: Threads + Wait + Clock + Sync>(
+// Works the seats one after another in the calling thread.
+fn in_this_thread<G: Gate, R: Wait + Clock>(
     rt: &R,
     alloc: Global,
     lock: &TicketLock<SlicePool>,
-    seat: Seat<SlicePool>,
-    is_only: bool,
-    instance: &Instance,
-    leaves: &[u32],
-    gate: &G,
-) -> Result<Seat<SlicePool>, ServeFault>
-    requires ready { IsReady lock.now.lock_id
-        (slices_per_processor instance.now.shape + 2 * length leaves.now) seat.number seat }
-    requires leaves { IsLeaves instance.now.rows leaves.now }
-    requires few { length leaves.now ≤ MAX_GROUPS }
-    ensures { IfOk result (λ s. IsDrainedSeat (G.used gate.now) instance.now.rows
-        (slices_per_processor instance.now.shape) lock.now.lock_id seat.number s) }
-{
-    if is_only {
-        let mine = Vec::from_slice(alloc, leaves)?;
-        return Ok(work(rt, lock, seat, instance, mine, gate));
-    }
-    in_a_thread(rt, alloc, lock, seat, instance, leaves, gate)
-}
-
-// Works the seats one after another: the next thread is spawned once one is joined.
-fn one_by_one<G: Gate, R: Threads + Wait + Clock + Sync>(
-    rt: &R,
-    alloc: Global,
-    lock: &TicketLock<SlicePool>,
+    door: &Door,
     seats: Vec<Seat<SlicePool>>,
     instance: &Instance,
     leaves: &[u32],
@@ -211,18 +158,19 @@ fn one_by_one<G: Gate, R: Threads + Wait + Clock + Sync>(
     let count = seats.len();
     let mut done = Vec::with_capacity(alloc, count)?;
     for seat in seats {
-        let seat = worked(rt, alloc, lock, seat, count == 1, instance, leaves, gate)?;
+        let seat = worked(rt, alloc, lock, door, seat, instance, leaves, gate)?;
         done.push_reserved(seat);
     }
     Ok(done)
 }
 
-/// Works all seats, and returns them once all workers have ended: at once if the gate may hold one
-/// of them, and otherwise one after another.
+/// Works all seats at once, each in a thread of its own, and returns them once all workers have
+/// ended. An only one is worked in the calling thread.
 pub(crate) fn run_workers<G: Gate, R: Threads + Wait + Clock + Sync>(
     rt: &R,
     alloc: Global,
     lock: &TicketLock<SlicePool>,
+    door: &Door,
     seats: Vec<Seat<SlicePool>>,
     instance: &Instance,
     leaves: &[u32],
@@ -236,9 +184,9 @@ pub(crate) fn run_workers<G: Gate, R: Threads + Wait + Clock + Sync>(
         AreBack (G.used gate.now) instance.now.rows (slices_per_processor instance.now.shape)
         lock.now.lock_id v.items) }
 {
-    if G::MAY_HOLD {
-        at_once(rt, alloc, lock, seats, instance, leaves, gate)
+    if seats.len() == 1 {
+        in_this_thread(rt, alloc, lock, door, seats, instance, leaves, gate)
     } else {
-        one_by_one(rt, alloc, lock, seats, instance, leaves, gate)
+        at_once(rt, alloc, lock, door, seats, instance, leaves, gate)
     }
 }

@@ -6,7 +6,7 @@ use Rattle.std.specs.Vec.Iter.{into_iter_items, into_iter_len}
 use Rattle.bw_model.specs.declared.limits.TheConstants.{MAX_GROUPS}
 use Rattle.bw_workers.specs.Serving.{IsReady}
 use Rattle.bw_workers.specs.Working.{IsLeaves, IsDrainedSeat}
-use Rattle.bw_workers.proofs.threads.one_by_one.Given as goal
+use Rattle.bw_workers.proofs.threads.in_this_thread.Given as goal
 
 abbrev pub invariant-loop-seat : goal.invariant-loop-seat
 invariant-loop-seat g l = let worked = vec_len l.done in let rest = l.seat-iterator in record {

@@ -6,7 +6,7 @@ use Rattle.std.specs.Vec.Iter.{into_iter_items, into_iter_len}
 use Rattle.bw_workers.specs.Serving.{IsReady}
 use Rattle.bw_workers.specs.Working.{IsDrainedSeat}
 use Rattle.bw_workers.proofs.DrainedHistories.{each_pushed}
-use Rattle.bw_workers.proofs.threads.one_by_one.Goals as goal
+use Rattle.bw_workers.proofs.threads.in_this_thread.Goals as goal
 
 pub loop-seat-preserved : goal.loop-seat-preserved
 loop-seat-preserved g c =
