@@ -258,7 +258,7 @@ CALLS_OF_THE_LOCK = {
     r"\byield_now\(": ("sleeping.rt", 1),
     # `enter` begins the count of a wait, and `park_on` begins it anew.
     r"\bAwake::none\(": ("sleeping.rt", 2),
-    r"\bCount::none\(": ("sleeping.rt", 1),
+    r"\bCount::none\(": ("sleeping.rt", 2),
     # The loads, each in the function of its step. A waiting seat makes the first two.
     r"\.peek\(": ("sleeping.rt", 1),
     r"\.load::<Looking>": ("sleeping.rt", 1),

@@ -197,6 +197,29 @@ def test_no_thread_left(program, refusing):
         same((talk.line(), talk.read(), talk.status()), (b"served 0\n", b"", 0))
 
 
+# The draws of these groups take some milliseconds of each of 16 processors.
+MANY_DRAWS = b"".join(b"mkdir g%d\ndemand g%d 1000000\n" % (at, at) for at in range(9))
+
+
+def test_workers_at_once(program):
+    """The workers of a period live at once: beside the first thread two are seen, or more."""
+    words = ["run", "--processors", "16", "--period", "1000000", "--slice", "1000"]
+    most, periods = 0, 0
+    with Talk(program, words, stderr=None) as talk:
+        talk.write(MANY_DRAWS)
+        threads = f"/proc/{talk.process.pid}/task"
+        while most < 3 and talk.seconds() > 0:
+            talk.write(b"period\n" * 50)
+            periods += 50
+            until = time.monotonic() + 1
+            while most < 3 and time.monotonic() < until:
+                most = max(most, len(os.listdir(threads)))
+        talk.process.stdin.close()
+        answers = b"".join(iter(talk.read, b""))
+        same(answers, b"ok\n" * 18 + b"served 16000\n" * periods)
+    assert most >= 3, f"{most} threads at once, in {periods} periods"
+
+
 # Groups with two children each, beside a chain of 64 groups.
 PAIRS = 2100
 

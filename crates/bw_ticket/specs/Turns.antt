@@ -220,8 +220,7 @@ module _ {M C R : Type 0} where
   LeadsInRounds h (r ∷ rs) k =
       (m : Hall M C R) × Leads h r m × IsRoundOfTurns h r × LeadsInRounds m rs k
 
--- After any turns of a lock that was opened, each drawn ticket is served and left within eight
--- rounds for itself and for each ticket before it that is not yet left.
+-- After any turns of an opened lock, rounds of turns serve drawn tickets as events do.
 abbrev pub RunsServeDrawnTickets : (M C R : Type 0) → Type 0
 RunsServeDrawnTickets M C R = (seats calls : ℕ) (turns : List Turn) (rounds : List (List Turn))
     (h k : Hall M C R) (ticket : ℕ)

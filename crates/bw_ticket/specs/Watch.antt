@@ -1,4 +1,4 @@
--- What a waiting seat has done since it last slept.
+-- The counts of a waiting seat since it last slept.
 use Rattle.std.specs.Prelude.{ℕ}
 
 pub record Watch : Type 0 where

@@ -28,8 +28,7 @@ abbrev pub run_rounds : WaitState → List (List Event) → WaitState
 run_rounds s [] = s
 run_rounds s (r ∷ rs) = run_rounds (run s r) rs
 
--- With a wake word for each seat, after any list of events, eight rounds raise the ticket that is
--- served, if it is drawn.
+-- After any events, eight rounds raise the ticket that is served, if it is drawn.
 abbrev pub EightRoundsRaiseServing : Type 0
 EightRoundsRaiseServing =
     (seats words : ℕ) (events : List Event) (rounds : List (List Event)) → seats ≤ words
@@ -38,8 +37,7 @@ EightRoundsRaiseServing =
     → (run (start seats words) events).serving
     < (run_rounds (run (start seats words) events) rounds).serving
 
--- So each drawn ticket is served and left within eight rounds for itself and for each ticket before
--- it that is not yet left.
+-- So each drawn ticket is left within eight rounds for itself and for each ticket before it.
 abbrev pub DrawnTicketsAreServed : Type 0
 DrawnTicketsAreServed =
     (seats words : ℕ) (events : List Event) (rounds : List (List Event)) (ticket : ℕ)
