@@ -234,12 +234,14 @@ def wish_of(options: argparse.Namespace) -> Wish:
     period, slice_ = (None if getattr(options, name) is None
                       else time_option(getattr(options, name), f"--{name}")
                       for name in ("period", "slice"))
-    from arbiter_host.sources import used
-    tree = (used.tree_of(options) or options.root if getattr(options, "asked", "") == "apply"
-            else used.tree_of(options))
+    tree = options.root if getattr(options, "asked", "") == "apply" else ""
+    measured = None
+    if options.used or options.usage or options.cgroup:
+        from arbiter_host.sources import used
+        tree, measured = used.tree_of(options) or tree, used.measured_by(options)
     return Wish(options.cpus, period, slice_, options.node, options.kubelet or options.conversion,
                 options.runtime or options.conversion, options.driver, tree, options.want or "",
-                interval_of(options.interval), used.measured_by(options))
+                interval_of(options.interval), measured)
 
 
 def opened(options: argparse.Namespace, paths: Sequence[str]) -> list[Opened]:
@@ -289,11 +291,10 @@ def model_of(options: argparse.Namespace, files: Sequence[Opened], engine: Engin
 
 
 def read_tree(options: argparse.Namespace, paths: Sequence[str]) -> Model:
-    """A tree of cgroups."""
+    """A tree of cgroups, and later copies of it."""
     from arbiter_host.sources import cgroup2
-    if len(paths) > 1:
-        raise UsageFault("one folder is one tree")
     wish = readings_of(options, options.want or "usage")
+    wish = replace(wish, later=(*wish.later, *paths[1:]))
     if wish.want == "request":
         raise UsageFault("--want request: cgroups have no requests")
     return cgroup2.read(paths[0], machine(options), wish)

@@ -10,12 +10,11 @@ from __future__ import annotations
 from collections.abc import Callable, Mapping, Sequence
 from contextlib import suppress
 from dataclasses import dataclass, field, replace
-from fractions import Fraction
 from typing import NamedTuple
 
 from arbiter import Host
 from arbiter_host import demands, names
-from arbiter_host.demands import Measured, Place, Use
+from arbiter_host.demands import Use
 from arbiter_host.faults import HostFault
 from arbiter_host.model import Model
 
@@ -172,14 +171,6 @@ class Owned:
     def totals(self) -> tuple[int, int | None] | None:
         """What all groups request, and what there is for them; None where no request is known."""
         return None
-
-
-def used_by(model: Model, places: Mapping[str, Place], known: Mapping[Place, Measured],
-            seconds: Fraction) -> dict[str, Use]:
-    """The use of each group that was measured elsewhere."""
-    uses = {path: demands.use_of(model.groups[path], known.get(place, Measured()), model.host,
-                                 seconds) for path, place in places.items()}
-    return {path: use for path, use in uses.items() if use is not None}
 
 
 def remade(model: Model, source: Owned, settings: Sequence[Setting]) -> Model:

@@ -3,20 +3,21 @@ from __future__ import annotations
 
 import functools
 from collections.abc import Mapping, Sequence
-from dataclasses import dataclass, field, replace
+from dataclasses import dataclass, replace
 from fractions import Fraction
 from typing import Any
 
 from arbiter import Host, Library
-from arbiter_host import demands, names, owned, units
-from arbiter_host.demands import Measured, Place, Use
+from arbiter_host import demands, names, units
+from arbiter_host.demands import Measured, Place
 from arbiter_host.faults import HostFault
 from arbiter_host.model import MAX_CAPACITY, Group, Model, check_count, checked, told_bound
 from arbiter_host.names import last_name
-from arbiter_host.owned import NONE, Owned, Range, Setting
+from arbiter_host.owned import NONE, Range, Setting
 from arbiter_host.sources import systemd
 from arbiter_host.sources.data import loads, number, table, text
-from arbiter_host.sources.usage import Used, some, told_twice
+from arbiter_host.sources.measurable import Measurable
+from arbiter_host.sources.usage import Used
 from arbiter_host.sources.wish import File, Wish
 
 NANO = 10**9
@@ -156,22 +157,15 @@ def nano_of(setting: Setting, host: Host) -> int:
 
 
 @dataclass(frozen=True)
-class Source(Owned):
+class Source(Measurable):
     """Containers as they were read. `--cpus` and `--cpu-shares` of them can be changed."""
 
-    library: Library
-    wish: Wish
-    host: Host
     running: tuple[dict[str, Any], ...]
-    notes: tuple[str, ...] = ()
-    # What was measured of containers, and the seconds from one reading to the next.
-    known: Mapping[Place, Measured] = field(default_factory=dict)
-    seconds: Fraction = Fraction(1)
 
     keys = ("cpu-shares", "cpus")
 
     @functools.cached_property
-    def built(self) -> tuple[Model, dict[str, int]]:
+    def built(self) -> tuple[Model, dict[str, Place]]:
         """The model, and the place of each container by the path of its group."""
         model = Model(checked(self.host), notes=list(self.notes))
         check_count(len(self.running), f"{len(self.running)} containers")
@@ -179,26 +173,21 @@ class Source(Owned):
         for container in self.running:
             parent_path(model, parent_of(container, self.wish))
         taken: dict[str, set[str]] = {}
-        places = {add(model, container, self.library, self.wish, taken): place
-                  for place, container in enumerate(self.running)}
-        model.notes += told_bound([path for path, place in places.items() if text(
-            table(self.running[place], "HostConfig"), "CpusetCpus")])
+        places = {add(model, container, self.library, self.wish, taken): (at, 0)
+                  for at, container in enumerate(self.running)}
+        model.notes += told_bound([path for path, (at, _) in places.items() if text(
+            table(self.running[at], "HostConfig"), "CpusetCpus")])
         if self.wish.want == "request" or self.wish.want in demands.OF_USE and not self.known:
             raise HostFault(f"--want {self.wish.want} needs --used: containers have"
                             " limit and busy", 2)
         measured = {path: Measured() for path in model.groups}
-        measured |= {path: self.known.get((place, 0), Measured()) for path, place in places.items()}
+        measured |= {path: self.known.get(place, Measured()) for path, place in places.items()}
         demands.set_demands(model, measured, self.wish.want, self.seconds)
         return model, places
 
     def plain(self) -> Model:
         """The model, which is shared."""
         return self.built[0]
-
-    def seen(self) -> dict[str, Use]:
-        """The use of each container that was measured."""
-        places = {path: (place, 0) for path, place in self.built[1].items()}
-        return owned.used_by(self.plain(), places, self.known, self.seconds)
 
     def written(self, request: int, limit: int | None) -> tuple[str, str | None]:
         """Shares, and CPUs up to those of the host."""
@@ -214,48 +203,38 @@ class Source(Owned):
                                   for wish in wishes)
                 for place, each in enumerate(self.running) if text(each, "Id")}
 
-    def with_readings(self, known: Mapping[Place, Measured], seconds: Fraction) -> Source:
-        """The same with what was measured in a tree of cgroups."""
-        return replace(self, known=known, seconds=seconds)
+    def places(self) -> Mapping[str, Place]:
+        """The place of each container by the path of its group."""
+        return self.built[1]
 
-    def with_usage(self, entries: Sequence[Used], name: str) -> Source:
-        """The same with what others measured. What it has no container of is told."""
-        by_name = {text(each, "Name").strip("/"): place for place, each in enumerate(self.running)}
-        by_id = {text(each, "Id")[:SHORT_ID]: place for place, each in enumerate(self.running)}
-        known, missing = dict[Place, Measured](), []
-        for entry in entries:
-            place = by_id.get(entry.identifier[:SHORT_ID]) if entry.identifier else None
-            place = by_name.get(entry.container) if place is None else place
-            if place is None:
-                missing.append(entry.title)
-                continue
-            told_twice(known, (place, 0), f"{name}: {entry.title}")
-            known[place, 0] = Measured(told=entry.amounts)
-        told = f"{name}: used by containers that are not here, {some(missing)}"
-        if not known:
-            raise HostFault(told)
-        return replace(self, known=known, notes=(*self.notes, *([told] if missing else [])))
+    def places_of(self, entry: Used) -> Sequence[Place]:
+        """The container of an identifier, else of a name."""
+        place = self.by_id.get(entry.identifier[:SHORT_ID]) if entry.identifier else None
+        place = self.by_name.get(entry.container) if place is None else place
+        return [] if place is None else [place]
 
-    def has(self, path: str) -> bool:
-        """Whether a group is a container."""
-        return path in self.built[1]
+    @functools.cached_property
+    def by_name(self) -> dict[str, Place]:
+        """The containers by their names."""
+        return {text(each, "Name").strip("/"): (at, 0) for at, each in enumerate(self.running)}
 
-    def on_host(self, host: Host) -> Source:
-        """The same on another host."""
-        return replace(self, host=host)
+    @functools.cached_property
+    def by_id(self) -> dict[str, Place]:
+        """The containers by their identifiers, as docker prints them."""
+        return {text(each, "Id")[:SHORT_ID]: (at, 0) for at, each in enumerate(self.running)}
 
     def changed(self, settings: Sequence[Setting]) -> Source:
         """The same with other CPUs and shares."""
         running = list(self.running)
         for setting in settings:
-            place = self.built[1][setting.path]
+            place = self.built[1][setting.path][0]
             running[place] = {**running[place],
                               "HostConfig": config_with(running[place], setting, self.host)}
         return replace(self, running=tuple(running))
 
     def ranges(self, path: str) -> list[Range]:
         """The shares and the CPUs that can be asked for of a container."""
-        config = table(self.running[self.built[1][path]], "HostConfig")
+        config = table(self.running[self.built[1][path][0]], "HostConfig")
         shares, group = number(config, "CpuShares"), self.built[0].groups[path]
         most = 1000 * self.host.processors
         cpus = "-" if group.quota is None else units.decimal(Fraction(group.quota, group.period))
@@ -282,7 +261,7 @@ def source_of(files: Sequence[File], library: Library, wish: Wish) -> Source:
     running = [each for each in raw if is_running(each)]
     left = len(raw) - len(running)
     notes = (f"containers that do not run, left out: {left}",) if left else ()
-    return Source(library, wish, wish.machine(), tuple(running), notes)
+    return Source(library, wish, wish.machine(), tuple(running), notes=notes)
 
 
 def read(files: Sequence[File], library: Library, wish: Wish) -> Model:

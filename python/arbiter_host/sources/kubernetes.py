@@ -9,22 +9,23 @@ from __future__ import annotations
 import functools
 import math
 from collections.abc import Iterable, Mapping, Sequence
-from dataclasses import dataclass, field, replace
+from dataclasses import dataclass, replace
 from fractions import Fraction
 from typing import Any
 
 from arbiter import Host, Library
-from arbiter_host import demands, names, owned, search, units
-from arbiter_host.demands import Measured, Place, Use
+from arbiter_host import demands, names, search, units
+from arbiter_host.demands import Measured, Place
 from arbiter_host.faults import HostFault, NoHost
 from arbiter_host.model import Group, Model, check_count, checked
 from arbiter_host.names import NOWHERE, shown
 from arbiter_host.owned import NONE, Amounts, Owned, Range, Setting
 from arbiter_host.sources.data import loads, table, tables, text
+from arbiter_host.sources.measurable import Measurable
 from arbiter_host.sources.pods import (CLASSES, TOP, Container, Pod, folder_of, pod_of, requested,
                                        scope_of, thousandths)
 from arbiter_host.sources.scheduling import NodeFacts, node_facts
-from arbiter_host.sources.usage import Used, of_metrics, some, told_twice
+from arbiter_host.sources.usage import Used, of_metrics
 from arbiter_host.sources.wish import File, Wish
 
 ENDED = ("Succeeded", "Failed")
@@ -245,20 +246,13 @@ def check_amounts(pod: Pod, container: Container) -> None:
 
 
 @dataclass(frozen=True)
-class Source(Owned):
+class Source(Measurable):
     """Pods and their node as they were read. Requests and limits of them can be changed."""
 
-    library: Library
-    wish: Wish
-    host: Host
     pods: tuple[Pod, ...]
     # Thousandths that the node has for pods; None without the node's JSON.
     allocatable: int | None = None
     names_host: bool = False
-    notes: tuple[str, ...] = ()
-    # What was measured of containers, and the seconds from one reading to the next.
-    known: Mapping[Place, Measured] = field(default_factory=dict)
-    seconds: Fraction = Fraction(1)
     node: NodeFacts = NodeFacts()
 
     @functools.cached_property
@@ -289,42 +283,34 @@ class Source(Owned):
         return {place: tuple(each[place] for each in by_driver) for place in by_driver[0]
                 if by_driver[0][place] != NOWHERE}
 
-    def with_readings(self, known: Mapping[Place, Measured], seconds: Fraction) -> Source:
-        """The same with what was measured in a tree of cgroups."""
-        return replace(self, known=known, seconds=seconds)
+    def places(self) -> Mapping[str, Place]:
+        """The places of a pod and of its container by the path of the group."""
+        return self.built[1]
 
-    def with_usage(self, entries: Sequence[Used], name: str) -> Source:
-        """The same with what others measured. What it has no container of is told."""
-        by_name: dict[str, list[Place]] = {}
+    def places_of(self, entry: Used) -> Sequence[Place]:
+        """The containers that an entry names: of a pod, or one of it."""
+        return self.by_word.get(entry.word, [])
+
+    @functools.cached_property
+    def by_word(self) -> dict[str, list[Place]]:
+        """The places of containers by what measurements call them."""
+        by_word: dict[str, list[Place]] = {}
         for place, number in self.folders_of(self.wish.driver):
-            pod, container = self.pods[place], self.pods[place].parts[number].name
-            for word in {pod.name, pod.title, f"{pod.name}/{container}",
-                         f"{pod.title}/{container}"}:
-                by_name.setdefault(word, []).append((place, number))
-        known, missing = dict[Place, Measured](), []
-        for entry in entries:
-            places = by_name.get(entry.word, [])
-            if len(places) != 1:
-                missing.append(entry.title + (f" ({len(places)} containers)" if places else ""))
-                continue
-            told_twice(known, places[0], f"{name}: {entry.title}")
-            known[places[0]] = Measured(told=entry.amounts)
-        told = f"{name}: used by containers that are not here, {some(missing)}"
-        if not known:
-            raise HostFault(told)
-        return replace(self, known=known, notes=(*self.notes, *([told] if missing else [])))
+            for word in self.words_for(place, number):
+                by_word.setdefault(word, []).append((place, number))
+        return by_word
 
-    def has(self, path: str) -> bool:
-        """Whether a group is a container that the JSON has."""
-        return path in self.built[1]
+    def words_for(self, place: int, number: int) -> set[str]:
+        """What measurements call a container: its pod, and maybe itself."""
+        pod, name = self.pods[place], self.pods[place].parts[number].name
+        return {pod.name, pod.title, f"{pod.name}/{name}", f"{pod.title}/{name}"}
 
     @functools.cached_property
     def by_name(self) -> dict[str, list[str]]:
         """The containers by what measurements call them: a pod, and maybe the container."""
         paths: dict[str, list[str]] = {}
         for path, (place, number) in self.built[1].items():
-            pod, name = self.pods[place], self.pods[place].parts[number].name
-            for word in {pod.name, pod.title, f"{pod.name}/{name}", f"{pod.title}/{name}"}:
+            for word in self.words_for(place, number):
                 paths.setdefault(word, []).append(path)
         return paths
 
@@ -347,10 +333,6 @@ class Source(Owned):
                 and labels.items() <= set(pod.labels) for pod in self.pods]
         return list(dict.fromkeys(names.parent_path(path)
                                   for path, (place, _) in self.built[1].items() if fits[place]))
-
-    def seen(self) -> dict[str, Use]:
-        """The use of each container that was measured."""
-        return owned.used_by(self.plain(), self.built[1], self.known, self.seconds)
 
     def title(self, path: str) -> str:
         """Namespace, pod and container."""
@@ -378,10 +360,6 @@ class Source(Owned):
     def totals(self) -> tuple[int, int | None]:
         """What all pods request, and what the node has for them."""
         return requested_by(self.pods), self.allocatable
-
-    def on_host(self, host: Host) -> Source:
-        """The same on another host."""
-        return replace(self, host=host)
 
     def changed(self, settings: Sequence[Setting]) -> Source:
         """The same with other requests and limits. All are made before they are checked."""
@@ -485,7 +463,7 @@ def source_of(files: Sequence[File], library: Library, wish: Wish) -> Source:
     if node is None:
         notes.append("no node's JSON: kubepods has weight 100")
     source = Source(library, wish, host, tuple(pods), allocatable, capacity is not None,
-                    tuple(notes), node=node_facts(node))
+                    node_facts(node), notes=tuple(notes))
     used = list(of_metrics([each for each in items if each.get("kind") == "PodMetrics"], "usage"))
     return source.with_usage(used, "usage") if used else source
 

@@ -16,9 +16,9 @@ from arbiter_host.faults import HostFault, UsageFault
 from arbiter_host.names import shown
 from arbiter_host.owned import Owned
 from arbiter_host.sources import beside, prometheus, samples, usage
+from arbiter_host.sources.measurable import Measurable
 from arbiter_host.sources.samples import History, Sample
 from arbiter_host.sources.usage import Used
-from arbiter_host.sources.wish import Measurable
 
 # Hosts whose samples are kept at hand.
 KEPT = 64

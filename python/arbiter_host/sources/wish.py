@@ -2,10 +2,10 @@
 from __future__ import annotations
 
 import os
-from collections.abc import Callable, Mapping, Sequence
+from collections.abc import Callable, Sequence
 from dataclasses import dataclass, replace
 from fractions import Fraction
-from typing import TYPE_CHECKING, Protocol
+from typing import TYPE_CHECKING
 
 from arbiter import Host
 from arbiter_host import demands, units
@@ -14,24 +14,10 @@ from arbiter_host.model import Model, checked
 
 if TYPE_CHECKING:
     from arbiter_host.owned import Owned
-    from arbiter_host.sources.usage import Used
+    from arbiter_host.sources.measurable import Measurable
 
 # A file: its name as it is shown, and its bytes.
 File = tuple[str, bytes]
-
-
-class Measurable(Protocol):
-    """A source whose groups are measured elsewhere."""
-
-    def folders(self) -> dict[demands.Place, tuple[str, ...]]:
-        """Where each group may be below the top of a tree."""
-
-    def with_readings(self, known: Mapping[demands.Place, demands.Measured],
-                      seconds: Fraction) -> Owned:
-        """The same with what was measured in a tree of cgroups."""
-
-    def with_usage(self, entries: Sequence[Used], name: str) -> Owned:
-        """The same with what others measured."""
 
 
 @dataclass(frozen=True)
