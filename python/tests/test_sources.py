@@ -3,6 +3,8 @@ import gzip
 import json
 import os
 import re
+import subprocess
+import sys
 import threading
 from fractions import Fraction
 from pathlib import Path
@@ -18,6 +20,7 @@ from arbiter_host.plan import plan
 from arbiter_host.sources import cgroup2, cgroups, hostfile, kubernetes, script
 from hypothesis import HealthCheck, given, settings
 from hypothesis import strategies as st
+from places import PACKAGE
 
 FIXTURES = Path(__file__).parent / "fixtures"
 EIGHT = Host(8, 100000, 1000)
@@ -600,6 +603,19 @@ def test_docker_by_a_newer_runtime(ctl):
     for word, wanted in (("log", 174), ("runtime-log", 174), ("linear", 79)):
         out, _ = ctl.run("export", file, "-o", "json", "--cpus", "8", "--node-weights", word)
         assert json.loads(out)["groups"]["system.slice/web"]["weight"] == wanted
+
+
+def test_pods_need_no_other_reader(library):
+    """What a command reads is all that it imports: no tree, units or jobs beside pods."""
+    script = ("import sys; from arbiter_host import command; command.run(sys.argv[1:]);"
+              " print(*sys.modules, file=sys.stderr)")
+    words = ["explain", FIXTURES / "pods.json", FIXTURES / "node.json", "--library", library]
+    ended = subprocess.run([sys.executable, "-c", script, *map(str, words)], check=True,
+                           capture_output=True, text=True, cwd=PACKAGE)
+    found = {name.rpartition(".")[2] for name in ended.stderr.split("\n")[-2].split()
+             if name.startswith("arbiter_host.sources.")}
+    assert "kubernetes" in found
+    assert not found & {"cgroups", "cgroup2", "systemd", "slurm", "containers", "script"}
 
 
 def test_pods_by_cgroupfs(engine):

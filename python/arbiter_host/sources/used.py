@@ -15,7 +15,7 @@ from arbiter_host import demands, load, options as table, units
 from arbiter_host.faults import HostFault, UsageFault
 from arbiter_host.names import shown
 from arbiter_host.owned import Owned
-from arbiter_host.sources import beside, prometheus, samples, usage
+from arbiter_host.sources import prometheus, samples, usage
 from arbiter_host.sources.measurable import Measurable
 from arbiter_host.sources.samples import History, Sample
 from arbiter_host.sources.usage import Used
@@ -171,6 +171,8 @@ def measured_by(options: argparse.Namespace) -> Callable[[Measurable], Owned] | 
     def measured(source: Measurable) -> Owned:
         if not is_tree(options):
             return source.with_usage(entries(options), name(options))
+        # (what reads pods alone reads no tree)
+        from arbiter_host.sources import beside
         first, *later = words_of(options)
         wish = load.readings_of(argparse.Namespace(**{**vars(options), "later": later}),
                                 options.want or "usage")
