@@ -48,7 +48,7 @@ def test_names_meet(names):
 
 
 def test_paths_that_share_a_key():
-    """Two paths that `names_that_share_a_key` of bw_tree_tests makes have one key."""
+    """Two paths that `names_that_share_a_key` of bw_script_tests makes have one key."""
     same(key_of(seed_of(KNOWN_BYTE), "aurlsb"), key_of(seed_of(KNOWN_BYTE), "p/qsvcr"))
 
 

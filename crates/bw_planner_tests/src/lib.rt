@@ -1,7 +1,13 @@
-//! Tests of model, demand, split and pool with values that no script line and no certified text
-//! reaches.
+//! Tests of model, demand, split, pool and check with values that no script line and no certified
+//! text reaches, and of the check over all small instances.
 #![tactic(auto)]
 
+#[cfg(test)]
+mod certified_cases;
+#[cfg(test)]
+mod check_cases;
+#[cfg(test)]
+mod check_search;
 #[cfg(test)]
 mod demand_cases;
 #[cfg(test)]
