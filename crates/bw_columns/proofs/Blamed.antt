@@ -4,7 +4,7 @@ use Rattle.std.specs.Prelude.{slice_index_or}
 use Rattle.std.proofs.lemmas.List.FromFn.{length-map-range_with_len}
 use Rattle.bw_questions.specs.declared.why.reason.Reason.{Reason}
 use Rattle.bw_questions.specs.declared.why.reason.Reason.TheVariants.{NothingAsked}
-use Rattle.bw_answers.specs.Reasoned.{blamed_row, blamed_rows}
+use Rattle.bw_columns.specs.Reasoned.{blamed_row, blamed_rows}
 
 pub blamed_long : (reasons : List Reason) → length (blamed_rows reasons) ≡ length reasons
 blamed_long reasons =

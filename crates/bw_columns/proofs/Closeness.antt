@@ -4,7 +4,7 @@ use Rattle.std.proofs.lemmas.Nat.{mul-le}
 use Rattle.std.proofs.lemmas.Grind.{pow_more}
 use Rattle.std.proofs.Math.Nat.{mul-le-mul_right}
 use Rattle.std.proofs.Math.Nat.{pow-le-pow_right, one-le-pow}
-use Rattle.bw_units.specs.declared.logarithm.TheConstants.{ONE, TWO}
+use Rattle.bw_columns.specs.declared.logarithm.TheConstants.{ONE, TWO}
 
 -- parts in ONE by which i roundings may be off
 abbrev pub parts : ℕ → ℕ

@@ -1,6 +1,13 @@
 -- The files of lemmas.
-pub mod CallerLemmas
 mod Asked
+mod Blamed
+pub mod CallerLemmas
 mod Claimed
-mod Spelling
+mod Closeness
 mod Fit
+mod ColumnsOfGroups
+mod Questions
+mod RefusedRow
+mod Spelling
+mod Squares
+mod TunedAnswers

@@ -17,11 +17,11 @@ use Rattle.bw_columns.specs.declared.refusal.Refusal.{Refusal}
 use Rattle.bw_columns.specs.declared.refusal.Refusal.TheVariants as of_refusal
 use Rattle.bw_columns.specs.Asked.{Answers, IsAfterMemory}
 use Rattle.bw_columns.specs.Numbers.{number_of_refusal}
-use Rattle.bw_answers.specs.Questions.{group_number, root_number, first_refusal}
-use Rattle.bw_answers.specs.declared.question.Question.{Question}
-use Rattle.bw_answers.specs.declared.question.Question.TheVariants.{Guarantee, LeastWeight}
-use Rattle.bw_answers.specs.declared.question.Question.TheVariants.{LeastLimit, LeastProcessors}
-use Rattle.bw_answers.specs.Questions.{question_refusal_of, own_number, refusal_of_question}
+use Rattle.bw_columns.specs.Questions.{group_number, root_number, first_refusal}
+use Rattle.bw_columns.specs.declared.question.Question.{Question}
+use Rattle.bw_columns.specs.declared.question.Question.TheVariants.{Guarantee, LeastWeight}
+use Rattle.bw_columns.specs.declared.question.Question.TheVariants.{LeastLimit, LeastProcessors}
+use Rattle.bw_columns.specs.Questions.{question_refusal_of, own_number, refusal_of_question}
 
 -- nothing refuses first
 pub first_none : (number next : ℕ) → number ≡ 0 → first_refusal number next ≡ next

@@ -25,8 +25,8 @@ use Rattle.bw_model.specs.Refusal.{is_earlier, are_earlier, depths_of, demand_ab
 use Rattle.bw_model.specs.Refusal.{is_root_limited, refusal}
 use Rattle.bw_model.proofs.CallerLemmas.{earlier-AreTreeRows, depth_of-top, depth_of-step}
 use Rattle.bw_columns.specs.Asked.{Table, row_in, rows_in}
-use Rattle.bw_answers.specs.RefusedRow.{IsFirstRow, IsNoRow}
-use Rattle.bw_columns.proofs.CallerLemmas.{rows_length}
+use Rattle.bw_columns.specs.RefusedRow.{IsFirstRow, IsNoRow}
+use Rattle.bw_columns.proofs.Asked.{rows_length}
 
 -- row g of the columns
 pub row_of-rows_in : (table : Table) (g : ℕ) → g < length table.parents

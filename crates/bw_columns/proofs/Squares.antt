@@ -4,7 +4,7 @@ use Rattle.std.proofs.lemmas.Nat.{mul-le, pow-add}
 use Rattle.std.proofs.lemmas.Grind.{pow_more}
 use Rattle.std.proofs.Math.Nat.{le_of_mul-le-mul_left, mul-le-mul_right, mul-div-le}
 use Rattle.std.proofs.Math.Nat.{pow-le-pow_right, pow-suc, pow-zero, one-mul}
-use Rattle.bw_units.specs.declared.logarithm.TheConstants.{ONE, TWO}
+use Rattle.bw_columns.specs.declared.logarithm.TheConstants.{ONE, TWO}
 
 -- at most the square of what the number is at most
 pub square-le : (one x e q v : ℕ) → 0 < one → one * q ≤ x * x → x * e ≤ one * v

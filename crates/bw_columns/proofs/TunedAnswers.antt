@@ -13,8 +13,8 @@ use Rattle.bw_columns.specs.declared.refusal.Refusal.{Refusal}
 use Rattle.bw_columns.specs.Asked.{Answers}
 use Rattle.bw_columns.specs.Certificates.{flag_number}
 use Rattle.bw_columns.specs.Numbers.{number_of_refusal}
-use Rattle.bw_answers.specs.Tuned.{IsTold, IsTuneAnswer}
-use Rattle.bw_answers.proofs.Questions.{refusal_positive}
+use Rattle.bw_columns.specs.Tuned.{IsTold, IsTuneAnswer}
+use Rattle.bw_columns.proofs.Questions.{refusal_positive}
 
 -- one weight for each row
 pub weights_long : (measure : Measure) (groups : Groups) (goals : List Goal) (tuning : Tuning)

@@ -5,7 +5,7 @@ use Rattle.std.specs.Prelude.{IfSome, if◌then◌else◌}
 use Rattle.bw_model.specs.declared.mark.Mark.{Mark}
 use Rattle.bw_model.specs.Host.{Shape}
 use Rattle.bw_model.specs.Certificate.{Certified}
-use Rattle.bw_columns.specs.declared.certified.CertificateColumns.{CertificateColumns}
+use Rattle.bw_columns.specs.declared.certificate.CertificateColumns.{CertificateColumns}
 use Rattle.bw_columns.specs.declared.claim.Claim.{Claim}
 use Rattle.bw_columns.specs.Asked.{Table, asked_number}
 

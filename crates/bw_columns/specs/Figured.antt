@@ -4,7 +4,7 @@ use Rattle.bw_model.specs.Groups.{Groups}
 use Rattle.bw_demand.specs.Demands.{Demands, IsGathered}
 use Rattle.bw_demand.specs.Figures.{AreFigures}
 use Rattle.bw_columns.specs.Certificates.{flag_number}
-use Rattle.bw_answers.specs.declared.figured.FigureColumns.{FigureColumns}
+use Rattle.bw_columns.specs.declared.figured.FigureColumns.{FigureColumns}
 
 -- the wants, the mosts and the tight groups of the gathered demands, and the figures of these
 pub record AreFigureColumns (groups : Groups) (wants mosts tights active active_weight withheld

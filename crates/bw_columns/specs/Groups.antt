@@ -8,7 +8,7 @@ use Rattle.bw_tree.specs.Snapshot.{instance_of}
 use Rattle.bw_hierarchy.specs.State.{HierarchyState}
 use Rattle.bw_columns.specs.declared.columns.TheConstants.{NO_PARENT, NO_LIMIT}
 use Rattle.bw_columns.specs.Asked.{limit_number}
-use Rattle.bw_group_columns.specs.declared.groups.GroupColumns.{GroupColumns}
+use Rattle.bw_columns.specs.declared.groups.GroupColumns.{GroupColumns}
 
 -- the number of a parent's row: the greatest number of 32 bits for none
 abbrev pub parent_number : Option ℕ → ℕ

@@ -4,8 +4,8 @@ use Rattle.bw_model.specs.Groups.{Groups}
 use Rattle.bw_hold.specs.Rule.{IsRound, round_of}
 use Rattle.bw_columns.specs.Asked.{limit_number}
 use Rattle.bw_columns.specs.Certificates.{Claimed, AreClaimedLong, columns_in}
-use Rattle.bw_answers.specs.declared.held.HeldColumns.{HeldColumns}
-use Rattle.bw_answers.specs.Certified.{IsCertifiedPlan}
+use Rattle.bw_columns.specs.declared.held.HeldColumns.{HeldColumns}
+use Rattle.bw_columns.specs.Certified.{IsCertifiedPlan}
 
 -- the limits, demands and amounts of a round by the rule, and the columns of the certificate
 pub record IsHeldRound (used : Groups) (hungry : List Bool) (limits demands amounts : List ℕ)

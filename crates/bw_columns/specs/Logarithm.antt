@@ -1,6 +1,6 @@
 -- Logarithms to the base 2, between fractions of one scale.
 use Rattle.std.specs.Prelude.{ℕ, ◌+◌, ◌*◌, ◌^◌, ◌<◌, ◌≤◌}
-use Rattle.bw_units.specs.declared.logarithm.TheConstants.{SCALE_DIGITS}
+use Rattle.bw_columns.specs.declared.logarithm.TheConstants.{SCALE_DIGITS}
 
 -- The power of a number whose logarithm is a whole number of units, up to one of them: a unit is
 -- 2^-36.

@@ -9,9 +9,9 @@ use Rattle.bw_questions.specs.Guarantee.{IsGuaranteed}
 use Rattle.bw_questions.specs.Least.{Reaches, IsLeast, IsLeastLimit}
 use Rattle.bw_columns.specs.declared.asked_instance.Host.{Host}
 use Rattle.bw_columns.specs.declared.columns.Columns.{Columns}
-use Rattle.bw_answers.specs.declared.question.Question.{Question}
-use Rattle.bw_answers.specs.declared.question.Question.TheVariants.{Guarantee, LeastWeight}
-use Rattle.bw_answers.specs.declared.question.Question.TheVariants.{LeastLimit, LeastProcessors}
+use Rattle.bw_columns.specs.declared.question.Question.{Question}
+use Rattle.bw_columns.specs.declared.question.Question.TheVariants.{Guarantee, LeastWeight}
+use Rattle.bw_columns.specs.declared.question.Question.TheVariants.{LeastLimit, LeastProcessors}
 use Rattle.bw_columns.specs.Asked.{Table, shape_of, table_of, groups_in, asked_number}
 use Rattle.bw_columns.specs.Asked.{limit_number}
 

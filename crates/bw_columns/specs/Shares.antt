@@ -1,10 +1,10 @@
 -- Weights of `cpu.shares`, as container runtimes convert them.
 use Rattle.std.specs.Prelude.{◌≡◌, ℕ, ◌+◌, ◌-◌, ◌*◌, ◌/◌, ◌<◌, ◌≤◌, min, max}
 use Rattle.bw_model.specs.declared.limits.TheConstants.{MIN_WEIGHT, MAX_WEIGHT}
-use Rattle.bw_units.specs.declared.logarithm.TheConstants.{UNIT}
-use Rattle.bw_units.specs.declared.shares.TheConstants.{MIN_SHARES, MAX_SHARES, DEFAULT_SHARES}
-use Rattle.bw_units.specs.declared.shares.TheConstants.{DEFAULT_WEIGHT}
-use Rattle.bw_units.specs.Logarithm.{IsLogarithmBelow, IsLogarithmAbove}
+use Rattle.bw_columns.specs.declared.logarithm.TheConstants.{UNIT}
+use Rattle.bw_columns.specs.declared.shares.TheConstants.{MIN_SHARES, MAX_SHARES, DEFAULT_SHARES}
+use Rattle.bw_columns.specs.declared.shares.TheConstants.{DEFAULT_WEIGHT}
+use Rattle.bw_columns.specs.Logarithm.{IsLogarithmBelow, IsLogarithmAbove}
 
 -- shares within the range of `cpu.shares`
 abbrev pub bounded : ℕ → ℕ

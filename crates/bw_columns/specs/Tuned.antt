@@ -14,7 +14,7 @@ use Rattle.bw_questions.specs.Tune.{AreGoals, IsTuning, NamesTheExcess}
 use Rattle.bw_questions.specs.Fault.{IsTuneRefused, tune_fault_number}
 use Rattle.bw_columns.specs.Asked.{Answers}
 use Rattle.bw_columns.specs.Certificates.{flag_number}
-use Rattle.bw_answers.specs.declared.tuned.TheConstants.{NO_GOAL}
+use Rattle.bw_columns.specs.declared.tuned.TheConstants.{NO_GOAL}
 
 -- goal k of two columns
 abbrev pub goal_in : List ℕ → List ℕ → ℕ → Goal

@@ -2,9 +2,11 @@
 ghost use Rattle.std.specs.Prelude.{◌≡◌, ◌<◌, length, IfOk, IfErr, OnOk};
 ghost use Rattle.bw_columns.specs.Asked.{groups_asked, Answers};
 ghost use Rattle.bw_columns.specs.Numbers.{number_of_refusal};
-ghost use Rattle.bw_answers.specs.Questions.{question_refusal_of};
+ghost use Rattle.bw_columns.specs.Questions.{question_refusal_of};
 
-use bw_columns::{Columns, Host, Refusal, instance_of};
+use crate::asked_instance::{Host, instance_of};
+use crate::columns::Columns;
+use crate::refusal::Refusal;
 use bw_model::Instance;
 use std::alloc::Global;
 

@@ -1,12 +1,15 @@
 //! The plan of a host and its rows, with a certificate.
 ghost use Rattle.std.specs.Prelude.{◌≡◌, true, length, IfOk, IfErr, OnOk};
-ghost use Rattle.bw_answers.specs.Certified.{IsCertifiedPlan};
+ghost use Rattle.bw_columns.specs.Certified.{IsCertifiedPlan};
 ghost use Rattle.bw_columns.specs.Asked.{groups_asked, refusal_where, Answers};
 ghost use Rattle.bw_columns.specs.Certificates.{columns_in, AreClaimedLong};
 ghost use Rattle.bw_columns.specs.Numbers.{number_of_refusal};
 
+use crate::asked_instance::{Host, instance_where};
+use crate::certificate::{CertificateColumns, certificate_columns};
+use crate::columns::Columns;
+use crate::refusal::Refusal;
 use bw_cert::certify_gathered;
-use bw_columns::{CertificateColumns, Columns, Host, Refusal, certificate_columns, instance_where};
 use bw_demand::gather_rows;
 use bw_plan::plan_rows;
 use std::alloc::Global;

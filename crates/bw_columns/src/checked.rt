@@ -7,11 +7,14 @@ ghost use Rattle.bw_cert.specs.Spelling.{text_lines, HoldsPlan};
 ghost use Rattle.bw_columns.specs.Asked.{groups_asked, Answers};
 ghost use Rattle.bw_columns.specs.Certificates.{claimed_of};
 ghost use Rattle.bw_columns.specs.Numbers.{number_of_refusal};
-ghost use Rattle.bw_answers.specs.Checked.{claim_refusal_of, IsVerdictOnClaim, IsVerdictIn};
+ghost use Rattle.bw_columns.specs.Checked.{claim_refusal_of, IsVerdictOnClaim, IsVerdictIn};
 
+use crate::asked_instance::{Host, instance_of};
+use crate::claim::Claim;
+use crate::columns::Columns;
+use crate::refusal::Refusal;
 use bw_cert::{CertFault, read_certified};
 use bw_check::{Verdict, check};
-use bw_columns::{Claim, Columns, Host, Refusal, instance_of};
 use std::alloc::Global;
 
 /// The verdict on amounts by a claimed certificate.

@@ -1,7 +1,7 @@
 //! Demands in thousandths of a processor.
 ghost use Rattle.std.specs.Prelude.{◌≡◌, ◌<◌, ◌≤◌, IfSome, IfNone};
 ghost use Rattle.bw_model.specs.declared.limits.TheConstants.{MAX_DEMAND};
-ghost use Rattle.bw_units.specs.Demand.{slices_for};
+ghost use Rattle.bw_columns.specs.Demand.{slices_for};
 
 use bw_model::HostShape;
 use bw_model::limits::MAX_DEMAND;

@@ -1,10 +1,13 @@
 //! The figures of a host and its rows.
 ghost use Rattle.std.specs.Prelude.{◌≡◌, true, length, IfOk, IfErr, OnOk};
-ghost use Rattle.bw_answers.specs.Figured.{AreFigured, AreFiguresLong};
+ghost use Rattle.bw_columns.specs.Figured.{AreFigured, AreFiguresLong};
 ghost use Rattle.bw_columns.specs.Asked.{groups_asked, refusal_where, Answers};
 ghost use Rattle.bw_columns.specs.Numbers.{number_of_refusal};
 
-use bw_columns::{Columns, Host, Refusal, flag_numbers, instance_where};
+use crate::asked_instance::{Host, instance_where};
+use crate::certificate::flag_numbers;
+use crate::columns::Columns;
+use crate::refusal::Refusal;
 use bw_demand::{Figures, figures, gather_rows};
 use std::alloc::Global;
 

@@ -5,9 +5,9 @@ ghost use Rattle.bw_model.specs.declared.instance_fault.InstanceFault.TheVariant
 ghost use Rattle.bw_model.specs.Groups.{AreTreeRows, row_of, depth_of};
 ghost use Rattle.bw_model.specs.Refusal.{refusal, demand_above};
 ghost use Rattle.bw_columns.specs.Asked.{table_of, rows_in, are_even};
-ghost use Rattle.bw_answers.specs.RefusedRow.{has_fault, IsFirstRow, IsNoRow, IsRefusedRow};
+ghost use Rattle.bw_columns.specs.RefusedRow.{has_fault, IsFirstRow, IsNoRow, IsRefusedRow};
 
-use bw_columns::Columns;
+use crate::columns::Columns;
 use bw_model::limits::{MAX_DEMAND, MAX_DEPTH, MAX_GROUPS, MAX_WEIGHT, MIN_WEIGHT};
 use bw_model::{InstanceFault, Row};
 

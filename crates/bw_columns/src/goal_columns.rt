@@ -1,6 +1,6 @@
 //! Goals as columns of numbers.
 ghost use Rattle.std.specs.Prelude.{◌≡◌, length, IfOk};
-ghost use Rattle.bw_answers.specs.Tuned.{goals_in, measure_of};
+ghost use Rattle.bw_columns.specs.Tuned.{goals_in, measure_of};
 
 use bw_questions::{Goal, Measure};
 use std::alloc::{AllocError, Global};

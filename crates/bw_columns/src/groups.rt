@@ -3,10 +3,10 @@ ghost use Rattle.std.specs.Prelude.{◌≡◌, ◌≤◌, ◌++◌, length, map,
 ghost use Rattle.bw_model.specs.declared.limits.TheConstants.{MAX_GROUPS};
 ghost use Rattle.bw_tree.specs.Groups.{group_at};
 ghost use Rattle.bw_columns.specs.Asked.{limit_number};
-ghost use Rattle.bw_group_columns.specs.Groups.{parent_number, quota_number, number_at, name_line};
-ghost use Rattle.bw_group_columns.specs.Groups.{name_lines, told_of, columns_of, AreLong};
+ghost use Rattle.bw_columns.specs.Groups.{parent_number, quota_number, number_at, name_line};
+ghost use Rattle.bw_columns.specs.Groups.{name_lines, told_of, columns_of, AreLong};
 
-use bw_columns::{NO_LIMIT, NO_PARENT, limit_number};
+use crate::columns::{NO_LIMIT, NO_PARENT, limit_number};
 use bw_hierarchy::{Fault, Hierarchy};
 use bw_model::{Quota, Row};
 use bw_tree::{GroupId, Tree, TreeFault};

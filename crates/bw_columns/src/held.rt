@@ -1,15 +1,16 @@
 //! The limits of a round of a host and its rows.
 ghost use Rattle.std.specs.Prelude.{◌≡◌, true, length, map, IfOk, IfErr, OnOk};
-ghost use Rattle.bw_answers.specs.Held.{IsHeldRound, AreHeldLong};
+ghost use Rattle.bw_columns.specs.Held.{IsHeldRound, AreHeldLong};
 ghost use Rattle.bw_columns.specs.Asked.{groups_asked, refusal_where, Answers};
 ghost use Rattle.bw_columns.specs.Asked.{limit_number};
 ghost use Rattle.bw_columns.specs.Certificates.{columns_in, flags_in};
 ghost use Rattle.bw_columns.specs.Numbers.{number_of_refusal};
 
-use bw_columns::{
-    CertificateColumns, Columns, Host, Refusal, certificate_columns, flags_of, instance_where,
-    limit_number,
-};
+use crate::asked_instance::{Host, instance_where};
+use crate::certificate::{CertificateColumns, certificate_columns};
+use crate::claim::flags_of;
+use crate::columns::{Columns, limit_number};
+use crate::refusal::Refusal;
 use bw_hold::hold;
 use std::alloc::{AllocError, Global};
 

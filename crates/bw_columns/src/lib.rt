@@ -1,17 +1,54 @@
 //! Columns of numbers, as callers of another language have them: the rows of a tree, a certificate,
-//! and the instance that they stand for.
+//! the instance that they stand for, and the groups of a hierarchy.
+//!
+//! Over them are the planner's answers: plan, certificate, verdict, limiting groups, figures,
+//! reasons, limits of a round, weights for several goals, questions about a group, refused row. And
+//! conversions of what operators write to slices and weights.
 #![tactic(auto)]
 
+mod asked_group;
 mod asked_instance;
+mod certificate;
 mod certified;
+mod checked;
 mod claim;
 mod columns;
+mod demand;
+mod figured;
+mod first_row;
 mod front;
+mod goal_columns;
+mod groups;
+mod held;
+mod limited;
+mod logarithm;
+mod planned;
+mod question;
+mod reason_columns;
+mod reasoned;
 mod refusal;
+mod shares;
+mod tuned;
+mod written;
 
 pub use asked_instance::{Host, instance_of, instance_where};
-pub use certified::{CertificateColumns, certificate_columns, flag_numbers, write_certificate};
+pub use certificate::{CertificateColumns, certificate_columns, flag_numbers, write_certificate};
+pub use certified::{CertifiedColumns, certified_plan_of};
+pub use checked::{verdict_in, verdict_of};
 pub use claim::{Claim, flags_of};
 pub use columns::{Columns, NO_LIMIT, NO_PARENT, limit_number};
+pub use demand::demand_slices;
+pub use figured::{FigureColumns, figures_of};
+pub use first_row::refused_row;
 pub use front::write_front;
+pub use goal_columns::measure_of;
+pub use groups::{GroupColumns, group_columns};
+pub use held::{HeldColumns, held_of};
+pub use limited::limiting_of;
+pub use planned::plan_of;
+pub use question::{Question, answer_of};
+pub use reasoned::{ReasonColumns, reasons_of};
 pub use refusal::Refusal;
+pub use shares::{linear_weight, logarithmic_weight};
+pub use tuned::{NO_GOAL, TuningColumns, tuning_of};
+pub use written::{are_groups_even, write_groups};

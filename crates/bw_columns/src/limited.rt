@@ -1,11 +1,13 @@
 //! The groups that limit the total of a host and its rows.
 ghost use Rattle.std.specs.Prelude.{◌≡◌, ◌≤◌, true, length, IfOk, IfErr, OnOk};
 ghost use Rattle.bw_model.specs.declared.limits.TheConstants.{MAX_GROUPS};
-ghost use Rattle.bw_answers.specs.Limited.{IsLimiting};
+ghost use Rattle.bw_columns.specs.Limited.{IsLimiting};
 ghost use Rattle.bw_columns.specs.Asked.{groups_asked, refusal_where, Answers};
 ghost use Rattle.bw_columns.specs.Numbers.{number_of_refusal};
 
-use bw_columns::{Columns, Host, Refusal, instance_where};
+use crate::asked_instance::{Host, instance_where};
+use crate::columns::Columns;
+use crate::refusal::Refusal;
 use bw_demand::{Limiting, gather_rows, limiting};
 use std::alloc::Global;
 

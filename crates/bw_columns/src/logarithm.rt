@@ -3,8 +3,8 @@
 //! A number is squared 36 times, as a mantissa and an exponent. Each mantissa is rounded down for
 //! the lower end, and up for the upper end.
 ghost use Rattle.std.specs.Prelude.{ℕ, ◌+◌, ◌*◌, ◌^◌, ◌<◌, ◌≤◌};
-ghost use Rattle.bw_units.specs.Logarithm.{IsLogarithmBelow, IsLogarithmAbove};
-ghost use Rattle.bw_units.specs.Logarithm.{IsLogarithmWithin, IsLogarithmNear};
+ghost use Rattle.bw_columns.specs.Logarithm.{IsLogarithmBelow, IsLogarithmAbove};
+ghost use Rattle.bw_columns.specs.Logarithm.{IsLogarithmWithin, IsLogarithmNear};
 
 /// Binary digits of a unit's fraction: a unit is 2^-36.
 pub const SCALE_DIGITS: u32 = 36;

@@ -4,7 +4,9 @@ ghost use Rattle.bw_model.specs.Plan.{IsPlan};
 ghost use Rattle.bw_columns.specs.Asked.{groups_asked, refusal_where, Answers};
 ghost use Rattle.bw_columns.specs.Numbers.{number_of_refusal};
 
-use bw_columns::{Columns, Host, Refusal, instance_where};
+use crate::asked_instance::{Host, instance_where};
+use crate::columns::Columns;
+use crate::refusal::Refusal;
 use bw_plan::{Plan, plan};
 use std::alloc::Global;
 

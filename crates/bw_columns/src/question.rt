@@ -2,11 +2,13 @@
 ghost use Rattle.std.specs.Prelude.{◌≡◌, ◌<◌, length, IfOk, IfErr, OnOk};
 ghost use Rattle.bw_columns.specs.Asked.{groups_asked, Answers};
 ghost use Rattle.bw_columns.specs.Numbers.{number_of_refusal};
-ghost use Rattle.bw_answers.specs.Questions.{own_number, refusal_of_question};
-ghost use Rattle.bw_answers.specs.Questions.{IsAnswer};
+ghost use Rattle.bw_columns.specs.Questions.{own_number, refusal_of_question};
+ghost use Rattle.bw_columns.specs.Questions.{IsAnswer};
 
 use crate::asked_group::instance_with;
-use bw_columns::{Columns, Host, Refusal, limit_number};
+use crate::asked_instance::Host;
+use crate::columns::{Columns, limit_number};
+use crate::refusal::Refusal;
 use bw_model::{Instance, InstanceFault};
 use bw_questions::{guarantee, least_limit, least_processors, least_weight};
 use std::alloc::{AllocError, Global};

@@ -1,6 +1,6 @@
 //! Reasons as columns of numbers.
 ghost use Rattle.std.specs.Prelude.{◌≡◌, ◌≤◌, length, map, IfOk};
-ghost use Rattle.bw_answers.specs.Reasoned.{reason_number, blamed_row, blamed_rows};
+ghost use Rattle.bw_columns.specs.Reasoned.{reason_number, blamed_row, blamed_rows};
 
 use bw_model::limits::MAX_GROUPS;
 use bw_questions::Reason;

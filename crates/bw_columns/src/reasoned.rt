@@ -1,11 +1,13 @@
 //! The reasons of the plan of a host and its rows.
 ghost use Rattle.std.specs.Prelude.{◌≡◌, true, length, IfOk, IfErr, OnOk};
-ghost use Rattle.bw_answers.specs.Reasoned.{AreReasonColumns};
+ghost use Rattle.bw_columns.specs.Reasoned.{AreReasonColumns};
 ghost use Rattle.bw_columns.specs.Asked.{groups_asked, refusal_where, Answers};
 ghost use Rattle.bw_columns.specs.Numbers.{number_of_refusal};
 
+use crate::asked_instance::{Host, instance_where};
+use crate::columns::Columns;
 use crate::reason_columns::{blamed_rows, reason_numbers};
-use bw_columns::{Columns, Host, Refusal, instance_where};
+use crate::refusal::Refusal;
 use bw_demand::gather_rows;
 use bw_plan::plan_rows;
 use bw_questions::reasons;

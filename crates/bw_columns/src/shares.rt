@@ -1,8 +1,8 @@
 //! Weights of `cpu.shares`, as container runtimes write them.
 ghost use Rattle.std.specs.Prelude.{◌≡◌, ◌<◌, ◌≤◌, ◌^◌, IfSome};
 ghost use Rattle.bw_model.specs.declared.limits.TheConstants.{MIN_WEIGHT, MAX_WEIGHT};
-ghost use Rattle.bw_units.specs.Shares.{linear_weight, curve, height};
-ghost use Rattle.bw_units.specs.Shares.{IsLeastAbove, IsLogarithmicWeight};
+ghost use Rattle.bw_columns.specs.Shares.{linear_weight, curve, height};
+ghost use Rattle.bw_columns.specs.Shares.{IsLeastAbove, IsLogarithmicWeight};
 
 use crate::logarithm::{UNIT, logarithm_above, logarithm_below};
 use bw_model::limits::{MAX_WEIGHT, MIN_WEIGHT};

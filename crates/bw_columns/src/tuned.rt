@@ -3,11 +3,14 @@ ghost use Rattle.std.specs.Prelude.{◌≡◌, true, length, map, IfOk, IfErr, O
 ghost use Rattle.bw_questions.specs.Fault.{tune_fault_number};
 ghost use Rattle.bw_columns.specs.Asked.{groups_asked, refusal_where, rows_in, table_of};
 ghost use Rattle.bw_columns.specs.Numbers.{number_of_refusal};
-ghost use Rattle.bw_answers.specs.Tuned.{goals_in, weights_of, IsGoalsAnswer, IsTuneAnswer};
-ghost use Rattle.bw_answers.specs.Tuned.{IsTold, IsTuningTold};
+ghost use Rattle.bw_columns.specs.Tuned.{goals_in, weights_of, IsGoalsAnswer, IsTuneAnswer};
+ghost use Rattle.bw_columns.specs.Tuned.{IsTold, IsTuningTold};
 
+use crate::asked_instance::{Host, instance_where};
+use crate::certificate::flag_numbers;
+use crate::columns::Columns;
 use crate::goal_columns::goals_of;
-use bw_columns::{Columns, Host, Refusal, flag_numbers, instance_where};
+use crate::refusal::Refusal;
 use bw_model::Instance;
 use bw_questions::{Goal, Measure, TuneFault, Tuning, tune};
 use std::alloc::{AllocError, Global};

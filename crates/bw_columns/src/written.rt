@@ -1,10 +1,10 @@
 //! Columns of groups that are written into a caller's columns.
 ghost use Rattle.std.specs.Prelude.{◌≡◌, ◌≤◌, ◌∷◌, [], true, length};
 ghost use Rattle.bw_columns.specs.Asked.{are_of_length};
-ghost use Rattle.bw_group_columns.specs.Groups.{columns_of, columns_with, on_columns, AreLong};
+ghost use Rattle.bw_columns.specs.Groups.{columns_of, columns_with, on_columns, AreLong};
 
+use crate::front::write_front;
 use crate::groups::GroupColumns;
-use bw_columns::write_front;
 
 /// Whether a caller's columns are of one length.
 pub fn are_groups_even(

@@ -6,7 +6,7 @@ use Rattle.bw_check.specs.declared.verdict.Verdict.{Verdict}
 use Rattle.bw_check.specs.declared.verdict.Verdict.TheVariants.{Accepted, Refused}
 use Rattle.bw_columns.specs.Asked.{Answers}
 use Rattle.bw_columns.specs.Certificates.{Claimed}
-use Rattle.bw_answers.specs.Checked.{IsVerdictOnClaim}
+use Rattle.bw_columns.specs.Checked.{IsVerdictOnClaim}
 
 -- the number of a verdict
 abbrev pub verdict_number : Verdict → ℕ

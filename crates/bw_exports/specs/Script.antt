@@ -9,7 +9,7 @@ use Rattle.bw_commands.specs.Faults.{script_fault_number}
 use Rattle.bw_script.specs.Reading.{IsRead}
 use Rattle.bw_script.specs.declared.reading.RefusedLine.{RefusedLine}
 use Rattle.bw_columns.specs.Asked.{are_of_length}
-use Rattle.bw_group_columns.specs.Groups.{Told, told_of, on_front, on_columns}
+use Rattle.bw_columns.specs.Groups.{Told, told_of, on_front, on_columns}
 
 -- all that the call may write
 pub record Room : Type 0 where

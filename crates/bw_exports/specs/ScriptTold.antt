@@ -4,7 +4,7 @@ use Rattle.bw_model.specs.Host.{Shape}
 use Rattle.bw_hierarchy.specs.State.{HierarchyState}
 use Rattle.bw_script.specs.Reading.{IsRead}
 use Rattle.bw_script.specs.declared.reading.RefusedLine.{RefusedLine}
-use Rattle.bw_group_columns.specs.Groups.{told_of, columns_of}
+use Rattle.bw_columns.specs.Groups.{told_of, columns_of}
 use Rattle.bw_exports.specs.Script.{line_numbers, fault_numbers}
 use Rattle.bw_exports.specs.declared.told.Told.{Told}
 

@@ -5,7 +5,7 @@ use Rattle.bw_cert.specs.Reading.{Fails}
 use Rattle.bw_cert.specs.Spelling.{Value}
 use Rattle.bw_cert.specs.declared.fault.CertFault.{CertFault}
 use Rattle.bw_check.specs.declared.verdict.Verdict.{Verdict}
-use Rattle.bw_answers.specs.Checked.{IsVerdictIn}
+use Rattle.bw_columns.specs.Checked.{IsVerdictIn}
 use Rattle.bw_exports.specs.Checked.{verdict_number, verdict_row}
 
 -- the number and the row of the verdict

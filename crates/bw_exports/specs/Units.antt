@@ -7,7 +7,7 @@ use Rattle.bw_model.specs.Faults.{host_fault_number}
 use Rattle.bw_files.specs.declared.fault.FileFault.{FileFault}
 use Rattle.bw_files.specs.Faults.{file_fault_number}
 use Rattle.bw_files.specs.Reading.{burst_in, period_in}
-use Rattle.bw_units.specs.Demand.{slices_for}
+use Rattle.bw_columns.specs.Demand.{slices_for}
 
 -- the number of a refused value, else another number
 abbrev pub refused_or : Result ℕ FileFault → ℕ → ℕ

@@ -1,10 +1,9 @@
 //! A question about one group, whose answer is written.
 ghost use Rattle.std.specs.Prelude.{◌≡◌, ◌<◌};
 ghost use Rattle.bw_columns.specs.Asked.{groups_asked, Answers};
-ghost use Rattle.bw_answers.specs.Questions.{refusal_of_question, IsAnswer};
+ghost use Rattle.bw_columns.specs.Questions.{refusal_of_question, IsAnswer};
 
-use bw_answers::{Question, answer_of};
-use bw_columns::{Columns, Host};
+use bw_columns::{Columns, Host, Question, answer_of};
 use std::alloc::Global;
 
 /// Answers a question: 0, with the answer written, or the number of a refusal, which writes

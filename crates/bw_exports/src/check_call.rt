@@ -5,9 +5,8 @@ ghost use Rattle.bw_columns.specs.Asked.{asked_host, asked_table, groups_in};
 ghost use Rattle.bw_columns.specs.Certificates.{claimed_number, claimed_columns};
 ghost use Rattle.bw_exports.specs.Checked.{IsOutcome};
 
-use bw_answers::verdict_of;
 use bw_check::Verdict;
-use bw_columns::{Claim, Columns, Host};
+use bw_columns::{Claim, Columns, Host, verdict_of};
 use std::alloc::Global;
 
 /// Whether the flags and levels show that the amounts are the plan of the rows, as

@@ -4,8 +4,8 @@ ghost use Rattle.bw_cert.specs.Reading.{certified_of};
 ghost use Rattle.bw_cert.specs.Spelling.{text_lines, HoldsPlan};
 ghost use Rattle.bw_exports.specs.Texts.{IsTextOutcome};
 
-use bw_answers::verdict_in;
 use bw_check::Verdict;
+use bw_columns::verdict_in;
 use std::alloc::Global;
 
 /// Whether a certified text shows that its amounts are the plan: the text that `arbiter check`

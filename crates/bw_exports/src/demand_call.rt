@@ -1,11 +1,11 @@
 //! `arbiter_demand`: a demand in slices, called from C.
 ghost use Rattle.std.specs.Prelude.{◌≡◌, ◌<◌};
-ghost use Rattle.bw_units.specs.Demand.{slices_for};
+ghost use Rattle.bw_columns.specs.Demand.{slices_for};
 ghost use Rattle.bw_columns.specs.Asked.{asked_host};
 ghost use Rattle.bw_exports.specs.Units.{demand_refusal};
 
+use bw_columns::demand_slices;
 use bw_model::{HostShape, InstanceFault};
-use bw_units::demand_slices;
 
 /// The slices of one host period that a demand takes, rounded up.
 ///

@@ -2,10 +2,9 @@
 ghost use Rattle.std.specs.Prelude.{◌≡◌, ◌<◌, ◌∷◌, [], length};
 ghost use Rattle.bw_columns.specs.Asked.{Answers, are_of_length, asked_host, asked_table};
 ghost use Rattle.bw_columns.specs.Asked.{groups_in, asked_number_where};
-ghost use Rattle.bw_answers.specs.Figured.{AreFigureColumns};
+ghost use Rattle.bw_columns.specs.Figured.{AreFigureColumns};
 
-use bw_answers::figures_of;
-use bw_columns::{Columns, Host};
+use bw_columns::{Columns, Host, figures_of};
 use std::alloc::Global;
 
 // Whether each column for the answer has so many entries.

@@ -3,11 +3,10 @@ ghost use Rattle.std.specs.Prelude.{◌≡◌, ◌<◌};
 ghost use Rattle.bw_questions.specs.Guarantee.{IsGuaranteed};
 ghost use Rattle.bw_columns.specs.Asked.{Answers};
 ghost use Rattle.bw_columns.specs.Asked.{asked_host, asked_table, groups_in};
-ghost use Rattle.bw_answers.specs.Questions.{question_number};
+ghost use Rattle.bw_columns.specs.Questions.{question_number};
 
 use crate::asking::ask;
-use bw_answers::Question;
-use bw_columns::{Columns, Host};
+use bw_columns::{Columns, Host, Question};
 use std::alloc::Global;
 
 /// The amount that a group is guaranteed, in slices of one period: 0 to 64000.

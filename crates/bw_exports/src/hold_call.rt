@@ -3,11 +3,10 @@ ghost use Rattle.std.specs.Prelude.{◌≡◌, ◌<◌, ◌∷◌, [], length};
 ghost use Rattle.bw_columns.specs.Asked.{Answers, are_of_length, asked_host, asked_table};
 ghost use Rattle.bw_columns.specs.Asked.{groups_in, asked_number_where};
 ghost use Rattle.bw_columns.specs.Certificates.{claimed_columns, flags_in};
-ghost use Rattle.bw_answers.specs.Held.{IsHeldRound};
+ghost use Rattle.bw_columns.specs.Held.{IsHeldRound};
 
 use crate::fit::is_certificate_fit;
-use bw_answers::held_of;
-use bw_columns::{Columns, Host, write_certificate};
+use bw_columns::{Columns, Host, held_of, write_certificate};
 use std::alloc::Global;
 
 // Whether each column beside the rows has so many entries.

@@ -2,12 +2,11 @@
 ghost use Rattle.std.specs.Prelude.{◌≡◌, ◌<◌};
 ghost use Rattle.bw_columns.specs.Asked.{Answers};
 ghost use Rattle.bw_columns.specs.Asked.{asked_host, asked_table, groups_in};
-ghost use Rattle.bw_answers.specs.Questions.{limit_question_number};
-ghost use Rattle.bw_answers.specs.Questions.{IsLeastLimitNumber};
+ghost use Rattle.bw_columns.specs.Questions.{limit_question_number};
+ghost use Rattle.bw_columns.specs.Questions.{IsLeastLimitNumber};
 
 use crate::asking::ask;
-use bw_answers::Question;
-use bw_columns::{Columns, Host};
+use bw_columns::{Columns, Host, Question};
 use std::alloc::Global;
 
 /// The least limit, in slices of one period, with which the plan gives a group at least so many

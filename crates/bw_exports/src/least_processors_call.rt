@@ -3,12 +3,11 @@
 ghost use Rattle.std.specs.Prelude.{◌≡◌, ◌<◌};
 ghost use Rattle.bw_columns.specs.Asked.{Answers};
 ghost use Rattle.bw_columns.specs.Asked.{asked_host, asked_table, groups_in};
-ghost use Rattle.bw_answers.specs.Questions.{question_number};
-ghost use Rattle.bw_answers.specs.Questions.{IsLeastProcessorsNumber};
+ghost use Rattle.bw_columns.specs.Questions.{question_number};
+ghost use Rattle.bw_columns.specs.Questions.{IsLeastProcessorsNumber};
 
 use crate::asking::ask;
-use bw_answers::Question;
-use bw_columns::{Columns, Host};
+use bw_columns::{Columns, Host, Question};
 use std::alloc::Global;
 
 /// The least number of processors, 1 to 64, with which the plan gives a group at least so many

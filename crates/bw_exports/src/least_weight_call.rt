@@ -2,12 +2,11 @@
 ghost use Rattle.std.specs.Prelude.{◌≡◌, ◌<◌};
 ghost use Rattle.bw_columns.specs.Asked.{Answers};
 ghost use Rattle.bw_columns.specs.Asked.{asked_host, asked_table, groups_in};
-ghost use Rattle.bw_answers.specs.Questions.{question_number};
-ghost use Rattle.bw_answers.specs.Questions.{IsLeastWeightNumber};
+ghost use Rattle.bw_columns.specs.Questions.{question_number};
+ghost use Rattle.bw_columns.specs.Questions.{IsLeastWeightNumber};
 
 use crate::asking::ask;
-use bw_answers::Question;
-use bw_columns::{Columns, Host};
+use bw_columns::{Columns, Host, Question};
 use std::alloc::Global;
 
 /// The least weight, 1 to 10000, with which the plan gives a group at least so many slices.

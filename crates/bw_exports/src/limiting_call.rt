@@ -4,8 +4,7 @@ ghost use Rattle.bw_columns.specs.Asked.{Answers, asked_host, asked_table, group
 ghost use Rattle.bw_columns.specs.Asked.{asked_number_with};
 ghost use Rattle.bw_exports.specs.Limited.{IsListed};
 
-use bw_answers::limiting_of;
-use bw_columns::{Columns, Host, write_front};
+use bw_columns::{Columns, Host, limiting_of, write_front};
 use std::alloc::Global;
 
 /// The limiting groups of the rows, as [`crate::plan_call::arbiter_plan`] has them.

@@ -4,8 +4,7 @@ ghost use Rattle.bw_model.specs.Plan.{IsPlan};
 ghost use Rattle.bw_columns.specs.Asked.{Answers, asked_host, asked_table, groups_in};
 ghost use Rattle.bw_columns.specs.Asked.{asked_number_with};
 
-use bw_answers::plan_of;
-use bw_columns::{Columns, Host};
+use bw_columns::{Columns, Host, plan_of};
 use std::alloc::Global;
 
 /// The plan of the rows of a tree, in slices of one period.

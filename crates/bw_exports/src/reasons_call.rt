@@ -2,10 +2,9 @@
 ghost use Rattle.std.specs.Prelude.{◌≡◌, ◌<◌, ◌∷◌, [], length};
 ghost use Rattle.bw_columns.specs.Asked.{Answers, are_of_length, asked_host, asked_table};
 ghost use Rattle.bw_columns.specs.Asked.{groups_in, asked_number_where};
-ghost use Rattle.bw_answers.specs.Reasoned.{AreReasonColumns};
+ghost use Rattle.bw_columns.specs.Reasoned.{AreReasonColumns};
 
-use bw_answers::reasons_of;
-use bw_columns::{Columns, Host};
+use bw_columns::{Columns, Host, reasons_of};
 use std::alloc::Global;
 
 // Whether both columns for the answer have so many entries.

@@ -3,11 +3,10 @@ ghost use Rattle.std.specs.Prelude.{◌≡◌, ◌⊎◌, ◌<◌, length, true,
 ghost use Rattle.bw_model.specs.declared.instance_fault.InstanceFault.{InstanceFault};
 ghost use Rattle.bw_model.specs.Refusal.{refusal};
 ghost use Rattle.bw_columns.specs.Asked.{asked_table, rows_in, are_even};
-ghost use Rattle.bw_answers.specs.RefusedRow.{IsRefusedRow};
+ghost use Rattle.bw_columns.specs.RefusedRow.{IsRefusedRow};
 ghost use Rattle.bw_exports.specs.RefusedRow.{rows_number};
 
-use bw_answers::refused_row;
-use bw_columns::{Columns, Refusal};
+use bw_columns::{Columns, Refusal, refused_row};
 use bw_model::InstanceFault;
 
 /// The number with which every call refuses these rows, and the row that the number speaks of.

@@ -1,12 +1,11 @@
 //! `arbiter_script`: a script is read, called from C.
 ghost use Rattle.std.specs.Prelude.{◌≡◌, ◌==◌, ◌∷◌, ◌&&◌, [], length};
 ghost use Rattle.bw_columns.specs.Asked.{are_of_length, asked_host};
-ghost use Rattle.bw_group_columns.specs.Groups.{columns_with};
+ghost use Rattle.bw_columns.specs.Groups.{columns_with};
 ghost use Rattle.bw_exports.specs.Script.{IsScriptAnswer, room_of};
 
 use crate::told::told_by;
-use bw_columns::{Refusal, write_front};
-use bw_group_columns::{are_groups_even, write_groups};
+use bw_columns::{Refusal, are_groups_even, write_front, write_groups};
 use bw_model::HostShape;
 use std::alloc::{AllocError, Global};
 

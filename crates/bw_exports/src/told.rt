@@ -1,11 +1,11 @@
 //! The groups after a script, and its refused lines, as columns of numbers.
 ghost use Rattle.std.specs.Prelude.{◌≡◌, ◌≤◌, ◌&&◌, length, nat_le, IfOk};
 ghost use Rattle.bw_model.specs.declared.limits.TheConstants.{MAX_GROUPS};
-ghost use Rattle.bw_group_columns.specs.Groups.{columns_of, AreLong};
+ghost use Rattle.bw_columns.specs.Groups.{columns_of, AreLong};
 ghost use Rattle.bw_exports.specs.Script.{line_numbers, fault_numbers};
 ghost use Rattle.bw_exports.specs.ScriptTold.{IsTold};
 
-use bw_group_columns::{GroupColumns, group_columns};
+use bw_columns::{GroupColumns, group_columns};
 use bw_hierarchy::Fault;
 use bw_model::HostShape;
 use bw_script::{RefusedLine, read_script};

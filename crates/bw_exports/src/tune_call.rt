@@ -2,10 +2,9 @@
 ghost use Rattle.std.specs.Prelude.{◌≡◌, ◌<◌, ◌==◌, ◌&&◌, ◌∷◌, [], length};
 ghost use Rattle.bw_columns.specs.Asked.{are_of_length, asked_host, asked_table, rows_in};
 ghost use Rattle.bw_columns.specs.Asked.{groups_in, asked_number_where};
-ghost use Rattle.bw_answers.specs.Tuned.{goals_in, measure_of, IsTuneAnswer, IsTuningTold};
+ghost use Rattle.bw_columns.specs.Tuned.{goals_in, measure_of, IsTuneAnswer, IsTuningTold};
 
-use bw_answers::{measure_of, tuning_of};
-use bw_columns::{Columns, Host};
+use bw_columns::{Columns, Host, measure_of, tuning_of};
 use std::alloc::Global;
 
 // Whether there are so many weights, and so many entries in both columns of the goals.

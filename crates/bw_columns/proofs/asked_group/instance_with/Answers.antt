@@ -3,9 +3,9 @@ use Rattle.std.proofs.Common.{rules, ◌<◌, ◌≤◌, length, sym, subst, inl
 use Rattle.bw_model.specs.Groups.{Groups}
 use Rattle.bw_columns.specs.Asked.{groups_asked, refusal_of, Answers}
 use Rattle.bw_columns.specs.Numbers.{number_of_refusal}
-use Rattle.bw_answers.specs.Questions.{question_refusal_of}
-use Rattle.bw_answers.proofs.Questions.{question_carried, question_none, question_past}
-use Rattle.bw_answers.proofs.asked_group.instance_with.Goals as goal
+use Rattle.bw_columns.specs.Questions.{question_refusal_of}
+use Rattle.bw_columns.proofs.Questions.{question_carried, question_none, question_past}
+use Rattle.bw_columns.proofs.asked_group.instance_with.Goals as goal
 
 pub returns-in_err-instance-clause-err : goal.returns-in_err-instance-clause-err
 returns-in_err-instance-clause-err c =

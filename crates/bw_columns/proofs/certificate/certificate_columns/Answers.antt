@@ -4,7 +4,7 @@ use Rattle.bw_model.specs.declared.mark.Mark.{Mark}
 use Rattle.bw_model.specs.Certificate.{certified_of}
 use Rattle.bw_columns.specs.Certificates.{flag_number, num_of, den_of, place_of_level}
 use Rattle.bw_columns.proofs.Spelling.{columns_by}
-use Rattle.bw_columns.proofs.certified.certificate_columns.Goals as goal
+use Rattle.bw_columns.proofs.certificate.certificate_columns.Goals as goal
 
 pub returns : goal.returns
 returns c =

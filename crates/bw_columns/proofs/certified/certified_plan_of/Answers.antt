@@ -6,8 +6,9 @@ use Rattle.bw_model.specs.Certificate.{Certified, certified_of, IsAccepted}
 use Rattle.bw_cert.specs.Levels.{AreTightFlags, AreLevels}
 use Rattle.bw_columns.specs.Asked.{groups_asked, table_of}
 use Rattle.bw_columns.specs.Certificates.{columns_in}
-use Rattle.bw_columns.proofs.CallerLemmas.{rows_length, columns_are_spelled, columns_long}
-use Rattle.bw_answers.proofs.certified.certified_plan_of.Goals as goal
+use Rattle.bw_columns.proofs.Asked.{rows_length}
+use Rattle.bw_columns.proofs.Spelling.{columns_are_spelled, columns_long}
+use Rattle.bw_columns.proofs.certified.certified_plan_of.Goals as goal
 
 pub returns-clause-held : goal.returns-clause-held
 returns-clause-held c =

@@ -1,7 +1,7 @@
 -- The goals of `verdict_in` that are answered by hand.
 use Rattle.std.proofs.Common.{refl}
 use Rattle.bw_model.specs.Certificate.{certified_of}
-use Rattle.bw_answers.proofs.checked.verdict_in.Goals as goal
+use Rattle.bw_columns.proofs.checked.verdict_in.Goals as goal
 
 pub returns-clause-verdict : goal.returns-clause-verdict
 returns-clause-verdict c =

@@ -3,8 +3,8 @@ use Rattle.std.proofs.Common.{rules, ◌≡◌, ℕ, true, false, sym, ◌∙◌
 use Rattle.bw_columns.specs.Asked.{shape_of, table_of, Answers, IsAfterMemory}
 use Rattle.bw_columns.specs.Certificates.{claimed_of, claimed_number, are_levels_even}
 use Rattle.bw_columns.specs.Numbers.{number_of_refusal}
-use Rattle.bw_columns.proofs.CallerLemmas.{claimed_uneven, claimed_even}
-use Rattle.bw_answers.proofs.checked.verdict_of.Goals as goal
+use Rattle.bw_columns.proofs.Claimed.{claimed_uneven, claimed_even}
+use Rattle.bw_columns.proofs.checked.verdict_of.Goals as goal
 
 pub returns-then-not-is_even-clause-err : goal.returns-then-not-is_even-clause-err
 returns-then-not-is_even-clause-err c =

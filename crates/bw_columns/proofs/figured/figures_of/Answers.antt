@@ -3,9 +3,9 @@ use Rattle.std.proofs.Common.{◌≡◌, List, Bool, length, map, ap, ◌∙◌}
 use Rattle.bw_model.specs.Groups.{Groups}
 use Rattle.bw_columns.specs.Asked.{table_of}
 use Rattle.bw_columns.specs.Certificates.{flag_number}
-use Rattle.bw_columns.proofs.CallerLemmas.{rows_length}
-use Rattle.bw_columns.proofs.CallerLemmas.{long_by}
-use Rattle.bw_answers.proofs.figured.figures_of.Goals as goal
+use Rattle.bw_columns.proofs.Asked.{rows_length}
+use Rattle.bw_columns.proofs.Spelling.{long_by}
+use Rattle.bw_columns.proofs.figured.figures_of.Goals as goal
 
 pub returns-clause-long : goal.returns-clause-long
 returns-clause-long c =

@@ -2,9 +2,9 @@
 use Rattle.std.proofs.Common.{◌≡◌, ℕ, ◌≤◌, Option, sym, ap, ◌∙◌, arith, length}
 use Rattle.bw_model.specs.Refusal.{demand_above}
 use Rattle.bw_columns.specs.Asked.{table_of, rows_in}
-use Rattle.bw_columns.proofs.CallerLemmas.{rows_length}
-use Rattle.bw_answers.proofs.RefusedRow.{none_above}
-use Rattle.bw_answers.proofs.first_row.demand_above.Goals as goal
+use Rattle.bw_columns.proofs.Asked.{rows_length}
+use Rattle.bw_columns.proofs.RefusedRow.{none_above}
+use Rattle.bw_columns.proofs.first_row.demand_above.Goals as goal
 
 pub returns-in_default : goal.returns-in_default
 returns-in_default c =

@@ -1,8 +1,8 @@
 -- The goals of `first_row` that are answered by hand.
 use Rattle.std.proofs.Common.{◌≡◌, arith, sym, ◌∙◌, length}
 use Rattle.bw_columns.specs.Asked.{table_of, rows_in}
-use Rattle.bw_columns.proofs.CallerLemmas.{rows_length}
-use Rattle.bw_answers.proofs.first_row.first_row.Goals as goal
+use Rattle.bw_columns.proofs.Asked.{rows_length}
+use Rattle.bw_columns.proofs.first_row.first_row.Goals as goal
 
 pub returns-then-has_fault-clause-some : goal.returns-then-has_fault-clause-some
 returns-then-has_fault-clause-some c =

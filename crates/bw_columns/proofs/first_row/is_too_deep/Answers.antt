@@ -6,8 +6,8 @@ use Rattle.bw_model.specs.declared.row.Row.{Row}
 use Rattle.bw_model.specs.Groups.{parent_of, depth_of}
 use Rattle.bw_model.proofs.CallerLemmas.{parent_lt}
 use Rattle.bw_columns.specs.Asked.{table_of, rows_in}
-use Rattle.bw_answers.proofs.RefusedRow.{shallow, deeper, at_last}
-use Rattle.bw_answers.proofs.first_row.is_too_deep.Goals as goal
+use Rattle.bw_columns.proofs.RefusedRow.{shallow, deeper, at_last}
+use Rattle.bw_columns.proofs.first_row.is_too_deep.Goals as goal
 
 pub returns-in-None : goal.returns-in-None
 returns-in-None c =

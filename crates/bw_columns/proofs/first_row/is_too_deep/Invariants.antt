@@ -2,7 +2,7 @@
 use Rattle.std.proofs.Common.{◌≡◌, ◌+◌, ◌<◌, length}
 use Rattle.bw_model.specs.Groups.{depth_of}
 use Rattle.bw_columns.specs.Asked.{table_of, rows_in}
-use Rattle.bw_answers.proofs.first_row.is_too_deep.Given as goal
+use Rattle.bw_columns.proofs.first_row.is_too_deep.Given as goal
 
 abbrev pub invariant-loop-step : goal.invariant-loop-step
 invariant-loop-step l = record {

@@ -2,11 +2,11 @@
 use Rattle.std.proofs.Common.{◌≡◌, ◌<◌, ◌≤◌, arith, length, refl}
 use Rattle.bw_model.specs.declared.limits.TheConstants.{MAX_GROUPS}
 use Rattle.bw_columns.specs.Asked.{table_of, rows_in}
-use Rattle.bw_columns.proofs.CallerLemmas.{rows_length}
-use Rattle.bw_answers.proofs.RefusedRow.{ArePlaced, some_of, first_many, tree_of}
-use Rattle.bw_answers.proofs.RefusedRow.{refused_many, refused_parent, refused_weight, refused_deep}
-use Rattle.bw_answers.proofs.RefusedRow.{refused_demand, refused_large, refused_root, refused_none}
-use Rattle.bw_answers.proofs.first_row.refused_row.Goals as goal
+use Rattle.bw_columns.proofs.Asked.{rows_length}
+use Rattle.bw_columns.proofs.RefusedRow.{ArePlaced, some_of, first_many, tree_of}
+use Rattle.bw_columns.proofs.RefusedRow.{refused_many, refused_parent, refused_weight, refused_deep}
+use Rattle.bw_columns.proofs.RefusedRow.{refused_demand, refused_large, refused_root, refused_none}
+use Rattle.bw_columns.proofs.first_row.refused_row.Goals as goal
 
 pub returns-then-len-gt-MAX_GROUPS-clause-fault : goal.returns-then-len-gt-MAX_GROUPS-clause-fault
 returns-then-len-gt-MAX_GROUPS-clause-fault c =

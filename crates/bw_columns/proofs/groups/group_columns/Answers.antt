@@ -3,9 +3,9 @@ use Rattle.std.proofs.Common.{◌≡◌, ◌∙◌, sym, subst, ap}
 use Rattle.std.specs.Map.{keys_of}
 use Rattle.bw_model.specs.Groups.{Groups}
 use Rattle.bw_tree.specs.Snapshot.{instance_of}
-use Rattle.bw_group_columns.specs.Groups.{AreLong}
-use Rattle.bw_group_columns.proofs.Columns.{columns_by, long_columns}
-use Rattle.bw_group_columns.proofs.groups.group_columns.Goals as goal
+use Rattle.bw_columns.specs.Groups.{AreLong}
+use Rattle.bw_columns.proofs.ColumnsOfGroups.{columns_by, long_columns}
+use Rattle.bw_columns.proofs.groups.group_columns.Goals as goal
 
 pub returns-clause-told : goal.returns-clause-told
 returns-clause-told c =

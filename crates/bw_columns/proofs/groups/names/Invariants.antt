@@ -1,7 +1,7 @@
 -- What stands at each turn of the loop in `names`.
 use Rattle.std.proofs.Common.{◌≡◌, ◌++◌, drop}
-use Rattle.bw_group_columns.specs.Groups.{name_lines}
-use Rattle.bw_group_columns.proofs.groups.names.Given as goal
+use Rattle.bw_columns.specs.Groups.{name_lines}
+use Rattle.bw_columns.proofs.groups.names.Given as goal
 
 -- the names so far, and then those of the other groups, are all names
 abbrev pub invariant-loop-id : goal.invariant-loop-id

@@ -9,8 +9,9 @@ use Rattle.bw_cert.specs.Levels.{AreTightFlags, AreLevels}
 use Rattle.bw_hold.specs.Rule.{IsRound, round_of, round_limit, row_asking, demand_where, is_hungry}
 use Rattle.bw_columns.specs.Asked.{groups_asked, table_of, limit_number}
 use Rattle.bw_columns.specs.Certificates.{columns_in, flags_in}
-use Rattle.bw_columns.proofs.CallerLemmas.{rows_length, columns_are_spelled, columns_long, long_by}
-use Rattle.bw_answers.proofs.held.held_of.Goals as goal
+use Rattle.bw_columns.proofs.Asked.{rows_length}
+use Rattle.bw_columns.proofs.Spelling.{columns_are_spelled, columns_long, long_by}
+use Rattle.bw_columns.proofs.held.held_of.Goals as goal
 
 -- A fact of groups and flags is one of equal groups and equal flags.
 moved : (P : Groups → List Bool → Type 0) (g h : Groups) (xs ys : List Bool) → g ≡ h → xs ≡ ys

@@ -2,8 +2,8 @@
 use Rattle.std.proofs.Common.{arith, ◌≤◌, length}
 use Rattle.bw_model.specs.declared.limits.TheConstants.{MAX_GROUPS}
 use Rattle.bw_columns.specs.Asked.{shape_of, table_of}
-use Rattle.bw_columns.proofs.CallerLemmas.{limiting_short, few_rows}
-use Rattle.bw_answers.proofs.limited.limiting_of.Goals as goal
+use Rattle.bw_columns.proofs.Asked.{limiting_short, few_rows}
+use Rattle.bw_columns.proofs.limited.limiting_of.Goals as goal
 
 pub returns-clause-short : goal.returns-clause-short
 returns-clause-short c =

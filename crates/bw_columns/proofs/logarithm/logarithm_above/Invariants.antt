@@ -1,8 +1,8 @@
 -- What stands at each turn of the loop in `logarithm_above`.
 use Rattle.std.proofs.Common.{◌+◌, ◌*◌, ◌^◌, ◌≤◌}
-use Rattle.bw_units.specs.declared.logarithm.TheConstants.{ONE, TWO}
-use Rattle.bw_units.proofs.Closeness.{parts}
-use Rattle.bw_units.proofs.logarithm.logarithm_above.Given as goal
+use Rattle.bw_columns.specs.declared.logarithm.TheConstants.{ONE, TWO}
+use Rattle.bw_columns.proofs.Closeness.{parts}
+use Rattle.bw_columns.proofs.logarithm.logarithm_above.Given as goal
 
 abbrev pub invariant-loop-i : goal.invariant-loop-i
 invariant-loop-i l = record {

@@ -1,12 +1,12 @@
 -- The goals of `logarithm_below` that are answered by hand.
 use Rattle.std.proofs.Common.{ℕ, ◌+◌, ◌*◌, ◌^◌, ◌≤◌, ◌≡◌, arith, subst, sym}
-use Rattle.bw_units.specs.declared.logarithm.TheConstants.{ONE}
-use Rattle.bw_units.specs.Logarithm.{at_scale}
+use Rattle.bw_columns.specs.declared.logarithm.TheConstants.{ONE}
+use Rattle.bw_columns.specs.Logarithm.{at_scale}
 use Rattle.std.proofs.lemmas.Nat.{pow-add, pow_pos}
-use Rattle.bw_units.proofs.Closeness.{parts, parts_more, parts_least, parts_few, begun_below}
-use Rattle.bw_units.proofs.Closeness.{closer_below, close_below}
-use Rattle.bw_units.proofs.Squares.{double, squared, powers_few, next_power, least_power, pow_one}
-use Rattle.bw_units.proofs.logarithm.logarithm_below.Goals as goal
+use Rattle.bw_columns.proofs.Closeness.{parts, parts_more, parts_least, parts_few, begun_below}
+use Rattle.bw_columns.proofs.Closeness.{closer_below, close_below}
+use Rattle.bw_columns.proofs.Squares.{double, squared, powers_few, next_power, least_power, pow_one}
+use Rattle.bw_columns.proofs.logarithm.logarithm_below.Goals as goal
 
 pub loop-i-init : goal.loop-i-init
 loop-i-init c = record {

@@ -1,8 +1,8 @@
 -- The goals of `power_of` that are answered by hand.
 use Rattle.std.proofs.Common.{◌+◌, ◌*◌, ◌/◌, arith}
-use Rattle.bw_units.specs.declared.logarithm.TheConstants.{ONE}
-use Rattle.bw_units.proofs.Squares.{half-le, le-half}
-use Rattle.bw_units.proofs.logarithm.power_of.Goals as goal
+use Rattle.bw_columns.specs.declared.logarithm.TheConstants.{ONE}
+use Rattle.bw_columns.proofs.Squares.{half-le, le-half}
+use Rattle.bw_columns.proofs.logarithm.power_of.Goals as goal
 
 pub loop-exponent-preserved : goal.loop-exponent-preserved
 loop-exponent-preserved c =

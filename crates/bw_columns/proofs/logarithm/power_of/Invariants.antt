@@ -1,7 +1,7 @@
 -- What stands at each turn of the loop in `power_of`.
 use Rattle.std.proofs.Common.{◌+◌, ◌*◌, ◌^◌, ◌≤◌}
-use Rattle.bw_units.specs.declared.logarithm.TheConstants.{ONE}
-use Rattle.bw_units.proofs.logarithm.power_of.Given as goal
+use Rattle.bw_columns.specs.declared.logarithm.TheConstants.{ONE}
+use Rattle.bw_columns.proofs.logarithm.power_of.Given as goal
 
 abbrev pub invariant-loop-exponent : goal.invariant-loop-exponent
 invariant-loop-exponent l = record {

@@ -2,10 +2,10 @@
 use Rattle.std.proofs.Common.{ℕ, ◌+◌, ◌-◌, ◌*◌, ◌/◌, ◌^◌, ◌≤◌, ◌≡◌, arith}
 use Rattle.std.proofs.lemmas.Nat.{mul-le}
 use Rattle.std.proofs.Math.Nat.{mul-le-mul_right}
-use Rattle.bw_units.specs.declared.logarithm.TheConstants.{ONE}
-use Rattle.bw_units.proofs.Closeness.{above_quotient, above_half}
-use Rattle.bw_units.proofs.Squares.{le-square, double, le-half, next_power}
-use Rattle.bw_units.proofs.logarithm.square_above.Goals as goal
+use Rattle.bw_columns.specs.declared.logarithm.TheConstants.{ONE}
+use Rattle.bw_columns.proofs.Closeness.{above_quotient, above_half}
+use Rattle.bw_columns.proofs.Squares.{le-square, double, le-half, next_power}
+use Rattle.bw_columns.proofs.logarithm.square_above.Goals as goal
 
 -- a quotient that is rounded up
 up : (a : ℕ) → a ≤ ONE * ((a + (ONE - 1)) / ONE)

@@ -2,10 +2,10 @@
 use Rattle.std.proofs.Common.{ℕ, ◌+◌, ◌*◌, ◌/◌, ◌^◌, ◌≤◌, ◌≡◌, arith}
 use Rattle.std.proofs.lemmas.Nat.{mul-le}
 use Rattle.std.proofs.Math.Nat.{mul-div-le, mul-le-mul_right}
-use Rattle.bw_units.specs.declared.logarithm.TheConstants.{ONE}
-use Rattle.bw_units.proofs.Closeness.{below_quotient, below_half}
-use Rattle.bw_units.proofs.Squares.{square-le, double, half-le, next_power}
-use Rattle.bw_units.proofs.logarithm.square_below.Goals as goal
+use Rattle.bw_columns.specs.declared.logarithm.TheConstants.{ONE}
+use Rattle.bw_columns.proofs.Closeness.{below_quotient, below_half}
+use Rattle.bw_columns.proofs.Squares.{square-le, double, half-le, next_power}
+use Rattle.bw_columns.proofs.logarithm.square_below.Goals as goal
 
 pub returns-then-mantissa-lt-TWO-clause-below : goal.returns-then-mantissa-lt-TWO-clause-below
 returns-then-mantissa-lt-TWO-clause-below c = λ v within.

@@ -3,8 +3,8 @@ use Rattle.std.proofs.Common.{subst}
 use Rattle.bw_model.specs.Groups.{Groups}
 use Rattle.bw_model.specs.Plan.{IsPlan}
 use Rattle.bw_columns.specs.Asked.{shape_of, table_of}
-use Rattle.bw_columns.proofs.CallerLemmas.{planned_length}
-use Rattle.bw_answers.proofs.planned.plan_of.Goals as goal
+use Rattle.bw_columns.proofs.Asked.{planned_length}
+use Rattle.bw_columns.proofs.planned.plan_of.Goals as goal
 
 pub returns-clause-long : goal.returns-clause-long
 returns-clause-long c =

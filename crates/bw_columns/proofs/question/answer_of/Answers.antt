@@ -4,9 +4,9 @@ use Rattle.std.specs.Prelude.{OnOk}
 use Rattle.bw_model.specs.Groups.{Groups}
 use Rattle.bw_columns.specs.Asked.{Answers}
 use Rattle.bw_columns.specs.Numbers.{number_of_refusal}
-use Rattle.bw_answers.specs.Questions.{refusal_of_question, IsAnswer}
-use Rattle.bw_answers.proofs.Questions.{asked_own, asked_carried}
-use Rattle.bw_answers.proofs.question.answer_of.Goals as goal
+use Rattle.bw_columns.specs.Questions.{refusal_of_question, IsAnswer}
+use Rattle.bw_columns.proofs.Questions.{asked_own, asked_carried}
+use Rattle.bw_columns.proofs.question.answer_of.Goals as goal
 
 pub returns-in_err-instance-clause-err : goal.returns-in_err-instance-clause-err
 returns-in_err-instance-clause-err c =

@@ -5,8 +5,8 @@ use Rattle.std.proofs.lemmas.List.{get_or_default}
 use Rattle.std.proofs.lemmas.List.FromFn.{map-range_with_len_more}
 use Rattle.bw_questions.specs.declared.why.reason.Reason.{Reason}
 use Rattle.bw_questions.specs.declared.why.reason.Reason.TheVariants.{NothingAsked}
-use Rattle.bw_answers.specs.Reasoned.{blamed_row}
-use Rattle.bw_answers.proofs.reason_columns.blamed_rows.Goals as goal
+use Rattle.bw_columns.specs.Reasoned.{blamed_row}
+use Rattle.bw_columns.proofs.reason_columns.blamed_rows.Goals as goal
 
 pub loop-g-preserved : goal.loop-g-preserved
 loop-g-preserved c =

@@ -3,8 +3,8 @@ use Rattle.std.proofs.Common.{◌≡◌, map}
 use Rattle.std.specs.Prelude.{slice_index_or}
 use Rattle.std.specs.List.{range_with_len}
 use Rattle.bw_questions.specs.declared.why.reason.Reason.TheVariants.{NothingAsked}
-use Rattle.bw_answers.specs.Reasoned.{blamed_row}
-use Rattle.bw_answers.proofs.reason_columns.blamed_rows.Given as goal
+use Rattle.bw_columns.specs.Reasoned.{blamed_row}
+use Rattle.bw_columns.proofs.reason_columns.blamed_rows.Given as goal
 
 abbrev pub invariant-loop-g : goal.invariant-loop-g
 invariant-loop-g l =

@@ -3,11 +3,11 @@ use Rattle.std.proofs.Common.{◌≡◌, ℕ, List, length, map, ap, ◌∙◌}
 use Rattle.bw_model.specs.Groups.{Groups}
 use Rattle.bw_questions.specs.declared.why.reason.Reason.{Reason}
 use Rattle.bw_columns.specs.Asked.{table_of}
-use Rattle.bw_answers.specs.Reasoned.{reason_number, blamed_rows}
-use Rattle.bw_columns.proofs.CallerLemmas.{rows_length}
-use Rattle.bw_answers.proofs.Blamed.{blamed_long}
-use Rattle.bw_columns.proofs.CallerLemmas.{long_by}
-use Rattle.bw_answers.proofs.reasoned.reasons_of.Goals as goal
+use Rattle.bw_columns.specs.Reasoned.{reason_number, blamed_rows}
+use Rattle.bw_columns.proofs.Asked.{rows_length}
+use Rattle.bw_columns.proofs.Blamed.{blamed_long}
+use Rattle.bw_columns.proofs.Spelling.{long_by}
+use Rattle.bw_columns.proofs.reasoned.reasons_of.Goals as goal
 
 pub returns-clause-numbers : goal.returns-clause-numbers
 returns-clause-numbers c =

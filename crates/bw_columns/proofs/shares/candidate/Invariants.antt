@@ -1,7 +1,7 @@
 -- What stands at each turn of the loop in `candidate`.
 use Rattle.std.proofs.Common.{◌≤◌}
 use Rattle.bw_model.specs.declared.limits.TheConstants.{MAX_WEIGHT}
-use Rattle.bw_units.proofs.shares.candidate.Given as goal
+use Rattle.bw_columns.proofs.shares.candidate.Given as goal
 
 abbrev pub invariant-loop : goal.invariant-loop
 invariant-loop l = record {

@@ -1,9 +1,9 @@
 -- The goals of `logarithmic_weight` that are answered by hand.
 use Rattle.std.proofs.Common.{ℕ, rules, arith, Option, Some, None}
 use Rattle.std.specs.Prelude.{IfSome}
-use Rattle.bw_units.specs.Shares.{IsLeastAbove, IsLogarithmicWeight, least, default, greatest}
-use Rattle.bw_units.specs.Shares.{between}
-use Rattle.bw_units.proofs.shares.logarithmic_weight.Goals as goal
+use Rattle.bw_columns.specs.Shares.{IsLeastAbove, IsLogarithmicWeight, least, default, greatest}
+use Rattle.bw_columns.specs.Shares.{between}
+use Rattle.bw_columns.proofs.shares.logarithmic_weight.Goals as goal
 
 pub returns-then-shares-le-MIN_SHARES-clause-weight :
     goal.returns-then-shares-le-MIN_SHARES-clause-weight

@@ -1,6 +1,6 @@
 -- The goal of `weight_between` that is answered by hand.
 use Rattle.std.proofs.Common.{ℕ, ◌≤◌, ◌<◌, ◌≡◌}
-use Rattle.bw_units.proofs.shares.weight_between.Goals as goal
+use Rattle.bw_columns.proofs.shares.weight_between.Goals as goal
 
 le_both : (a b x y : ℕ) → a ≡ x → b ≡ y → a ≤ b → x ≤ y
 le_both a b x y one two within = rw one at (rw two at within)

@@ -1,6 +1,6 @@
 -- The goals of `tuning_in` that are answered by hand.
-use Rattle.bw_answers.proofs.TunedAnswers.{weights_long, together_long}
-use Rattle.bw_answers.proofs.tuned.tuning_in.Goals as goal
+use Rattle.bw_columns.proofs.TunedAnswers.{weights_long, together_long}
+use Rattle.bw_columns.proofs.tuned.tuning_in.Goals as goal
 
 pub returns-in_ok-tuning_columns-in-Ok-clause-told :
     goal.returns-in_ok-tuning_columns-in-Ok-clause-told

@@ -5,10 +5,10 @@ use Rattle.bw_model.specs.Groups.{Groups}
 use Rattle.bw_questions.specs.declared.tuned.goal.Goal.{Goal}
 use Rattle.bw_columns.specs.Asked.{groups_asked, refusal_where, rows_in, table_of}
 use Rattle.bw_columns.specs.Numbers.{number_of_refusal}
-use Rattle.bw_columns.proofs.CallerLemmas.{rows_length}
-use Rattle.bw_answers.specs.Tuned.{goal_in, goals_in, IsGoalsAnswer, IsTuningTold, IsTuneAnswer}
-use Rattle.bw_answers.proofs.TunedAnswers.{tune_carried}
-use Rattle.bw_answers.proofs.tuned.tuning_of.Goals as goal
+use Rattle.bw_columns.proofs.Asked.{rows_length}
+use Rattle.bw_columns.specs.Tuned.{goal_in, goals_in, IsGoalsAnswer, IsTuningTold, IsTuneAnswer}
+use Rattle.bw_columns.proofs.TunedAnswers.{tune_carried}
+use Rattle.bw_columns.proofs.tuned.tuning_of.Goals as goal
 
 -- A fact of groups and goals is one of equal groups and equal goals.
 moved : (P : Groups → List Goal → Type 0) (g h : Groups) (xs ys : List Goal) → g ≡ h → xs ≡ ys

@@ -1,7 +1,7 @@
 -- The goals of `write_groups` that are answered by hand.
-use Rattle.bw_group_columns.specs.Groups.{columns_of, columns_with}
-use Rattle.bw_group_columns.proofs.Columns.{columns_written, front_by}
-use Rattle.bw_group_columns.proofs.written.write_groups.Goals as goal
+use Rattle.bw_columns.specs.Groups.{columns_of, columns_with}
+use Rattle.bw_columns.proofs.ColumnsOfGroups.{columns_written, front_by}
+use Rattle.bw_columns.proofs.written.write_groups.Goals as goal
 
 pub returns : goal.returns
 returns c =

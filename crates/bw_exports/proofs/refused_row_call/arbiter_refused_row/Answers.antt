@@ -5,7 +5,7 @@ use Rattle.bw_columns.specs.declared.columns.Columns.{Columns}
 use Rattle.bw_columns.specs.Asked.{table_of, rows_in, are_even}
 use Rattle.bw_exports.specs.RefusedRow.{rows_number}
 use Rattle.bw_columns.proofs.CallerLemmas.{rows_length}
-use Rattle.bw_answers.proofs.CallerLemmas.{refused_empty}
+use Rattle.bw_columns.proofs.CallerLemmas.{refused_empty}
 use Rattle.bw_exports.proofs.RefusedRow.{number_uneven, number_even}
 use Rattle.bw_exports.proofs.refused_row_call.arbiter_refused_row.Goals as goal
 

@@ -4,8 +4,8 @@ use Rattle.bw_model.specs.Host.{Shape, IsHost}
 use Rattle.bw_model.specs.Faults.{host_fault_number}
 use Rattle.bw_script.specs.Reading.{IsRead}
 use Rattle.bw_columns.specs.Asked.{asked_host}
-use Rattle.bw_group_columns.specs.Groups.{columns_with, columns_of}
-use Rattle.bw_group_columns.proofs.CallerLemmas.{front_by}
+use Rattle.bw_columns.specs.Groups.{columns_with, columns_of}
+use Rattle.bw_columns.proofs.CallerLemmas.{front_by}
 use Rattle.bw_exports.specs.Script.{Room, room_of, is_even}
 use Rattle.bw_exports.proofs.ScriptLemmas.{uneven, no_host, no_memory, no_room, all_told, AreThose}
 use Rattle.bw_exports.proofs.ScriptLemmas.{room_by}

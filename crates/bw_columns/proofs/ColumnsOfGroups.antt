@@ -9,9 +9,9 @@ use Rattle.bw_tree.specs.Groups.{GroupFields, TreeState, group_at}
 use Rattle.bw_tree.specs.Snapshot.{instance_of, row_of}
 use Rattle.bw_hierarchy.specs.State.{HierarchyState}
 use Rattle.bw_columns.specs.Asked.{limit_number}
-use Rattle.bw_group_columns.specs.Groups.{Told, told_of, AreLong, number_at, parent_number}
-use Rattle.bw_group_columns.specs.Groups.{quota_number, name_lines, columns_with, on_front}
-use Rattle.bw_group_columns.specs.Groups.{on_columns}
+use Rattle.bw_columns.specs.Groups.{Told, told_of, AreLong, number_at, parent_number}
+use Rattle.bw_columns.specs.Groups.{quota_number, name_lines, columns_with, on_front}
+use Rattle.bw_columns.specs.Groups.{on_columns}
 
 of_rows : (h : HierarchyState) (number : Row → ℕ)
     → length (map number (instance_of h.tree h.shape).rows) ≡ length h.tree.groups
