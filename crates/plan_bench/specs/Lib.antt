@@ -1,2 +1,0 @@
--- The contents of the table.
-pub mod Names
