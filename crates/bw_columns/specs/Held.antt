@@ -1,7 +1,7 @@
 -- The limits of a round, in columns of numbers.
 use Rattle.std.specs.Prelude.{◌≡◌, ℕ, List, Bool, Option, length, map}
 use Rattle.bw_model.specs.Groups.{Groups}
-use Rattle.bw_hold.specs.Rule.{IsRound, round_of}
+use Rattle.bw_questions.specs.HeldRule.{IsRound, round_of}
 use Rattle.bw_columns.specs.Asked.{limit_number}
 use Rattle.bw_columns.specs.Certificates.{Claimed, AreClaimedLong, columns_in}
 use Rattle.bw_columns.specs.declared.held.HeldColumns.{HeldColumns}

@@ -11,7 +11,7 @@ use crate::certificate::{CertificateColumns, certificate_columns};
 use crate::claim::flags_of;
 use crate::columns::{Columns, limit_number};
 use crate::refusal::Refusal;
-use bw_hold::hold;
+use bw_questions::hold;
 use std::alloc::{AllocError, Global};
 
 /// The limits of a round, with its demands and its certified plan, one entry in each column for

@@ -2,8 +2,8 @@
 ghost use Rattle.std.specs.Prelude.{◌≡◌, length, IfOk};
 
 use crate::instances::{Group, instance};
-use bw_hold::{Held, hold};
 use bw_model::Instance;
+use bw_questions::{Held, hold};
 use std::alloc::{AllocError, Global};
 use std::test::Fail;
 

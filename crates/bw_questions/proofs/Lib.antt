@@ -1,18 +1,23 @@
 -- The files of lemmas.
 mod Alike
+mod AskingRows
 mod Blame
 mod BusyRows
+mod Counts
 mod Demanding
 mod Halving
 mod Help
 mod Judged
 mod LeastAmount
+mod Leaves
 mod Limits
 mod OneReason
 mod Paths
 mod Raises
 mod Reaching
 mod Rising
+mod Rounds
 mod Rows
+mod Runs
 mod StillInstance
 mod TwoStarts

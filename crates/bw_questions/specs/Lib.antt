@@ -3,8 +3,12 @@ pub mod Busy
 pub mod Change
 pub mod Fault
 pub mod Guarantee
+pub mod HeldLaws
+pub mod HeldRule
 pub mod Laws
 pub mod Least
 pub mod Raising
+pub mod Reading
 pub mod Reasons
+pub mod Rounds
 pub mod Tune

@@ -1,14 +1,19 @@
 //! Questions about the plan of an instance: the least that a group gets whatever the others ask
 //! for, the least value of a setting that gives a group so much, weights that meet several goals at
-//! once, and why each group gets what it gets.
+//! once, why each group gets what it gets, and which limits hold the plan on a host.
 #![tactic(auto)]
 
 mod guaranteed;
+mod held;
 mod least;
 mod tuned;
 mod why;
 
 pub use guaranteed::{GuaranteeFault, guarantee};
+pub use held::{
+    Held, guarantee_is_admitted, hold, limits_admit_the_plan, none_above_its_limit,
+    none_below_its_guarantee, nothing_else_stays, plan_is_reached, plan_stays,
+};
 pub use least::{least_limit, least_processors, least_weight};
 pub use tuned::{Conflict, Goal, Measure, TuneFault, Tuning, tune};
 pub use why::{

@@ -6,7 +6,7 @@ use Rattle.bw_model.specs.declared.row.Row.{Row}
 use Rattle.bw_model.specs.Groups.{Groups}
 use Rattle.bw_model.specs.Certificate.{Certified, certified_of, IsAccepted}
 use Rattle.bw_cert.specs.Levels.{AreTightFlags, AreLevels}
-use Rattle.bw_hold.specs.Rule.{IsRound, round_of, round_limit, row_asking, demand_where, is_hungry}
+use Rattle.bw_questions.specs.HeldRule.{IsRound, round_of, round_limit, row_asking, demand_where, is_hungry}
 use Rattle.bw_columns.specs.Asked.{groups_asked, table_of, limit_number}
 use Rattle.bw_columns.specs.Certificates.{columns_in, flags_in}
 use Rattle.bw_columns.proofs.Asked.{rows_length}

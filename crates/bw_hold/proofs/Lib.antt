@@ -1,6 +1,0 @@
--- The files of lemmas.
-mod AskingRows
-mod Counts
-mod Leaves
-mod Rounds
-mod Runs

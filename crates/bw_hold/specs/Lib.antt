@@ -1,5 +1,0 @@
--- The files of definitions.
-pub mod Laws
-pub mod Reading
-pub mod Rounds
-pub mod Rule

@@ -1,0 +1,559 @@
+-- One round: its limits beside its floors, its own plan and the plan of the wants.
+use Rattle.std.proofs.Common.{◌≡◌, ℕ, zero, suc, ◌<◌, ◌≤◌, ◌⊎◌, List, Bool, Option, true, false}
+use Rattle.std.proofs.Common.{None, Some, length, get_or, eqb, refl, ap, sym, ◌∙◌, arith, inl, inr}
+use Rattle.std.specs.Prelude.{min, max, not}
+use Rattle.std.proofs.lemmas.Bool.{cases_eq, cases_lt, cases_Bool, both_ways, lt-ltb, le-ltb}
+use Rattle.std.proofs.lemmas.Bool.{ne_eqb, eq-eqb}
+use Rattle.std.proofs.lemmas.List.{get_or_past}
+use Rattle.std.proofs.lemmas.List.FromFn.{get_or-map-range_with_len, length-map-range_with_len}
+use Rattle.bw_model.specs.declared.row.Row.{Row}
+use Rattle.bw_model.specs.declared.limits.TheConstants.{MAX_DEMAND}
+use Rattle.bw_model.specs.Allocation.{total}
+use Rattle.bw_model.specs.Groups.{Groups, IsInstance, no_row, row_of, demand_of, limit_of, is_leaf}
+use Rattle.bw_model.specs.Plan.{IsPlan}
+use Rattle.bw_plan.specs.Laws.{HasOnePlan, ThereIsOnePlan}
+use Rattle.bw_change_laws.specs.Asked.{IsBusier, IsBusierAt}
+use Rattle.bw_change_laws.proofs.CallerLemmas.{leaf_same, only_cuts, serve_no_more, unused_changes}
+use Rattle.bw_questions.specs.Guarantee.{IsAskedOtherwise}
+use Rattle.bw_questions.specs.HeldRule.{IsRound, asking, demand_where, everyone, headroom, is_hungry}
+use Rattle.bw_questions.specs.HeldRule.{leaf_limit, own_limit, round_limit, round_of}
+use Rattle.bw_questions.specs.Reading.{IsSameButDemands, IsTrueReading, limit_at, admitted_at, admitted}
+use Rattle.bw_questions.specs.HeldLaws.{NoneBelowItsGuarantee, GuaranteeIsAdmitted, NoneAboveItsLimit}
+use Rattle.bw_questions.specs.HeldLaws.{IsWithinPlan, LimitsAdmitThePlan}
+use Rattle.bw_change_laws.proofs.CallerLemmas.{same_tree, weights_same}
+use Rattle.bw_questions.proofs.AskingRows.{as_many, demand_at, asking_alike, asking_limits}
+use Rattle.bw_questions.proofs.AskingRows.{where-IsInstance, round-IsInstance, everyone-IsInstance}
+use Rattle.bw_questions.proofs.Leaves.{alone, leaf_total, totals_less, within_limit, within_demand}
+
+-- Instances that differ in demands alone.
+pub same_asking : (groups : Groups) (demand : ℕ → ℕ) → IsSameButDemands groups (asking groups demand)
+same_asking groups demand = record {
+  tree = same_tree groups.rows (asking groups demand).rows (asking_alike groups demand);
+  weights = weights_same groups.rows (asking groups demand).rows (asking_alike groups demand);
+  limits = asking_limits groups demand;
+}
+
+pub turned : (a b : Groups) → IsSameButDemands a b → IsSameButDemands b a
+turned a b same = record {
+  tree = record { as_many = sym same.tree.as_many; parents = λ g. sym (same.tree.parents g) };
+  weights = λ h. sym (same.weights h);
+  limits = λ h. sym (same.limits h);
+}
+
+pub joined : (a b c : Groups) → IsSameButDemands a b → IsSameButDemands b c → IsSameButDemands a c
+joined a b c one two = record {
+  tree = record {
+    as_many = two.tree.as_many ∙ one.tree.as_many;
+    parents = λ g. two.tree.parents g ∙ one.tree.parents g;
+  };
+  weights = λ h. two.weights h ∙ one.weights h;
+  limits = λ h. two.limits h ∙ one.limits h;
+}
+
+-- No leaf asks for less, and other groups ask for nothing.
+pub busier_by : (a b : Groups) → IsInstance a → IsSameButDemands a b
+    → ((l : ℕ) → l < length a.rows → is_leaf a.rows l ≡ true
+    → demand_of a.rows l ≤ demand_of b.rows l) → IsBusier a b
+busier_by a b va same less = record {
+  tree = same.tree;
+  weights = same.weights;
+  limits = same.limits;
+  demands = λ h. elim (cases_lt h (length a.rows)) [
+    | inr past ↦
+        let none : demand_of a.rows h ≡ 0 =
+        ap (λ (r : Row). r.demand) (get_or_past a.rows h no_row past) in
+        omega (arith, none)
+    | inl within ↦ elim (cases_Bool (is_leaf a.rows h)) [
+      | inl leaf ↦ less h within leaf
+      | inr inner ↦
+          let none : demand_of a.rows h ≡ 0 = va.inner_idle h within inner in
+          omega (arith, none)
+    ]
+  ];
+}
+
+-- The demand of a leaf by its flag.
+module _ (groups : Groups) (flag : ℕ → Bool) (l : ℕ) (below : l < length groups.rows) where
+  pub asked_most : is_leaf groups.rows l ≡ true → flag l ≡ true
+      → demand_of (asking groups (λ g. demand_where groups.rows (flag g) g)).rows l ≡ MAX_DEMAND
+  asked_most leaf most =
+      demand_at groups (λ g. demand_where groups.rows (flag g) g) l below ∙ rw (most, leaf) refl
+
+  pub asked_own : flag l ≡ false
+      → demand_of (asking groups (λ g. demand_where groups.rows (flag g) g)).rows l
+      ≡ demand_of groups.rows l
+  asked_own own =
+      demand_at groups (λ g. demand_where groups.rows (flag g) g) l below ∙ rw own refl
+
+-- The limit of a leaf: which of the two it is, and what is below it.
+pub leaf_cases : (row : Row) (hungry : Bool) (floor amount : ℕ)
+    → (leaf_limit row hungry floor amount ≡ max floor amount)
+    × ((hungry ≡ true) ⊎ (amount < row.demand))
+    ⊎ (leaf_limit row hungry floor amount ≡ max floor (headroom row)) × (hungry ≡ false)
+    × (row.demand ≤ amount)
+leaf_cases row hungry floor amount = elim (cases_Bool hungry) [
+  | inl yes' ↦ inl (rw yes' refl, inl yes')
+  | inr no' ↦ elim (cases_lt amount row.demand) [
+    | inl less ↦ inl (rw (no', lt-ltb amount row.demand less) refl, inr less)
+    | inr more ↦ inr (rw (no', le-ltb amount row.demand more) refl, no', more)
+  ]
+]
+
+floor_le : (row : Row) (hungry : Bool) (floor amount : ℕ)
+    → floor ≤ leaf_limit row hungry floor amount
+floor_le row hungry floor amount = elim (leaf_cases row hungry floor amount) [
+  | inl held ↦ omega (arith, held.0)
+  | inr free ↦ omega (arith, free.0)
+]
+
+headroom_le : (row : Row) (own : ℕ) → row.limit ≡ Some own → headroom row ≤ own
+headroom_le row own e = rw e (omega arith)
+
+headroom_ge : (row : Row) (n : ℕ) → n ≤ row.demand
+    → ((own : ℕ) → row.limit ≡ Some own → n ≤ own) → n ≤ headroom row
+headroom_ge row n less within = (elim row.limit as (λ o. row.limit ≡ o → n ≤ headroom row) [
+  | None ↦ λ e. rw e (omega (arith, less))
+  | Some own ↦ λ e. let high : n ≤ own = within own e in rw e (omega (arith, less, high))
+]) refl
+
+own_le : (row : Row) (hungry : Bool) (floor amount own : ℕ) → row.limit ≡ Some own
+    → floor ≤ own → amount ≤ own → leaf_limit row hungry floor amount ≤ own
+own_le row hungry floor amount own e low high = elim (leaf_cases row hungry floor amount) [
+  | inl held ↦ omega (arith, held.0, low, high)
+  | inr free ↦ omega (arith, free.0, low, headroom_le row own e)
+]
+
+-- The limit of a leaf stands in its row of the limits.
+pub limit_found : (used : Groups) (hungry : List Bool) (demands amounts : List ℕ)
+    (limits : List (Option ℕ)) (round : IsRound used hungry demands amounts limits) (l : ℕ)
+    → l < length used.rows → is_leaf used.rows l ≡ true
+    → limit_at limits l ≡ Some (leaf_limit (row_of used.rows l) (is_hungry hungry l)
+    (get_or round.floors l 0) (get_or amounts l 0))
+limit_found used hungry demands amounts limits round l below leaf =
+    ap (λ (xs : List (Option ℕ)). get_or xs l None) round.limits_are
+    ∙ get_or-map-range_with_len (round_limit used hungry round.floors amounts) 0
+    (length used.rows) l l None below (omega arith)
+    ∙ rw leaf refl
+
+own_limit_is : (groups : Groups) → IsInstance groups → (g own : ℕ)
+    → own_limit groups.rows g ≡ Some own → limit_of groups g ≡ Some own
+own_limit_is groups valid zero own e =
+    absurd (let clash : None ≡ Some own = sym valid.root_unlimited ∙ e in cc)
+own_limit_is groups valid (suc g) own e = e
+
+pub none_above : NoneAboveItsLimit
+none_above used hungry demands amounts limits l own valid round below leaf e =
+    let limited : limit_of used l ≡ Some own = own_limit_is used valid l own e in
+    let floor : get_or round.floors l 0 ≤ own =
+    within_limit (everyone used) (everyone-IsInstance used valid) round.floors round.floors_are l
+    own (omega (arith, below, as_many used (λ g. demand_where used.rows true g)))
+    (asking_limits used (λ g. demand_where used.rows true g) l ∙ limited) in
+    let amount : get_or amounts l 0 ≤ own =
+    within_limit (round_of used hungry) (round-IsInstance used valid hungry) amounts
+    round.amounts_are l own
+    (omega (arith, below, as_many used (λ g. demand_where used.rows (is_hungry hungry g) g)))
+    (asking_limits used (λ g. demand_where used.rows (is_hungry hungry g) g) l ∙ limited) in (
+      leaf_limit (row_of used.rows l) (is_hungry hungry l) (get_or round.floors l 0)
+          (get_or amounts l 0),
+      limit_found used hungry demands amounts limits round l below leaf,
+      own_le (row_of used.rows l) (is_hungry hungry l) (get_or round.floors l 0)
+          (get_or amounts l 0) own e floor amount,
+    )
+
+-- The least that a leaf gets of its want: the others ask for everything.
+module _ (used wants : Groups) (leaf : ℕ) (vu : IsInstance used) (vw : IsInstance wants)
+    (same : IsSameButDemands wants used) (below : leaf < length wants.rows)
+    (is : is_leaf wants.rows leaf ≡ true) where
+  beside : ℕ → Bool
+  beside g = not (eqb g leaf)
+
+  own_flag : beside leaf ≡ false
+  unfolding beside
+  own_flag = rw (eq-eqb leaf leaf refl) refl
+
+  other_flag : (g : ℕ) → (g ≡ leaf → ⊥) → beside g ≡ true
+  unfolding beside
+  other_flag g other = rw (ne_eqb g leaf other) refl
+
+  one : Groups
+  one = asking wants (λ g. demand_where wants.rows (beside g) g)
+
+  v_one : IsInstance one
+  unfolding one
+  v_one = where-IsInstance wants vw beside
+
+  same_one : IsSameButDemands wants one
+  unfolding one
+  same_one = same_asking wants (λ g. demand_where wants.rows (beside g) g)
+
+  to_everyone : IsSameButDemands one (everyone used)
+  to_everyone =
+      joined one wants (everyone used) (turned wants one same_one)
+      (joined wants used (everyone used) same
+      (same_asking used (λ g. demand_where used.rows true g)))
+
+  one_demand : demand_of one.rows leaf ≡ demand_of wants.rows leaf
+  unfolding one
+  one_demand = asked_own wants beside leaf below own_flag
+
+  one_most : (h : ℕ) → h < length wants.rows → is_leaf wants.rows h ≡ true → (h ≡ leaf → ⊥)
+      → demand_of one.rows h ≡ MAX_DEMAND
+  unfolding one
+  one_most h h_in leaf_h other = asked_most wants beside h h_in leaf_h (other_flag h other)
+
+  all_most : (h : ℕ) → h < length wants.rows → is_leaf wants.rows h ≡ true
+      → demand_of (everyone used).rows h ≡ MAX_DEMAND
+  all_most h h_in leaf_h =
+      asked_most used (λ _. true) h (omega (arith, h_in, same.tree.as_many))
+      (leaf_same wants.rows used.rows same.tree h ∙ leaf_h) refl
+
+  asked_otherwise : IsAskedOtherwise wants one leaf
+  asked_otherwise = record {
+    valid = v_one;
+    tree = same_one.tree;
+    weights = same_one.weights;
+    limits = same_one.limits;
+    inside = λ h under. elim (cases_eq h leaf) [
+      | inl here ↦ rw here one_demand
+      | inr other ↦ absurd
+          (both_ways _ (alone wants.rows vw.tree leaf is h other) under)
+    ];
+  }
+
+  v_all : IsInstance (everyone used)
+  v_all = everyone-IsInstance used vu
+
+  demand_none : (groups : Groups) → IsInstance groups → IsSameButDemands wants groups → (h : ℕ)
+      → is_leaf wants.rows h ≡ false → demand_of groups.rows h ≡ 0
+  demand_none groups valid alike h inner = elim (cases_lt h (length groups.rows)) [
+    | inl within ↦
+        valid.inner_idle h within (leaf_same wants.rows groups.rows alike.tree h ∙ inner)
+    | inr past ↦ ap (λ (r : Row). r.demand) (get_or_past groups.rows h no_row past)
+  ]
+
+  demand_past : (groups : Groups) → IsSameButDemands wants groups → (h : ℕ)
+      → length wants.rows ≤ h → demand_of groups.rows h ≡ 0
+  demand_past groups alike h past =
+      ap (λ (r : Row). r.demand)
+      (get_or_past groups.rows h no_row (omega (arith, past, alike.tree.as_many)))
+
+  wants_all : IsSameButDemands wants (everyone used)
+  wants_all = joined wants used (everyone used) same
+      (same_asking used (λ g. demand_where used.rows true g))
+
+  at_leaf : IsBusierAt one (everyone used) leaf
+  at_leaf = record {
+    no_less = busier_by one (everyone used) v_one to_everyone (λ h h_in leaf_h.
+        let low : demand_of one.rows h ≤ MAX_DEMAND = v_one.demands h h_in in
+        let high : demand_of (everyone used).rows h ≡ MAX_DEMAND =
+        all_most h (omega (arith, h_in, same_one.tree.as_many))
+        (sym (leaf_same wants.rows one.rows same_one.tree h) ∙ leaf_h) in
+        omega (arith, low, high));
+    within = omega (arith, below, same_one.tree.as_many);
+    childless = leaf_same wants.rows one.rows same_one.tree leaf ∙ is;
+    others = λ h other. elim (cases_lt h (length wants.rows)) [
+      | inr past ↦
+          demand_past (everyone used) wants_all h past ∙ sym (demand_past one same_one h past)
+      | inl h_in ↦ elim (cases_Bool (is_leaf wants.rows h)) [
+        | inl leaf_h ↦ all_most h h_in leaf_h ∙ sym (one_most h h_in leaf_h other)
+        | inr inner ↦
+            demand_none (everyone used) v_all wants_all h inner
+            ∙ sym (demand_none one v_one same_one h inner)
+      ]
+    ];
+  }
+
+  least_is : (floors least : List ℕ) → IsPlan (everyone used) floors → IsPlan one least
+      → get_or least leaf 0 ≤ get_or floors leaf 0
+  least_is floors least floors_are least_are =
+      let cut : get_or least leaf 0 ≡ min (demand_of one.rows leaf) (get_or floors leaf 0) =
+      only_cuts one (everyone used) leaf least floors v_one v_all at_leaf least_are floors_are in
+      omega (arith, cut)
+
+  one_planned : ThereIsOnePlan → HasOnePlan one
+  one_planned plans = plans one v_one
+
+pub none_below : ThereIsOnePlan → NoneBelowItsGuarantee
+none_below plans used wants hungry demands amounts limits leaf guaranteed vu round vw same below is
+    is_guaranteed =
+    let planned : HasOnePlan (one used wants leaf vu vw same below is) =
+    one_planned used wants leaf vu vw same below is plans in
+    let least : guaranteed ≤ get_or planned.amounts leaf 0 =
+    is_guaranteed.none_less (one used wants leaf vu vw same below is) planned.amounts
+    (asked_otherwise used wants leaf vu vw same below is) planned.plan in
+    let floor : get_or planned.amounts leaf 0 ≤ get_or round.floors leaf 0 =
+    least_is used wants leaf vu vw same below is round.floors planned.amounts round.floors_are
+    planned.plan in
+    let leaf_used : is_leaf used.rows leaf ≡ true =
+    leaf_same wants.rows used.rows same.tree leaf ∙ is in (
+      leaf_limit (row_of used.rows leaf) (is_hungry hungry leaf) (get_or round.floors leaf 0)
+          (get_or amounts leaf 0),
+      limit_found used hungry demands amounts limits round leaf
+          (omega (arith, below, same.tree.as_many)) leaf_used,
+      omega (
+        arith,
+        least,
+        floor,
+        floor_le (row_of used.rows leaf) (is_hungry hungry leaf) (get_or round.floors leaf 0)
+            (get_or amounts leaf 0),
+      ),
+    )
+
+admits : (wants : Groups) (limits : List (Option ℕ)) (l limit : ℕ)
+    → is_leaf wants.rows l ≡ true → limit_at limits l ≡ Some limit
+    → admitted_at wants limits l ≡ min (demand_of wants.rows l) limit
+admits wants limits l limit leaf found = rw (leaf, found) refl
+
+pub all_admitted : ThereIsOnePlan → GuaranteeIsAdmitted
+all_admitted plans used wants hungry demands amounts limits leaf vu round vw same below is
+    is_guaranteed =
+    let found : (limit : ℕ) × (limit_at limits leaf ≡ Some limit)
+    × (demand_of wants.rows leaf ≤ limit) =
+    none_below plans used wants hungry demands amounts limits leaf (demand_of wants.rows leaf) vu
+    round vw same below is is_guaranteed in
+    omega (arith, admits wants limits leaf found.0 is found.1, found.2)
+
+-- After a true reading of the wants.
+module _ (used wants : Groups) (hungry : List Bool) (demands amounts : List ℕ)
+    (limits : List (Option ℕ)) (planned : List ℕ) (vw : IsInstance wants)
+    (reading : IsTrueReading wants used hungry)
+    (round : IsRound used hungry demands amounts limits) (is_plan : IsPlan wants planned) where
+  in_used : (l : ℕ) → l < length wants.rows → l < length used.rows
+  in_used l below = omega (arith, below, reading.same.tree.as_many)
+
+  leaf_used : (l : ℕ) → is_leaf wants.rows l ≡ true → is_leaf used.rows l ≡ true
+  leaf_used l leaf = leaf_same wants.rows used.rows reading.same.tree l ∙ leaf
+
+  -- A leaf that is not hungry used all that it wants.
+  pub not_hungry : (l : ℕ) → l < length wants.rows → is_leaf wants.rows l ≡ true
+      → is_hungry hungry l ≡ false → demand_of used.rows l ≡ demand_of wants.rows l
+  not_hungry l below leaf no' =
+      elim (cases_lt (demand_of used.rows l) (demand_of wants.rows l)) [
+        | inl less ↦ absurd
+            (both_ways _ (sym (reading.flags l below leaf) ∙ no')
+            (lt-ltb (demand_of used.rows l) (demand_of wants.rows l) less))
+        | inr more ↦ omega (arith, more, reading.no_more l below leaf)
+      ]
+
+  v_round : IsInstance (round_of used hungry)
+  v_round = round-IsInstance used reading.valid hungry
+
+  v_floors : IsInstance (everyone used)
+  v_floors = everyone-IsInstance used reading.valid
+
+  pub same_round : IsSameButDemands wants (round_of used hungry)
+  same_round = joined wants used (round_of used hungry) reading.same
+      (same_asking used (λ g. demand_where used.rows (is_hungry hungry g) g))
+
+  same_all : IsSameButDemands wants (everyone used)
+  same_all = joined wants used (everyone used) reading.same
+      (same_asking used (λ g. demand_where used.rows true g))
+
+  -- What a leaf asks for in the round.
+  pub asks_own : (l : ℕ) → l < length wants.rows → is_leaf wants.rows l ≡ true
+      → is_hungry hungry l ≡ false
+      → demand_of (round_of used hungry).rows l ≡ demand_of wants.rows l
+  asks_own l below leaf no' =
+      asked_own used (is_hungry hungry) l (in_used l below) no' ∙ not_hungry l below leaf no'
+
+  pub asks_most : (l : ℕ) → l < length wants.rows → is_leaf wants.rows l ≡ true
+      → is_hungry hungry l ≡ true → demand_of (round_of used hungry).rows l ≡ MAX_DEMAND
+  asks_most l below leaf yes' =
+      asked_most used (is_hungry hungry) l (in_used l below) (leaf_used l leaf) yes'
+
+  pub asks_no_less : (l : ℕ) → l < length wants.rows → is_leaf wants.rows l ≡ true
+      → demand_of wants.rows l ≤ demand_of (round_of used hungry).rows l
+  asks_no_less l below leaf = elim (cases_Bool (is_hungry hungry l)) [
+    | inl yes' ↦
+        let high : demand_of wants.rows l ≤ MAX_DEMAND = vw.demands l below in
+        omega (arith, high, asks_most l below leaf yes')
+    | inr no' ↦ omega (arith, asks_own l below leaf no')
+  ]
+
+  busier_round : IsBusier wants (round_of used hungry)
+  busier_round = busier_by wants (round_of used hungry) vw same_round asks_no_less
+
+  busier_all : IsBusier wants (everyone used)
+  busier_all = busier_by wants (everyone used) vw same_all (λ l below leaf.
+      let high : demand_of wants.rows l ≤ MAX_DEMAND = vw.demands l below in
+      omega (
+        arith,
+        high,
+        asked_most used (λ _. true) l (in_used l below) (leaf_used l leaf) refl,
+      ))
+
+  floor_less : (l : ℕ) → l < length wants.rows → is_leaf wants.rows l ≡ true
+      → min (demand_of wants.rows l) (get_or round.floors l 0) ≤ get_or planned l 0
+  floor_less l below leaf =
+      serve_no_more wants (everyone used) l planned round.floors vw v_floors busier_all is_plan
+      round.floors_are below leaf
+
+  pub amount_less : (l : ℕ) → l < length wants.rows → is_leaf wants.rows l ≡ true
+      → min (demand_of wants.rows l) (get_or amounts l 0) ≤ get_or planned l 0
+  amount_less l below leaf =
+      serve_no_more wants (round_of used hungry) l planned amounts vw v_round busier_round is_plan
+      round.amounts_are below leaf
+
+  limit : ℕ → ℕ
+  limit l = leaf_limit (row_of used.rows l) (is_hungry hungry l) (get_or round.floors l 0)
+      (get_or amounts l 0)
+
+  admitted_is : (l : ℕ) → l < length wants.rows → is_leaf wants.rows l ≡ true
+      → admitted_at wants limits l ≡ min (demand_of wants.rows l) (limit l)
+  unfolding limit
+  admitted_is l below leaf =
+      admits wants limits l
+      (leaf_limit (row_of used.rows l) (is_hungry hungry l) (get_or round.floors l 0)
+      (get_or amounts l 0)) leaf
+      (limit_found used hungry demands amounts limits round l (in_used l below) (leaf_used l leaf))
+
+  cases_at : (l : ℕ) → l < length wants.rows → is_leaf wants.rows l ≡ true
+      → (limit l ≡ max (get_or round.floors l 0) (get_or amounts l 0))
+      ⊎ (limit l ≡ max (get_or round.floors l 0) (headroom (row_of used.rows l)))
+      × (demand_of used.rows l ≡ demand_of wants.rows l)
+      × (demand_of wants.rows l ≤ get_or amounts l 0)
+  unfolding limit
+  cases_at l below leaf =
+      elim (leaf_cases (row_of used.rows l) (is_hungry hungry l) (get_or round.floors l 0)
+      (get_or amounts l 0)) [
+        | inl held ↦ inl held.0
+        | inr free ↦
+            let all : demand_of used.rows l ≡ demand_of wants.rows l =
+            not_hungry l below leaf free.1 in
+            let more : demand_of used.rows l ≤ get_or amounts l 0 = free.2 in
+            inr (free.0, all, omega (arith, all, more))
+      ]
+
+  -- No leaf is admitted above its plan.
+  pub admitted_le : (l : ℕ) → l < length wants.rows → is_leaf wants.rows l ≡ true
+      → admitted_at wants limits l ≤ get_or planned l 0
+  admitted_le l below leaf = elim (cases_at l below leaf) [
+    | inl held ↦
+        omega (
+          arith,
+          admitted_is l below leaf,
+          held,
+          floor_less l below leaf,
+          amount_less l below leaf,
+        )
+    | inr free ↦
+        omega (arith, admitted_is l below leaf, free.2, amount_less l below leaf)
+  ]
+
+  -- A leaf whose want the round plans is admitted whole.
+  pub whole_at : (l : ℕ) → l < length wants.rows → is_leaf wants.rows l ≡ true
+      → demand_of wants.rows l ≤ get_or amounts l 0
+      → admitted_at wants limits l ≡ demand_of wants.rows l
+  whole_at l below leaf enough = elim (cases_at l below leaf) [
+    | inl held ↦ omega (arith, admitted_is l below leaf, held, enough)
+    | inr free ↦
+        let room : demand_of wants.rows l ≤ headroom (row_of used.rows l) =
+        headroom_ge (row_of used.rows l) (demand_of wants.rows l)
+        (let all : demand_of used.rows l ≡ demand_of wants.rows l = free.1 in omega (arith, all))
+        (λ own e.
+        let fits : get_or amounts l 0 ≤ own =
+        within_limit (round_of used hungry) v_round amounts round.amounts_are l own
+        (omega (arith, below, same_round.tree.as_many))
+        (asking_limits used (λ g. demand_where used.rows (is_hungry hungry g) g) l
+        ∙ own_limit_is used reading.valid l own e) in
+        omega (arith, fits, enough)) in
+        omega (arith, admitted_is l below leaf, free.0, room)
+  ]
+
+  -- A hungry leaf is admitted as far as the round plans it.
+  pub not_above : (l : ℕ) → l < length wants.rows → is_leaf wants.rows l ≡ true
+      → is_hungry hungry l ≡ true
+      → min (demand_of wants.rows l) (get_or amounts l 0) ≤ admitted_at wants limits l
+  not_above l below leaf yes' = elim (cases_at l below leaf) [
+    | inl held ↦ omega (arith, admitted_is l below leaf, held)
+    | inr free ↦ absurd
+        (both_ways _
+        (reading.flags l below leaf
+        ∙ le-ltb (demand_of used.rows l) (demand_of wants.rows l)
+        (let all : demand_of used.rows l ≡ demand_of wants.rows l = free.1 in omega (arith, all)))
+        yes')
+  ]
+
+  -- A round that plans no leaf more than it wants has the plan of the wants, and admits it.
+  module _ (fits : (l : ℕ) → l < length wants.rows → is_leaf wants.rows l ≡ true
+      → get_or amounts l 0 ≤ demand_of wants.rows l) where
+    pub amounts_planned : (h : ℕ) → h < length wants.rows → get_or amounts h 0 ≡ get_or planned h 0
+    amounts_planned h below =
+        unused_changes wants (round_of used hungry) planned amounts vw v_round busier_round is_plan
+        round.amounts_are fits h below
+
+    pub admitted_planned : (l : ℕ) → l < length wants.rows → is_leaf wants.rows l ≡ true
+        → admitted_at wants limits l ≡ get_or planned l 0
+    admitted_planned l below leaf =
+        let same : get_or amounts l 0 ≡ get_or planned l 0 = amounts_planned l below in
+        let most : get_or planned l 0 ≤ demand_of wants.rows l =
+        within_demand wants vw planned is_plan l below leaf in
+        elim (cases_lt (get_or planned l 0) (demand_of wants.rows l)) [
+          | inr full ↦
+              let whole : admitted_at wants limits l ≡ demand_of wants.rows l =
+              whole_at l below leaf (omega (arith, same, full)) in
+              omega (arith, whole, most, full)
+          | inl less ↦ elim (cases_at l below leaf) [
+            | inl held ↦
+                omega (
+                  arith,
+                  admitted_is l below leaf,
+                  held,
+                  floor_less l below leaf,
+                  same,
+                  less,
+                )
+            | inr free ↦ absurd (omega (arith, free.2, same, less))
+          ]
+        ]
+
+  planned_total : (g : ℕ) → g < length wants.rows
+      → get_or planned g 0 ≡ total wants.rows is_plan.allocation g
+  planned_total g below =
+      ap (λ (xs : List ℕ). get_or xs g 0) is_plan.amounts_are
+      ∙ get_or-map-range_with_len (total wants.rows is_plan.allocation) 0 (length wants.rows) g g 0
+      below (omega arith)
+
+  admitted_get : (g : ℕ) → g < length wants.rows
+      → get_or (admitted wants limits) g 0 ≡ admitted_at wants limits g
+  admitted_get g below =
+      get_or-map-range_with_len (admitted_at wants limits) 0 (length wants.rows) g g 0 below
+      (omega arith)
+
+  totals_le : (g : ℕ)
+      → total wants.rows (admitted wants limits) g ≤ total wants.rows is_plan.allocation g
+  totals_le g =
+      totals_less wants.rows (admitted wants limits) is_plan.allocation g (λ l below leaf.
+      omega (
+        arith,
+        admitted_get l below,
+        admitted_le l below leaf,
+        planned_total l below,
+        leaf_total wants.rows vw.tree is_plan.allocation l below leaf,
+      ))
+
+  pub within_plan : IsWithinPlan wants limits planned
+  within_plan = record {
+    totals = λ g below. omega (arith, totals_le g, planned_total g below);
+    fits = record {
+      allots = record {
+        one_each = length-map-range_with_len (admitted_at wants limits) 0 (length wants.rows);
+        at_leaves = λ g below inner. admitted_get g below ∙ rw inner refl;
+      };
+      demands = λ l below leaf.
+          omega (
+            arith,
+            admitted_get l below,
+            admitted_le l below leaf,
+            within_demand wants vw planned is_plan l below leaf,
+          );
+      limits = λ g limit below e.
+          let kept : total wants.rows is_plan.allocation g ≤ limit =
+          is_plan.best.within.limits g limit below e in
+          omega (arith, totals_le g, kept);
+    };
+  }
+
+pub admit_the_plan : LimitsAdmitThePlan
+admit_the_plan used wants hungry demands amounts limits planned vw reading round is_plan =
+    within_plan used wants hungry demands amounts limits planned vw reading round is_plan

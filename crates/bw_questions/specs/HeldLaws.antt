@@ -1,0 +1,54 @@
+-- Laws of one round: the floor, a leaf's own limit, and limits that admit no more than the plan.
+use Rattle.std.specs.Prelude.{◌≡◌, ℕ, ◌<◌, ◌≤◌, List, Bool, true, Option, Some, length}
+use Rattle.std.specs.Prelude.{slice_index}
+use Rattle.bw_model.specs.Allocation.{total, IsWithin}
+use Rattle.bw_model.specs.Groups.{Groups, IsInstance, demand_of, is_leaf}
+use Rattle.bw_model.specs.Plan.{IsPlan}
+use Rattle.bw_questions.specs.Guarantee.{IsGuaranteed}
+use Rattle.bw_questions.specs.HeldRule.{IsRound, own_limit}
+use Rattle.bw_questions.specs.Reading.{IsSameButDemands, IsTrueReading, limit_at, admitted_at, admitted}
+
+-- No leaf is limited below its guarantee, whatever it wants and whatever was read. The guarantee is
+-- the least that its want gets while the others ask for anything.
+abbrev pub NoneBelowItsGuarantee : Type 0
+NoneBelowItsGuarantee = (used wants : Groups) (hungry : List Bool) (demands amounts : List ℕ)
+    (limits : List (Option ℕ)) (leaf guaranteed : ℕ)
+    → IsInstance used → IsRound used hungry demands amounts limits
+    → IsInstance wants → IsSameButDemands wants used
+    → leaf < length wants.rows → is_leaf wants.rows leaf ≡ true
+    → IsGuaranteed wants leaf guaranteed
+    → (limit : ℕ) × (limit_at limits leaf ≡ Some limit) × (guaranteed ≤ limit)
+
+-- A leaf that wants at most its guarantee is admitted whole, whatever was read.
+abbrev pub GuaranteeIsAdmitted : Type 0
+GuaranteeIsAdmitted = (used wants : Groups) (hungry : List Bool) (demands amounts : List ℕ)
+    (limits : List (Option ℕ)) (leaf : ℕ)
+    → IsInstance used → IsRound used hungry demands amounts limits
+    → IsInstance wants → IsSameButDemands wants used
+    → leaf < length wants.rows → is_leaf wants.rows leaf ≡ true
+    → IsGuaranteed wants leaf (demand_of wants.rows leaf)
+    → admitted_at wants limits leaf ≡ demand_of wants.rows leaf
+
+-- No leaf is limited above its own limit, whatever was read.
+abbrev pub NoneAboveItsLimit : Type 0
+NoneAboveItsLimit = (used : Groups) (hungry : List Bool) (demands amounts : List ℕ)
+    (limits : List (Option ℕ)) (leaf own : ℕ)
+    → IsInstance used → IsRound used hungry demands amounts limits
+    → leaf < length used.rows → is_leaf used.rows leaf ≡ true
+    → own_limit used.rows leaf ≡ Some own
+    → (limit : ℕ) × (limit_at limits leaf ≡ Some limit) × (limit ≤ own)
+
+-- The admitted amounts: in each group no more than its plan, and all of it fits the host.
+pub record IsWithinPlan (wants : Groups) (limits : List (Option ℕ)) (planned : List ℕ) : Type 0
+  where
+    pub totals : (g : ℕ) → g < length wants.rows
+        → total wants.rows (admitted wants limits) g ≤ slice_index planned g
+    pub fits : IsWithin wants (admitted wants limits)
+
+-- After a true reading of the wants, the limits admit no more than the plan of the wants.
+abbrev pub LimitsAdmitThePlan : Type 0
+LimitsAdmitThePlan = (used wants : Groups) (hungry : List Bool) (demands amounts : List ℕ)
+    (limits : List (Option ℕ)) (planned : List ℕ)
+    → IsInstance wants → IsTrueReading wants used hungry
+    → IsRound used hungry demands amounts limits → IsPlan wants planned
+    → IsWithinPlan wants limits planned

@@ -1,0 +1,50 @@
+//! Laws of the rule, each the contract of a function that does no work of its own.
+ghost use Rattle.bw_questions.specs.HeldLaws.{NoneBelowItsGuarantee, GuaranteeIsAdmitted};
+ghost use Rattle.bw_questions.specs.HeldLaws.{NoneAboveItsLimit, LimitsAdmitThePlan};
+ghost use Rattle.bw_questions.specs.Rounds.{PlanStays, NothingElseStays, PlanIsReached};
+
+use bw_plan::there_is_one_plan;
+
+/// Law: no leaf is limited below its guarantee, whatever it wants and whatever was read.
+pub fn none_below_its_guarantee()
+    ensures { NoneBelowItsGuarantee }
+{
+    there_is_one_plan();
+}
+
+/// Law: a leaf that wants at most its guarantee is admitted whole, whatever was read.
+pub fn guarantee_is_admitted()
+    ensures { GuaranteeIsAdmitted }
+{
+    there_is_one_plan();
+}
+
+/// Law: no leaf is limited above its own limit, whatever was read.
+pub fn none_above_its_limit()
+    ensures { NoneAboveItsLimit }
+{}
+
+/// Law: after a true reading, what the limits admit is at most the plan of the wants in each group,
+/// and fits the host.
+pub fn limits_admit_the_plan()
+    ensures { LimitsAdmitThePlan }
+{}
+
+/// Law: on a host that serves what fits, a plan of the wants that was served is served again.
+pub fn plan_stays()
+    ensures { PlanStays }
+{}
+
+/// Law: on a host that serves what fits, two rounds in which each leaf used as much served the plan
+/// of the wants.
+pub fn nothing_else_stays()
+    ensures { NothingElseStays }
+{}
+
+/// Law: on a host that serves what fits, from any limits, each round from number K + 1 on serves
+/// the plan of the wants. K is the number of leaves that this plan serves whole.
+pub fn plan_is_reached()
+    ensures { PlanIsReached }
+{
+    there_is_one_plan();
+}
