@@ -5,7 +5,7 @@ import argparse
 from collections.abc import Iterable, Sequence
 
 from arbiter_host import demands
-from arbiter_host.faults import HostFault, NothingFound, UsageFault
+from arbiter_host.faults import NothingFound, UsageFault
 from arbiter_host.model import Model
 from arbiter_host.names import parent_path, shown
 
@@ -15,7 +15,8 @@ def chosen(model: Model, options: argparse.Namespace) -> frozenset[str] | None:
     fits."""
     parts = []
     if options.group:
-        parts.append(with_below(model, named(model, options.group)))
+        parts.append(with_below(model, [group.path for word in options.group
+                                        for group in demands.matching(model, word)]))
     if options.namespace or options.selector:
         parts.append(with_below(model, pods(model, options)))
     if not parts:
@@ -24,14 +25,6 @@ def chosen(model: Model, options: argparse.Namespace) -> frozenset[str] | None:
     if not paths:
         raise NothingFound("no group is chosen by all of -g, -n and -l")
     return paths
-
-
-def named(model: Model, patterns: Sequence[str]) -> list[str]:
-    """The groups that patterns name."""
-    try:
-        return [group.path for word in patterns for group in demands.matching(model, word)]
-    except HostFault as fault:
-        raise NothingFound(fault.message) from fault
 
 
 def labels_of(words: Sequence[str]) -> dict[str, str]:

@@ -200,16 +200,6 @@ def matching(model: Model, pattern: str) -> list[Group]:
     return groups
 
 
-def below(model: Model, patterns: Sequence[str]) -> set[str]:
-    """The groups that patterns match, and those below them."""
-    tops = {group.path for pattern in patterns for group in matching(model, pattern)}
-    paths = set[str]()
-    for path in model.groups:
-        if path in tops or names.parent_path(path) in paths:
-            paths.add(path)
-    return paths
-
-
 def absent(model: Model, pattern: str) -> NothingFound:
     """The fault of a group that is not there. It names some whose names have its letters."""
     part = pattern.strip("*/").lower()

@@ -6,12 +6,12 @@ groups without a goal are lowered where nothing else meets the goals.
 """
 from __future__ import annotations
 
-from collections.abc import Sequence
+from collections.abc import Collection, Sequence
 from dataclasses import dataclass
 from typing import Any
 
 from arbiter import Unmet
-from arbiter_host import demands, knobs
+from arbiter_host import knobs
 from arbiter_host.goals import Goals, Way, above, goals_of
 from arbiter_host.knobs import Knob, Knobs
 from arbiter_host.other_limits import by_limits
@@ -68,19 +68,19 @@ class Tuned:
 
 
 def tune(before: Plan, words: Sequence[str], is_guaranteed: bool = False,
-         patterns: Sequence[str] = ()) -> Tuned:
+         chosen: Collection[str] | None = None) -> Tuned:
     """Settings under which all goals of words are met at once, or why there are none.
 
-    With patterns only settings of the groups that match, and of those below them, may change.
+    Where groups are chosen, settings of these alone may change.
     """
     goals = goals_of(before, words)
-    may = demands.below(before.model, patterns) if patterns else before.model.groups
-    kept = frozenset(group.row for group in before.groups[1:] if group.path not in may)
+    kept = frozenset(group.row for group in before.groups[1:]
+                     if chosen is not None and group.path not in chosen)
     asked = Goals(before, goals, is_guaranteed, kept)
     weights = by_weights(asked)
     settings = by_settings(asked, weights)
     is_met = isinstance(weights, Way) or isinstance(settings, Way)
-    is_alone = len(goals) == 1 and not is_guaranteed and not patterns
+    is_alone = len(goals) == 1 and not is_guaranteed and chosen is None
     return Tuned(asked, asked.amounts(before), weights, settings,
                  None if is_met else by_limits(asked),
                  tuple(Knobs(asked).each()) if is_alone else ())

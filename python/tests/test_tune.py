@@ -10,8 +10,8 @@ from fractions import Fraction
 
 import pytest
 from arbiter import Host, Unmet
-from arbiter_host import change, demands, goals as goals_, other_limits, tune, tune_settings
-from arbiter_host import tune_weights
+from arbiter_host import change, choosing, demands, goals as goals_, other_limits, tune
+from arbiter_host import tune_settings, tune_weights
 from arbiter_host.faults import HostFault
 from arbiter_host.model import Group, Model
 from arbiter_host.plan import Engine, plan
@@ -476,7 +476,7 @@ def test_no_change_can_be_left_out(engine, model, goals, is_guaranteed, chosen):
     """
     before = plan(engine, model)
     words = [f"{path}={200 * slices}m" for path, slices in goals]
-    found = tune.tune(before, words, is_guaranteed, sorted(chosen))
+    found = tune.tune(before, words, is_guaranteed, choosing.with_below(model, chosen) or None)
     if found.best is None:
         return
     changes_ = found.best.changes

@@ -5,7 +5,7 @@ import argparse
 from collections.abc import Sequence
 
 from arbiter import Unmet
-from arbiter_host import change, knobs, load, options as table, text, tune, units
+from arbiter_host import change, choosing, knobs, load, options as table, text, tune, units
 from arbiter_host.faults import NothingFound, UsageFault
 from arbiter_host.goals import Way
 from arbiter_host.knobs import Knob
@@ -33,7 +33,8 @@ def run(options: argparse.Namespace) -> None:
     model = load.load(options, options.source, by)
     load.warn(model, source_name(options.source))
     before = plan(by, change.told(model, change.changed(model, options.set)))
-    answer = tune.tune(before, options.goal, options.guaranteed, options.group)
+    answer = tune.tune(before, options.goal, options.guaranteed,
+                       choosing.chosen(before.model, options))
     if answer.best is not None:
         change.told(before.model, answer.best.plan.model)
     write_forms(outputs, {"text": lambda: lines_of(answer, options.unit),
