@@ -30,17 +30,17 @@ class TooMuchWork(Exception):
 
 
 @dataclass(eq=False)
-class Node:
-    """A group that asks for something, with its limit and its tasks, in seconds."""
+class Branch:
+    """A group that asks for something, with its limit and its tasks, in seconds, in a run."""
 
     path: str
     weight: float = 100.0
-    above: Node | None = None
+    above: Branch | None = None
     quota: float = math.inf
     period: float = 0.1
     burst: float = 0.0
     tasks: list[Task] = field(default_factory=list)
-    children: list[Node] = field(default_factory=list)
+    children: list[Branch] = field(default_factory=list)
     # What is left of the quota, when there is more, and what the group had.
     pool: float = math.inf
     refill: float = math.inf
@@ -58,7 +58,7 @@ class Node:
 class Task:
     """One task: its group, its work of a period in seconds, and where it is."""
 
-    group: Node
+    group: Branch
     work: float
     cpu: int = 0
     left: float = 0.0
@@ -74,7 +74,7 @@ class Shape:
 
     processors: int
     period: float
-    nodes: list[Node]
+    nodes: list[Branch]
     tasks: list[Task]
 
     @property
@@ -85,24 +85,24 @@ class Shape:
                         for node in self.nodes))
 
 
-def limit_of(node: Node) -> float:
+def limit_of(node: Branch) -> float:
     """The limit of a group in CPUs."""
     return node.quota / node.period
 
 
-def count_below(node: Node) -> int:
+def count_below(node: Branch) -> int:
     """Number of the tasks of a group and of those below it."""
     return len(node.tasks) + sum(count_below(child) for child in node.children)
 
 
-def chain(node: Node | None) -> Iterator[Node]:
+def chain(node: Branch | None) -> Iterator[Branch]:
     """A group and those above it, the root last."""
     while node is not None:
         yield node
         node = node.above
 
 
-def weigh(node: Node, above: Node) -> None:
+def weigh(node: Branch, above: Branch) -> None:
     """Adds a group's weights on the CPUs to its parent's load."""
     for cpu, load in node.on.items():
         weight = node.on[cpu] = load * node.part
@@ -159,7 +159,7 @@ class Run:
                 weigh(node, node.above)
         self.share(nodes)
 
-    def share(self, nodes: Sequence[Node]) -> None:
+    def share(self, nodes: Sequence[Branch]) -> None:
         """Divides each CPU from the root down, and works out each task's part of the load."""
         root = nodes[0]
         root.time, root.part = dict.fromkeys(root.runs, 1.0), 1.0

@@ -8,7 +8,7 @@ import math
 from collections.abc import Iterator
 from typing import NamedTuple
 
-from arbiter_host.balancer import Node, Run, Shape, Task, TooMuchWork, chain, limit_of
+from arbiter_host.balancer import Branch, Run, Shape, Task, TooMuchWork, chain, limit_of
 from arbiter_host.model import Group, Model
 from arbiter_host.names import parent_path
 
@@ -73,10 +73,10 @@ def leaves(model: Model) -> Iterator[Group]:
 def shape_of(model: Model) -> Shape:
     """The shape of a host of which all is known."""
     period = model.host.period_us / 1e6
-    nodes = {".": Node(".")}
+    nodes = {".": Branch(".")}
     for path, group in model.groups.items():
         quota = math.inf if group.quota is None else group.quota / 1e6
-        nodes[path] = Node(path, float(group.weight), nodes[parent_path(path)], quota,
+        nodes[path] = Branch(path, float(group.weight), nodes[parent_path(path)], quota,
                            group.period / 1e6, group.burst / 1e6)
     for group in leaves(model):
         count, node = group.tasks or 0, nodes[group.path]
@@ -128,7 +128,7 @@ def ranges(shape: Shape) -> dict[str, Bounds] | None:
     return {node.path: range_of(node, spans, most[node.path], are_alike) for node in shape.nodes}
 
 
-def range_of(node: Node, spans: dict[str, tuple[float, float]], most: float,
+def range_of(node: Branch, spans: dict[str, tuple[float, float]], most: float,
              are_alike: bool) -> Bounds:
     """A group's range, from the least and the greatest that each group had in the runs.
 

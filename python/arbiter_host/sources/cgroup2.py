@@ -121,5 +121,5 @@ def read(folder: str, host: Host, wish: Wish = Wish()) -> Model:
     version = version_of(folder)
     model = cgroups.read(version, folder, host, wish)
     if version.mark == Files.mark:
-        model.owned = tree_units.Source(model.copy(), want=wish.want)
+        model.owned = tree_units.TreeSource(model.copy(), want=wish.want)
     return model

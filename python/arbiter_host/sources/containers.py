@@ -157,7 +157,7 @@ def nano_of(setting: Setting, host: Host) -> int:
 
 
 @dataclass(frozen=True)
-class Source(Measurable):
+class ContainerSource(Measurable):
     """Containers as they were read. `--cpus` and `--cpu-shares` of them can be changed."""
 
     running: tuple[dict[str, Any], ...]
@@ -223,7 +223,7 @@ class Source(Measurable):
         """The containers by their identifiers, as docker prints them."""
         return {text(each, "Id")[:SHORT_ID]: (at, 0) for at, each in enumerate(self.running)}
 
-    def changed(self, settings: Sequence[Setting]) -> Source:
+    def changed(self, settings: Sequence[Setting]) -> ContainerSource:
         """The same with other CPUs and shares."""
         running = list(self.running)
         for setting in settings:
@@ -246,7 +246,7 @@ class Source(Measurable):
                       f"{self.host.processors} are all")]
 
 
-def source_of(files: Sequence[File], library: Library, wish: Wish) -> Source:
+def source_of(files: Sequence[File], library: Library, wish: Wish) -> ContainerSource:
     """The containers of some files."""
     raw: list[dict[str, Any]] = []
     for name, data in files:
@@ -261,7 +261,7 @@ def source_of(files: Sequence[File], library: Library, wish: Wish) -> Source:
     running = [each for each in raw if is_running(each)]
     left = len(raw) - len(running)
     notes = (f"containers that do not run, left out: {left}",) if left else ()
-    return Source(library, wish, wish.machine(), tuple(running), notes=notes)
+    return ContainerSource(library, wish, wish.machine(), tuple(running), notes=notes)
 
 
 def read(files: Sequence[File], library: Library, wish: Wish) -> Model:

@@ -38,7 +38,7 @@ TOKENS = re.compile(r'"""(?:\\.|[^\\])*?"""' r"|'''.*?'''" r'|"(?:\\.|[^"\\\n])*
 BEHIND_NAME = re.compile(r"[ \t]*[=:.\]]")
 
 
-class Places:
+class KeyLines:
     """A file whose keys are found by their words, for the lines of faults."""
 
     def __init__(self, name: str, text: str) -> None:
@@ -176,7 +176,7 @@ def set_key(group: Group, key: str, value: Any) -> None:
         setattr(group, key, take(value))
 
 
-def read_group(places: Places, path: str, entry: Any) -> Group:
+def read_group(places: KeyLines, path: str, entry: Any) -> Group:
     """One group of a file."""
     if not isinstance(entry, dict):
         raise places.fault("a group is a table of keys", path)
@@ -196,7 +196,7 @@ def read_group(places: Places, path: str, entry: Any) -> Group:
     return group
 
 
-def check_path(places: Places, path: Any) -> str:
+def check_path(places: KeyLines, path: Any) -> str:
     """A path that a script can hold."""
     if not isinstance(path, str):
         raise places.fault(f"{text_of(path)} is no path", str(path))
@@ -216,7 +216,7 @@ def is_name(name: str) -> bool:
         return False
 
 
-def add(places: Places, model: Model, group: Group) -> None:
+def add(places: KeyLines, model: Model, group: Group) -> None:
     """Adds a group, and each group above it that the file does not name."""
     above = names.parent_path(group.path)
     if above != "." and above not in model.groups:
@@ -227,7 +227,7 @@ def add(places: Places, model: Model, group: Group) -> None:
         raise places.fault(fault.message, group.path) from fault
 
 
-def read_host(places: Places, entry: Any) -> Host:
+def read_host(places: KeyLines, entry: Any) -> Host:
     """The table `host`."""
     if not isinstance(entry, dict):
         raise places.fault("host is a table", "host")
@@ -246,7 +246,7 @@ def read_host(places: Places, entry: Any) -> Host:
         raise places.fault(fault.message, "host") from fault
 
 
-def check_demands(places: Places, model: Model) -> None:
+def check_demands(places: KeyLines, model: Model) -> None:
     """A fault where a group has a demand and children."""
     for path, below in model.children().items():
         if path != "." and below and model.groups[path].demand:
@@ -265,7 +265,7 @@ def text_in(data: bytes, name: str) -> str:
         raise HostFault(f"{name}:{line}: not UTF-8") from error
 
 
-def tables_in(places: Places, entry: Any) -> tuple[Any, dict[str, Any]]:
+def tables_in(places: KeyLines, entry: Any) -> tuple[Any, dict[str, Any]]:
     """The tables `host` and `groups` of a file."""
     if not isinstance(entry, dict):
         raise HostFault(f"{places.name}:1: a host file is a table with host and groups")
@@ -285,7 +285,7 @@ def tables_in(places: Places, entry: Any) -> tuple[Any, dict[str, Any]]:
 def model_of(data: bytes, name: str, is_toml: bool) -> Model:
     """The model of a host file."""
     text_ = text_in(data, name)
-    places = Places(name, text_)
+    places = KeyLines(name, text_)
     entry = parsed(text_, name, is_toml)
     host, groups = tables_in(places, entry)
     model = Model(read_host(places, host), names_host="host" in entry)

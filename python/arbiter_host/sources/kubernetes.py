@@ -119,7 +119,7 @@ def node_of(items: Sequence[dict[str, Any]], wish: Wish) -> dict[str, Any] | Non
     return nodes[0] if nodes else None
 
 
-class Builder:
+class PodBuilder:
     """Makes the groups of pods."""
 
     def __init__(self, model: Model, library: Library, wish: Wish,
@@ -193,7 +193,7 @@ class Builder:
         return self.model.add(group).path
 
 
-def tell_limits(model: Model, wish: Wish, builder: Builder, seconds: Fraction) -> None:
+def tell_limits(model: Model, wish: Wish, builder: PodBuilder, seconds: Fraction) -> None:
     """Sets the demands. Pause containers and classes without a pod ask for nothing."""
     if wish.want in demands.OF_USE and not builder.known and builder.places:
         raise HostFault(f"--want {wish.want}: what these pods used is not told (--used);"
@@ -246,7 +246,7 @@ def check_amounts(pod: Pod, container: Container) -> None:
 
 
 @dataclass(frozen=True)
-class Source(Measurable):
+class PodSource(Measurable):
     """Pods and their node as they were read. Requests and limits of them can be changed."""
 
     pods: tuple[Pod, ...]
@@ -259,7 +259,7 @@ class Source(Measurable):
     def built(self) -> tuple[Model, dict[str, Place]]:
         """The model, and the places of a pod and of its container by the path of the group."""
         model = Model(checked(self.host), notes=list(self.notes), names_host=self.names_host)
-        builder = Builder(model, self.library, self.wish, self.known)
+        builder = PodBuilder(model, self.library, self.wish, self.known)
         builder.classes(self.pods, self.allocatable)
         for place, pod in enumerate(self.pods):
             builder.pod(pod, place)
@@ -361,7 +361,7 @@ class Source(Measurable):
         """What all pods request, and what the node has for them."""
         return requested_by(self.pods), self.allocatable
 
-    def changed(self, settings: Sequence[Setting]) -> Source:
+    def changed(self, settings: Sequence[Setting]) -> PodSource:
         """The same with other requests and limits. All are made before they are checked."""
         pods, changed = list(self.pods), set()
         for setting in settings:
@@ -421,9 +421,9 @@ class Source(Measurable):
             return most, "the most that counts"
         return max(hindered - 1, getattr(amounts, key) or 0), hindrance(hindered)
 
-    def joined(self, other: Owned) -> Source | None:
+    def joined(self, other: Owned) -> PodSource | None:
         """This node with the pods of another source. A fault where it has not the room."""
-        if not isinstance(other, Source):
+        if not isinstance(other, PodSource):
             return None
         here = {pod.title for pod in self.pods}
         for pod in other.pods:
@@ -448,7 +448,7 @@ def requested_by(pods: Sequence[Pod]) -> int:
     return sum(pod.amounts.request or 0 for pod in pods)
 
 
-def source_of(files: Sequence[File], library: Library, wish: Wish) -> Source:
+def source_of(files: Sequence[File], library: Library, wish: Wish) -> PodSource:
     """A node from the files of its pods and of the node itself."""
     items = [item for name, data in files for item in items_of(loads(data, name), name)]
     node = node_of(items, wish)
@@ -462,7 +462,7 @@ def source_of(files: Sequence[File], library: Library, wish: Wish) -> Source:
     pods = pods_on(items, name, notes)
     if node is None:
         notes.append("no node's JSON: kubepods has weight 100")
-    source = Source(library, wish, host, tuple(pods), allocatable, capacity is not None,
+    source = PodSource(library, wish, host, tuple(pods), allocatable, capacity is not None,
                     node_facts(node), notes=tuple(notes))
     used = list(of_metrics([each for each in items if each.get("kind") == "PodMetrics"], "usage"))
     return source.with_usage(used, "usage") if used else source

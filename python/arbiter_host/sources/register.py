@@ -52,7 +52,7 @@ def part_of_jobs(data: bytes) -> str:
     return "sstat" if USED.encode() in head else "sacct"
 
 
-class Reader(NamedTuple):
+class SourceKind(NamedTuple):
     """One kind of source: the module that reads it, and whether a file of a name is one."""
 
     module: str
@@ -69,27 +69,28 @@ class Reader(NamedTuple):
 
 # In the order in which they are tried. A folder is a tree; what is none of these is a script.
 READERS = {
-    "toml": Reader("hostfile", is_toml, "A host file, with amounts such as 250m, 1.5cpu or 40%."),
-    "slurm": Reader(
+    "toml": SourceKind("hostfile", is_toml,
+                       "A host file, with amounts such as 250m, 1.5cpu or 40%."),
+    "slurm": SourceKind(
         "slurm", lambda _, data: bool(part_of_jobs(data)),
         "What `squeue --json` or `sacct --parsable2` print, and beside them `sstat --parsable2` and"
         " `sinfo --json`. Newer versions have `scontrol show job --json` and `scontrol show node"
         " --json`. Columns of sacct that are read: JobID, JobIDRaw, JobName, User, State,"
         " AllocCPUS, Elapsed, TotalCPU, NodeList.", part_of_jobs),
-    "docker": Reader(
+    "docker": SourceKind(
         "containers", lambda _, data: is_json(data) and b'"HostConfig"' in data,
         "What `docker inspect` or `podman inspect` prints.", is_measured=True, is_here=True),
-    "kubernetes": Reader(
+    "kubernetes": SourceKind(
         "kubernetes", lambda _, data: is_json(data) and bool(OBJECTS.search(data)),
         "What `kubectl get pods -o json` prints, and a node's JSON beside it.", part_of_pods, True),
-    "json": Reader("hostfile", lambda _, data: is_json(data), "The same in JSON."),
-    "systemd": Reader(
+    "json": SourceKind("hostfile", lambda _, data: is_json(data), "The same in JSON."),
+    "systemd": SourceKind(
         "systemd", lambda _, data: bool(UNITS.search(data)),
         "What `systemctl show '*.slice' '*.service' '*.scope'` prints.", is_here=True),
-    "cgroup": Reader("cgroup2", lambda _, __: False,
+    "cgroup": SourceKind("cgroup2", lambda _, __: False,
                      "A tree of cgroup v2, such as /sys/fs/cgroup, or a copy of its files.",
                      is_here=True),
-    "script": Reader(
+    "script": SourceKind(
         "script", lambda path, _: path.endswith(".script"),
         "A script of arbiter(1). Its first line, `# arbiter run --processors N --period U --slice"
         " U`, is the host."),

@@ -42,7 +42,7 @@ MOST_NODES = 65536
 
 
 @dataclass
-class Step:
+class JobStep:
     """A step, or a job without steps: CPUs allotted on one node, microseconds used there and
     passed, and the nodes."""
 
@@ -53,14 +53,14 @@ class Step:
 
 
 @dataclass
-class Job:
+class SlurmJob:
     """A job that runs on the node."""
 
     identifier: str
     user: str = ""
     name: str = ""
-    whole: Step = field(default_factory=Step)
-    steps: dict[str, Step] = field(default_factory=dict)
+    whole: JobStep = field(default_factory=JobStep)
+    steps: dict[str, JobStep] = field(default_factory=dict)
     # The nodes of the job, and whether it was allotted cores; None where that is not told.
     nodes: list[str] = field(default_factory=list)
     has_cores: bool | None = None
@@ -167,9 +167,9 @@ def alias_of(raw: dict[str, Any]) -> str:
     return ""
 
 
-def job_of(raw: dict[str, Any], node: str) -> Job:
+def job_of(raw: dict[str, Any], node: str) -> SlurmJob:
     """A job of `squeue --json` or `scontrol show job --json`."""
-    job = Job(str(number(raw, "job_id")), text(raw, "user_name"), text(raw, "name"),
+    job = SlurmJob(str(number(raw, "job_id")), text(raw, "user_name"), text(raw, "name"),
               alias=alias_of(raw))
     job.nodes = hosts_of(text(raw, "nodes"))
     told = allotted(raw)
@@ -181,7 +181,7 @@ def job_of(raw: dict[str, Any], node: str) -> Job:
     return job
 
 
-def take_jobs(data: Any, node: str, jobs: dict[str, Job]) -> int:
+def take_jobs(data: Any, node: str, jobs: dict[str, SlurmJob]) -> int:
     """Takes the jobs of one file that run. Returns how many do not."""
     left = 0
     for raw in tables(data, "jobs"):
@@ -210,14 +210,14 @@ def rows_of(data: bytes, name: str) -> Iterator[tuple[int, dict[str, str]]]:
             raise HostFault(f"{name}:{at}: {len(cells)} cells and not {len(head)}")
 
 
-def step_of(row: dict[str, str], nodes: Sequence[str]) -> Step:
+def step_of(row: dict[str, str], nodes: Sequence[str]) -> JobStep:
     """The figures of a row on each of its nodes, to which they are shared out equally.
 
     One that runs and used nothing yet is not accounted yet.
     """
     word, many = row.get("AllocCPUS", ""), max(len(nodes), 1)
     cpus = int(word) if word.isascii() and word.isdigit() and len(word) < 10 else 0
-    step = Step(-(-cpus // many), nodes=nodes)
+    step = JobStep(-(-cpus // many), nodes=nodes)
     if row.get("TotalCPU") and row.get("Elapsed"):
         step.used, step.passed = time_of(row["TotalCPU"]) // many, time_of(row["Elapsed"])
         if step.used == 0 and row.get("State", "RUNNING").startswith("RUNNING"):
@@ -225,7 +225,7 @@ def step_of(row: dict[str, str], nodes: Sequence[str]) -> Step:
     return step
 
 
-def take_row(row: dict[str, str], jobs: dict[str, Job], aliases: Mapping[str, str]) -> bool:
+def take_row(row: dict[str, str], jobs: dict[str, SlurmJob], aliases: Mapping[str, str]) -> bool:
     """Takes a row of sacct. Returns whether it is of something that runs."""
     word = row.get("JobIDRaw") or row.get("JobID") or ""
     match = IDENTIFIER.fullmatch(word)
@@ -234,7 +234,7 @@ def take_row(row: dict[str, str], jobs: dict[str, Job], aliases: Mapping[str, st
     if not row.get("State", "RUNNING").split(" ")[0] in RUNNING:
         return False
     name = aliases.get(match.group(1), match.group(1))
-    job = jobs.setdefault(name, Job(name, is_raw=name.isdigit()))
+    job = jobs.setdefault(name, SlurmJob(name, is_raw=name.isdigit()))
     nodes = hosts_of(row.get("NodeList", "").replace("None assigned", "")) or job.nodes
     step = step_of(row, nodes)
     if match.group(2):
@@ -242,11 +242,11 @@ def take_row(row: dict[str, str], jobs: dict[str, Job], aliases: Mapping[str, st
         return True
     job.user, job.name = row.get("User") or job.user, row.get("JobName") or job.name
     job.nodes = job.nodes or nodes
-    job.whole = Step(job.whole.cpus or step.cpus, step.used, step.passed)
+    job.whole = JobStep(job.whole.cpus or step.cpus, step.used, step.passed)
     return True
 
 
-def take_rows(data: bytes, name: str, jobs: dict[str, Job]) -> int:
+def take_rows(data: bytes, name: str, jobs: dict[str, SlurmJob]) -> int:
     """Takes the rows of one file. Returns how many are of what does not run."""
     left, aliases = 0, {job.alias: key for key, job in jobs.items() if job.alias}
     for at, row in rows_of(data, name):
@@ -257,7 +257,7 @@ def take_rows(data: bytes, name: str, jobs: dict[str, Job]) -> int:
     return left
 
 
-def take_used(data: bytes, name: str, jobs: Mapping[str, Job]) -> None:
+def take_used(data: bytes, name: str, jobs: Mapping[str, SlurmJob]) -> None:
     """Takes what sstat says that steps which run have used."""
     for at, row in rows_of(data, name):
         match = IDENTIFIER.fullmatch(row.get("JobID", ""))
@@ -271,7 +271,7 @@ def take_used(data: bytes, name: str, jobs: Mapping[str, Job]) -> None:
             raise HostFault(f"{name}:{at}: {fault.message}") from fault
 
 
-def node_of(nodes: Sequence[dict[str, Any]], jobs: Sequence[Job], wanted: str) -> str:
+def node_of(nodes: Sequence[dict[str, Any]], jobs: Sequence[SlurmJob], wanted: str) -> str:
     """The name of the node: the one asked for, else the only one."""
     if wanted:
         return wanted
@@ -292,14 +292,14 @@ def host_of(nodes: Sequence[dict[str, Any]], name: str) -> Host:
                  " --cpus")
 
 
-class Builder:
+class JobBuilder:
     """Makes the groups of jobs."""
 
     def __init__(self, model: Model) -> None:
         self.model = model
         self.measured: dict[str, Measured] = {}
 
-    def group(self, path: str, title: str, place: str, step: Step) -> None:
+    def group(self, path: str, title: str, place: str, step: JobStep) -> None:
         """Makes a group."""
         self.model.add(Group(path, title=title, place=place))
         known = step.used is not None and step.passed > 0
@@ -307,7 +307,7 @@ class Builder:
         readings = [Reading(0), Reading(rate)] if known else []
         self.measured[path] = Measured(readings, Fraction(1000 * step.cpus), step.cpus or None)
 
-    def job(self, job: Job) -> None:
+    def job(self, job: SlurmJob) -> None:
         """Makes a job and its steps."""
         path = names.path_name(":".join(job.parts), self.model.groups)
         place = f"{TOP}/job_{job.identifier}" if job.is_raw else NOWHERE
@@ -315,10 +315,10 @@ class Builder:
         for name, step in job.steps.items():
             below = f"{place}/step_{name}" if job.is_raw else NOWHERE
             self.group(f"{path}/{names.path_name(f'step_{name}', ())}", f"{job.title}/{name}",
-                       below, Step(step.cpus or job.whole.cpus, step.used, step.passed))
+                       below, JobStep(step.cpus or job.whole.cpus, step.used, step.passed))
 
 
-def take_allotted(jobs: Sequence[Job], model: Model) -> None:
+def take_allotted(jobs: Sequence[SlurmJob], model: Model) -> None:
     """Takes the CPUs that a job was allotted where no use of what runs of it is known.
 
     Slurm accounts for a step when it ends. So the whole job has the use of steps that have ended.
@@ -333,7 +333,7 @@ def take_allotted(jobs: Sequence[Job], model: Model) -> None:
                            " they were allotted are taken (`sstat -a --parsable2` has their use)")
 
 
-def tell(model: Model, jobs: Sequence[Job], left: int) -> None:
+def tell(model: Model, jobs: Sequence[SlurmJob], left: int) -> None:
     """Tells what is left out, and which jobs were allotted cores of their own."""
     if left:
         model.notes.append(f"jobs and steps that do not run, left out: {left}")
@@ -360,9 +360,9 @@ def check_parts(first: str, names_: Mapping[str, str]) -> None:
                         " --parsable2` print them")
 
 
-def jobs_of(files: Mapping[str, list[File]], node: str) -> tuple[dict[str, Job], int]:
+def jobs_of(files: Mapping[str, list[File]], node: str) -> tuple[dict[str, SlurmJob], int]:
     """The jobs of files by their parts, and how many do not run."""
-    jobs: dict[str, Job] = {}
+    jobs: dict[str, SlurmJob] = {}
     left = sum(take_jobs(loads(data, name), node, jobs) for name, data in files["jobs"])
     left += sum(take_rows(data, name, jobs) for name, data in files["sacct"])
     for name, data in files["sstat"]:
@@ -370,7 +370,7 @@ def jobs_of(files: Mapping[str, list[File]], node: str) -> tuple[dict[str, Job],
     return jobs, left
 
 
-def on_node(jobs: Sequence[Job], name: str) -> list[Job]:
+def on_node(jobs: Sequence[SlurmJob], name: str) -> list[SlurmJob]:
     """The jobs of a node, each with its steps there."""
     here = [each for each in jobs if not each.nodes or name in each.nodes or not name]
     for job in here:
@@ -397,7 +397,7 @@ def read(files: Sequence[File], _: Library, wish: Wish) -> Model:
     want = wish.want or ("usage" if parts["sacct"] else "request")
     if parts["sacct"] and not wish.want:
         take_allotted(here, model)
-    builder = Builder(model)
+    builder = JobBuilder(model)
     for job in here:
         builder.job(job)
     tell(model, here, left)

@@ -221,7 +221,7 @@ class Units(Owned):
 
 
 @dataclass(frozen=True)
-class Source(Units):
+class UnitSource(Units):
     """Units as they were read. `CPUWeight=` and `CPUQuota=` of them can be changed."""
 
     host: Host
@@ -255,11 +255,11 @@ class Source(Units):
         """Whether a group is a unit that was printed."""
         return path in self.properties
 
-    def on_host(self, host: Host) -> Source:
+    def on_host(self, host: Host) -> UnitSource:
         """The same on another host."""
         return replace(self, host=host)
 
-    def changed(self, settings: Sequence[Setting]) -> Source:
+    def changed(self, settings: Sequence[Setting]) -> UnitSource:
         """The same with other weights and quotas."""
         units_ = dict(self.properties)
         for setting in settings:
@@ -288,7 +288,7 @@ def percent(hundredths: Fraction) -> str:
     return f"{units.decimal(hundredths / 100, 2)}%"
 
 
-def source_of(files: Sequence[File], host: Host, want: str, seconds: Fraction) -> Source:
+def source_of(files: Sequence[File], host: Host, want: str, seconds: Fraction) -> UnitSource:
     """The units of one file, or of several that were printed some seconds apart."""
     readings = [{path_of(unit): unit for unit in blocks(data)} for _, data in files]
     units_ = {path: unit for path, unit in readings[0].items()
@@ -296,7 +296,7 @@ def source_of(files: Sequence[File], host: Host, want: str, seconds: Fraction) -
     if not any("Id" in unit for unit in readings[0].values()):
         raise HostFault(f"{files[0][0]}: no units as `systemctl show '*.slice' '*.service'"
                         " '*.scope'` prints them")
-    return Source(host, seconds, units_, tuple(readings),
+    return UnitSource(host, seconds, units_, tuple(readings),
                   any(path_of(unit) == "" for unit in readings[0].values()), want=want)
 
 

@@ -28,7 +28,7 @@ def change(group: Group, setting: Setting, notes: list[str]) -> None:
 
 
 @dataclass(frozen=True)
-class Source(systemd.Units):
+class TreeSource(systemd.Units):
     """A tree as it was read, and the settings of its units that were changed since."""
 
     tree: Model
@@ -55,11 +55,11 @@ class Source(systemd.Units):
         folder = raw_path(path)
         return path in self.tree.groups and bool(folder and systemd.unit_of(folder))
 
-    def on_host(self, host: Host) -> Source:
+    def on_host(self, host: Host) -> TreeSource:
         """The same on another host."""
         return replace(self, tree=self.tree.with_host(host))
 
-    def changed(self, settings: Sequence[Setting]) -> Source:
+    def changed(self, settings: Sequence[Setting]) -> TreeSource:
         """The same with other weights and quotas."""
         for setting in settings:
             systemd.check(setting)
