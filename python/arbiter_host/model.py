@@ -174,8 +174,7 @@ def told_bound(paths: Sequence[str]) -> list[str]:
 def check_count(many: int, what: str) -> None:
     """A fault where so many groups below the root are more than the planner takes."""
     if many >= MAX_GROUPS:
-        raise HostFault(f"{what}: more than {MAX_GROUPS} groups with the root; --depth-read leaves"
-                        " some out")
+        raise HostFault(f"{what}: more than {MAX_GROUPS} groups with the root")
 
 
 def checked_number(value: int, least: int, most: int, what: str) -> int:

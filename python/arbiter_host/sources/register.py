@@ -88,8 +88,8 @@ READERS = {
         "systemd", lambda _, data: bool(UNITS.search(data)),
         "What `systemctl show '*.slice' '*.service' '*.scope'` prints.", is_here=True),
     "cgroup": SourceKind("cgroup2", lambda _, __: False,
-                     "A tree of cgroup v2, such as /sys/fs/cgroup, or a copy of its files.",
-                     is_here=True),
+                         "A tree of cgroup v2, such as /sys/fs/cgroup, or a copy of its files.",
+                         is_here=True),
     "script": SourceKind(
         "script", lambda path, _: path.endswith(".script"),
         "A script of arbiter(1). Its first line, `# arbiter run --processors N --period U --slice"
