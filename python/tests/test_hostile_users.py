@@ -9,9 +9,10 @@ from pathlib import Path
 
 import pytest
 from arbiter_host import apply, gauges, metrics, names, record
+from arbiter_host.atomic_files import Document
 from arbiter_host.audit import written
 from arbiter_host.exports import files
-from arbiter_host.exports.base import MARK, Document
+from arbiter_host.exports.base import MARK
 from arbiter_host.faults import HostFault
 
 NOBODY = 65534
