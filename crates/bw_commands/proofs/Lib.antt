@@ -8,4 +8,7 @@ mod Within
 mod PathLists
 mod OnlyMemory
 mod Kept
+mod Parts
+mod Taken
+mod Served
 pub mod CallerLemmas

@@ -16,3 +16,4 @@ pub mod Reported
 pub mod LineText
 pub mod Script
 pub mod ScriptState
+pub mod Reading

@@ -1,5 +1,5 @@
 -- The meaning of a line of a script: the text that it prints, and the state after it.
-use Rattle.std.specs.Prelude.{ℕ, ◌≡◌, ◌⊎◌, List, [], ◌∷◌, ◌++◌, nat_lt, if◌then◌else◌, codes}
+use Rattle.std.specs.Prelude.{ℕ, ◌≡◌, ◌≢◌, ◌⊎◌, List, [], ◌∷◌, ◌++◌, nat_lt, if◌then◌else◌, codes}
 use Rattle.std.specs.Prelude.{length, Result, Ok, Err, Option, Some, None}
 use Rattle.std.specs.Str.{is_utf8}
 use Rattle.bw_text.specs.Number.{number_spelled}
@@ -15,7 +15,7 @@ use Rattle.bw_commands.specs.Period.{IsPeriod}
 use Rattle.bw_commands.specs.Reported.{IsReport}
 use Rattle.bw_commands.specs.Command.{Command, command_of_line}
 use Rattle.bw_commands.specs.Command as command
-use Rattle.bw_commands.specs.Faults.{error_line}
+use Rattle.bw_commands.specs.Faults.{error_line, script_fault_number}
 use Rattle.bw_commands.specs.declared.fault.ScriptFault.{ScriptFault}
 use Rattle.bw_commands.specs.declared.fault.ScriptFault.TheVariants as fault
 
@@ -162,3 +162,7 @@ abbrev pub Performs : {U : Type 0} → State → Outcome → Result U ScriptFaul
     → Type 0
 Performs s outcome (Ok u) text next = Gives s outcome text next
 Performs s outcome (Err f) text next = (next ≡ s) × IsOutcome s outcome (error_line f) s
+
+-- From s an outcome is the refusal by this fault, unless memory was refused, by the number 71.
+abbrev pub IsRefusedBy : State → Outcome → ScriptFault → Type 0
+IsRefusedBy s outcome fault = script_fault_number fault ≢ 71 → outcome ≡ refused s fault

@@ -14,3 +14,7 @@ with_hierarchy s h = record { hierarchy = h; uses = s.uses }
 -- before the first line there is the root alone
 abbrev pub start : Shape → (ℕ → Bool) → State
 start shape uses = record { hierarchy = new_hierarchy shape; uses = uses }
+
+-- the state of a hierarchy, by which leaves use their slices
+abbrev pub in_state : (ℕ → Bool) → HierarchyState → State
+in_state uses h = record { hierarchy = h; uses = uses }

@@ -13,11 +13,9 @@ use crate::word::split_word;
 /// Maximum length of a line in bytes. A longer line is refused.
 pub const LINE_BYTES: usize = 65536;
 
-/// The request of a line of a script.
+/// A change of the groups or of their files. Its answer is `ok`, or its refusal.
 #[derive(Clone, Copy)]
-pub enum Command<'a> {
-    /// No word, or a comment, whose first word begins with `#`.
-    Nothing,
+pub enum Change<'a> {
     /// `mkdir P` makes a group.
     Mkdir {
         path: &'a str,
@@ -31,17 +29,19 @@ pub enum Command<'a> {
         path: &'a str,
         number: &'a str,
     },
-    /// `read P FILE` prints a file of a group.
-    Read {
-        path: &'a str,
-        file: &'a str,
-    },
     /// `write P FILE TEXT` writes a file of a group. The text is all that follows the third word.
     Write {
         path: &'a str,
         file: &'a str,
         text: &'a str,
     },
+}
+
+/// A question, whose answer is a text of its own. `period` alone changes the state.
+#[derive(Clone, Copy)]
+pub enum Question<'a> {
+    /// `read P FILE` prints a file of a group.
+    Read { path: &'a str, file: &'a str },
     /// `total` prints the greatest total, the limits that hold it down, and the demands outside
     /// them.
     Total,
@@ -53,6 +53,17 @@ pub enum Command<'a> {
     Period,
     /// `report` prints the counters of each group.
     Report,
+}
+
+/// The request of a line of a script.
+#[derive(Clone, Copy)]
+pub enum Command<'a> {
+    /// No word, or a comment, whose first word begins with `#`.
+    Nothing,
+    /// A change.
+    Change(Change<'a>),
+    /// A question.
+    Question(Question<'a>),
 }
 
 impl<'a> Command<'a> {
@@ -207,43 +218,41 @@ fn of_verb<'a>(
         ≡ command_of_form count (form_named verb.now (forms path.now word.now text.now)) }
 {
     if is_verb(verb, "mkdir") {
-        return counted(count, 1, 1, Command::Mkdir { path });
+        return counted(count, 1, 1, Command::Change(Change::Mkdir { path }));
     }
     if is_verb(verb, "rmdir") {
-        return counted(count, 1, 1, Command::Rmdir { path });
+        return counted(count, 1, 1, Command::Change(Change::Rmdir { path }));
     }
     if is_verb(verb, "demand") {
-        return counted(count, 2, 2, Command::Demand { path, number: word });
+        let change = Change::Demand { path, number: word };
+        return counted(count, 2, 2, Command::Change(change));
     }
     if is_verb(verb, "read") {
-        return counted(count, 2, 2, Command::Read { path, file: word });
+        let question = Question::Read { path, file: word };
+        return counted(count, 2, 2, Command::Question(question));
     }
     if is_verb(verb, "write") {
-        return counted(
-            count,
-            2,
-            3,
-            Command::Write {
-                path,
-                file: word,
-                text,
-            },
-        );
+        let change = Change::Write {
+            path,
+            file: word,
+            text,
+        };
+        return counted(count, 2, 3, Command::Change(change));
     }
     if is_verb(verb, "total") {
-        return counted(count, 0, 0, Command::Total);
+        return counted(count, 0, 0, Command::Question(Question::Total));
     }
     if is_verb(verb, "plan") {
-        return counted(count, 0, 0, Command::Plan);
+        return counted(count, 0, 0, Command::Question(Question::Plan));
     }
     if is_verb(verb, "cert") {
-        return counted(count, 0, 0, Command::Cert);
+        return counted(count, 0, 0, Command::Question(Question::Cert));
     }
     if is_verb(verb, "period") {
-        return counted(count, 0, 0, Command::Period);
+        return counted(count, 0, 0, Command::Question(Question::Period));
     }
     if is_verb(verb, "report") {
-        return counted(count, 0, 0, Command::Report);
+        return counted(count, 0, 0, Command::Question(Question::Report));
     }
     Err(ScriptFault::BadCommand)
 }

@@ -1,25 +1,19 @@
-//! The state of a script, and what each command does to it.
-ghost use Rattle.std.specs.Prelude.{◌≡◌, ◌≤◌, [], IfOk, IfErr, MatchOption};
+//! The state of a script: what changes it, and what answers a question.
+ghost use Rattle.std.specs.Prelude.{◌≡◌, ◌≤◌, [], IfOk, IfErr};
 ghost use Rattle.bw_tree.specs.declared.fault.TreeFault.TheVariants.{OutOfMemory};
 ghost use Rattle.bw_hierarchy.specs.declared.fault.Fault.TheVariants.{Tree};
 ghost use Rattle.std.specs.Vec.{vec_capacity};
-ghost use Rattle.bw_text.specs.Number.{number_spelled};
-ghost use Rattle.bw_commands.specs.Script.{outcome_of_command, mkdir_outcome, rmdir_outcome};
-ghost use Rattle.bw_commands.specs.Script.{demand_outcome, read_outcome, write_outcome};
-ghost use Rattle.bw_commands.specs.Script.{ok_line, Performs};
+ghost use Rattle.bw_commands.specs.Script.{outcome_of_command, read_outcome, ok_line, Performs};
 ghost use Rattle.bw_commands.specs.State.{start};
 ghost use Rattle.bw_commands.specs.ScriptState.{state_of};
-ghost use Rattle.bw_commands.specs.Parsed.{meaning_of};
-ghost use Rattle.bw_commands.specs.declared.refusal.TheConstants.{REFUSAL_BYTES};
+ghost use Rattle.bw_commands.specs.Parsed.{change_of, question_of};
 
 use crate::answers::{put_certified, put_plan, put_report, put_total, serve_period};
-use crate::command::Command;
+use crate::change::apply_change;
+use crate::command::{Change, Question};
 use crate::fault::ScriptFault;
-use crate::refusal::REFUSAL_BYTES;
 use bw_hierarchy::{Fault, Hierarchy};
 use bw_model::HostShape;
-use bw_streams::put;
-use bw_text::{NumberFault, read_number};
 use bw_workers::Gate;
 use std::alloc::Global;
 use std::hash::RandomState;
@@ -59,44 +53,6 @@ impl<'a, G: Gate> Script<'a, G> {
         })
     }
 
-    // `mkdir P`, whose answer is `ok`.
-    #[tactic(auto, unfolding(crate::specs::Script::mkdir_outcome))]
-    fn mkdir(&mut self, path: &str) -> Result<(), ScriptFault>
-        ensures { Performs (state_of G.used self.old)
-            (mkdir_outcome (state_of G.used self.old) path.now) result ok_line
-            (state_of G.used self.new) }
-    {
-        let _id = self.hierarchy.mkdir(path)?;
-        Ok(())
-    }
-
-    // `rmdir P`, whose answer is `ok`.
-    #[tactic(auto, unfolding(crate::specs::Script::rmdir_outcome))]
-    fn rmdir(&mut self, path: &str) -> Result<(), ScriptFault>
-        ensures { Performs (state_of G.used self.old)
-            (rmdir_outcome (state_of G.used self.old) path.now) result ok_line
-            (state_of G.used self.new) }
-    {
-        Ok(self.hierarchy.rmdir(path)?)
-    }
-
-    // `demand P N`, whose answer is `ok`.
-    #[tactic(auto, unfolding(crate::specs::Script::demand_outcome))]
-    fn demand(&mut self, path: &str, number: &str) -> Result<(), ScriptFault>
-        ensures { Performs (state_of G.used self.old)
-            (demand_outcome (state_of G.used self.old) path.now (number_spelled number.now)) result
-            ok_line
-            (state_of G.used self.new) }
-    {
-        let demand = match read_number(number.as_bytes()) {
-            Ok(demand) => demand,
-            Err(NumberFault::BadForm) => return Err(ScriptFault::BadNumber),
-            // above every demand that a group may have
-            Err(NumberFault::TooGreat) => u64::MAX,
-        };
-        Ok(self.hierarchy.set_demand(path, demand)?)
-    }
-
     // `read P FILE`
     #[tactic(auto, unfolding(crate::specs::Script::read_outcome))]
     fn read(&self, path: &str, file: &str, answer: &mut Vec<u8>) -> Result<(), ScriptFault>
@@ -109,81 +65,51 @@ impl<'a, G: Gate> Script<'a, G> {
         Ok(self.hierarchy.read_file_into(path, file, answer)?)
     }
 
-    // `write P FILE TEXT`, whose answer is `ok`.
-    #[tactic(auto, unfolding(crate::specs::Script::write_outcome))]
-    fn write(&mut self, path: &str, file: &str, text: &str) -> Result<(), ScriptFault>
-        ensures { Performs (state_of G.used self.old)
-            (write_outcome (state_of G.used self.old) path.now file.now text.now) result ok_line
-            (state_of G.used self.new) }
-    {
-        Ok(self.hierarchy.write_file(path, file, text.as_bytes())?)
-    }
-
-    /// Makes the change of a `mkdir`, `rmdir`, `demand` or `write`, whose answer is `ok`. For any
-    /// other command it is `None`, and nothing is changed.
+    /// Makes a change, whose answer is `ok`.
     ///
     /// # Errors
     ///
     /// The refusal of the line; it changes nothing.
     #[inline(always)]
-    pub fn change(&mut self, command: Command<'_>) -> Option<Result<(), ScriptFault>>
-        ensures { MatchOption result (state_of G.used self.new ≡ state_of G.used self.old)
-            (λ done. Performs (state_of G.used self.old)
-            (outcome_of_command (state_of G.used self.old) (meaning_of command.entry))
-            done ok_line (state_of G.used self.new)) }
+    pub fn change(&mut self, change: Change<'_>) -> Result<(), ScriptFault>
+        ensures { Performs (state_of G.used self.old)
+            (outcome_of_command (state_of G.used self.old) (change_of change.entry)) result ok_line
+            (state_of G.used self.new) }
     {
-        match command {
-            Command::Mkdir { path } => Some(self.mkdir(path)),
-            Command::Rmdir { path } => Some(self.rmdir(path)),
-            Command::Demand { path, number } => Some(self.demand(path, number)),
-            Command::Write { path, file, text } => Some(self.write(path, file, text)),
-            _ => None,
-        }
+        apply_change(&mut self.hierarchy, change)
     }
 
-    /// Forms the whole answer to a command in an empty buffer, and then makes its change.
+    /// Forms the whole answer to a question in an empty buffer. A `period` then changes the state.
     ///
     /// # Errors
     ///
     /// The refusal of the line; it changes nothing.
     #[tactic(auto, unfolding(crate::specs::Faults::error_line))]
-    pub fn perform<H: Threads + Wait + Clock + Sync>(
+    pub fn answer<H: Threads + Wait + Clock + Sync>(
         &mut self,
         rt: &H,
-        command: Command<'_>,
+        question: Question<'_>,
         answer: &mut Vec<u8>,
     ) -> Result<(), ScriptFault>
-        requires empty { answer.old.items ≡ [] }
-        requires room { REFUSAL_BYTES ≤ vec_capacity answer.old }
+        requires { answer.old.items ≡ [] }
         ensures outcome { Performs (state_of G.used self.old)
-            (outcome_of_command (state_of G.used self.old) (meaning_of command.entry))
+            (outcome_of_command (state_of G.used self.old) (question_of question.entry))
             result answer.new.items (state_of G.used self.new) }
         ensures room { vec_capacity answer.old ≤ vec_capacity answer.new }
     {
-        match command {
-            Command::Nothing => Ok(()),
-            Command::Mkdir { path } => {
-                put(answer, b"ok\n");
-                self.mkdir(path)
-            }
-            Command::Rmdir { path } => {
-                put(answer, b"ok\n");
-                self.rmdir(path)
-            }
-            Command::Demand { path, number } => {
-                put(answer, b"ok\n");
-                self.demand(path, number)
-            }
-            Command::Read { path, file } => self.read(path, file, answer),
-            Command::Write { path, file, text } => {
-                put(answer, b"ok\n");
-                self.write(path, file, text)
-            }
-            Command::Total => Ok(put_total(self.alloc, &self.hierarchy, answer)?),
-            Command::Plan => Ok(put_plan(rt, self.alloc, &self.hierarchy, answer)?),
-            Command::Cert => Ok(put_certified(rt, self.alloc, &self.hierarchy, answer)?),
-            Command::Period => serve_period(rt, self.alloc, &mut self.hierarchy, self.gate, answer),
-            Command::Report => Ok(put_report(self.alloc, &self.hierarchy, answer)?),
+        match question {
+            Question::Read { path, file } => self.read(path, file, answer),
+            Question::Total => Ok(put_total(self.alloc, &self.hierarchy, answer)?),
+            Question::Plan => Ok(put_plan(rt, self.alloc, &self.hierarchy, answer)?),
+            Question::Cert => Ok(put_certified(rt, self.alloc, &self.hierarchy, answer)?),
+            Question::Period => serve_period(
+                rt,
+                self.alloc,
+                &mut self.hierarchy,
+                self.gate,
+                answer,
+            ),
+            Question::Report => Ok(put_report(self.alloc, &self.hierarchy, answer)?),
         }
     }
 }

@@ -8,8 +8,8 @@ use Rattle.bw_model.specs.Host.{Shape, IsHost, host_refusal}
 use Rattle.bw_model.specs.Faults.{host_fault_number}
 use Rattle.bw_model.proofs.CallerLemmas.{IsHost-accepted}
 use Rattle.bw_hierarchy.specs.State.{HierarchyState}
-use Rattle.bw_script.specs.Reading.{IsRead}
-use Rattle.bw_script.specs.declared.reading.RefusedLine.{RefusedLine}
+use Rattle.bw_commands.specs.Reading.{IsRead}
+use Rattle.bw_commands.specs.declared.reading.RefusedLine.{RefusedLine}
 use Rattle.bw_columns.specs.Groups.{Told, told_of, on_columns, on_front}
 use Rattle.bw_exports.specs.Script.{Room, is_even, early_number, with_told, written, fits}
 use Rattle.bw_exports.specs.Script.{has_room, line_numbers, fault_numbers, room_of, IsScriptAnswer}

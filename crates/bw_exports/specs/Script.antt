@@ -6,8 +6,8 @@ use Rattle.bw_model.specs.Host.{Shape, host_refusal}
 use Rattle.bw_model.specs.Faults.{host_fault_number}
 use Rattle.bw_hierarchy.specs.State.{HierarchyState}
 use Rattle.bw_commands.specs.Faults.{script_fault_number}
-use Rattle.bw_script.specs.Reading.{IsRead}
-use Rattle.bw_script.specs.declared.reading.RefusedLine.{RefusedLine}
+use Rattle.bw_commands.specs.Reading.{IsRead}
+use Rattle.bw_commands.specs.declared.reading.RefusedLine.{RefusedLine}
 use Rattle.bw_columns.specs.Asked.{are_of_length}
 use Rattle.bw_columns.specs.Groups.{Told, told_of, on_front, on_columns}
 

@@ -2,8 +2,8 @@
 use Rattle.std.specs.Prelude.{◌≡◌, ℕ, List}
 use Rattle.bw_model.specs.Host.{Shape}
 use Rattle.bw_hierarchy.specs.State.{HierarchyState}
-use Rattle.bw_script.specs.Reading.{IsRead}
-use Rattle.bw_script.specs.declared.reading.RefusedLine.{RefusedLine}
+use Rattle.bw_commands.specs.Reading.{IsRead}
+use Rattle.bw_commands.specs.declared.reading.RefusedLine.{RefusedLine}
 use Rattle.bw_columns.specs.Groups.{told_of, columns_of}
 use Rattle.bw_exports.specs.Script.{line_numbers, fault_numbers}
 use Rattle.bw_exports.specs.declared.told.Told.{Told}

@@ -6,9 +6,9 @@ ghost use Rattle.bw_exports.specs.Script.{line_numbers, fault_numbers};
 ghost use Rattle.bw_exports.specs.ScriptTold.{IsTold};
 
 use bw_columns::{GroupColumns, group_columns};
+use bw_commands::{RefusedLine, read_script};
 use bw_hierarchy::Fault;
 use bw_model::HostShape;
-use bw_script::{RefusedLine, read_script};
 use std::alloc::{AllocError, Global};
 
 /// The groups after a script, and its refused lines, by column.

@@ -2,18 +2,18 @@
 use Rattle.std.proofs.Common.{◌≡◌, ◌≤◌, ◌+◌, ◌-◌, ◌==◌, false, min, ℕ, zero, suc, List, take}
 use Rattle.std.proofs.Common.{[], ◌∷◌, ◌++◌, refl, sym, ◌∙◌, ap, subst, arith}
 use Rattle.std.proofs.Common.{append_assoc, append-nil, length-append, length, Some, inl, inr}
-use Rattle.std.specs.Prelude.{Result, Ok, Err}
+use Rattle.std.specs.Prelude.{Result}
 use Rattle.std.proofs.lemmas.Bool.{cases_lt, lt-ltb, le-ltb}
 use Rattle.std.proofs.lemmas.Bool.Decides.{eqb_tells}
 use Rattle.bw_commands.specs.State.{State}
 use Rattle.bw_commands.specs.Script.{Outcome, IsAnswer, IsOutcome, outcome_of_kept, kept_of}
-use Rattle.bw_commands.specs.Script.{Performs, ok_line}
+use Rattle.bw_commands.specs.Script.{outcome_of_request, request_of_kept}
+use Rattle.bw_commands.specs.Command.{Command}
 use Rattle.bw_commands.specs.Script.Outcome.{Silent, Says, Prints, Total, Plan, Cert, Period}
 use Rattle.bw_commands.specs.Script.Outcome.{Report}
 use Rattle.bw_commands.specs.Faults.{error_line}
 use Rattle.bw_commands.specs.declared.fault.ScriptFault.TheVariants.{OutOfMemory}
 use Rattle.bw_commands.specs.declared.fault.ScriptFault.{ScriptFault}
-use Rattle.bw_shell.specs.Responder.{change_text}
 use Rattle.bw_shell.specs.Transcript.{Answers, IsTranscript}
 use Rattle.bw_commands.specs.Lines.{lines_of, whole_lines_of}
 use Rattle.bw_shell.specs.Scan.{Scan, TakesByte, TakesBytes, TakesLine, Finishes, kept_with}
@@ -87,11 +87,13 @@ answered s Cert = (error_line OutOfMemory, s, inr (refl, refl))
 answered s Period = (error_line OutOfMemory, s, inr (inl refl, refl))
 answered s Report = (error_line OutOfMemory, s, inr (refl, refl))
 
--- a change that was made or refused is answered
-pub change_answers : (s : State) (o : Outcome) (done : Result (Unit {0}) ScriptFault) (t : State)
-    → Performs s o done ok_line t → IsOutcome s o (change_text done) t
-change_answers s o (Ok u) t p = inl p
-change_answers s o (Err f) t p = subst (IsOutcome s o (error_line f)) (sym p.0) p.1
+-- the answer to what a line asks for is the line's
+pub line_answers : (s : State) (line text : List ℕ) (t : State)
+    (asked : Result Command ScriptFault) → asked ≡ request_of_kept (kept_of line)
+    → IsOutcome s (outcome_of_request s asked) text t → IsAnswer s line text t
+unfolding outcome_of_kept
+line_answers s line text t asked e p =
+    subst (λ r. IsOutcome s (outcome_of_request s r) text t) e p
 
 -- so each byte can be taken
 TakesByte-total : (a : Scan) (x : ℕ) → (t : List ℕ) × (b : Scan) × TakesByte a x t b

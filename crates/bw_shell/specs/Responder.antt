@@ -1,11 +1,8 @@
 -- The responder, which answers whole lines, as contracts see it.
-use Rattle.std.specs.Prelude.{ℕ, Bool, List, Result, Ok, Err}
+use Rattle.std.specs.Prelude.{ℕ, Bool, List}
 use Rattle.bw_shell.specs.declared.responder.Responder.{Responder}
 use Rattle.bw_commands.specs.ScriptState.{state_of}
 use Rattle.bw_commands.specs.State.{State}
-use Rattle.bw_commands.specs.Faults.{error_line}
-use Rattle.bw_commands.specs.Script.{ok_line}
-use Rattle.bw_commands.specs.declared.fault.ScriptFault.{ScriptFault}
 
 -- the state of its script, by which leaves a gate uses
 abbrev pub responder_state : {G : Type 0} → (G → ℕ → Bool) → Responder G → State
@@ -14,8 +11,3 @@ responder_state used r = state_of used r.script
 -- the answers that wait to be written
 abbrev pub responder_waits : {G : Type 0} → Responder G → List ℕ
 responder_waits r = r.waiting.items
-
--- the answer to a change that was made or refused
-abbrev pub change_text : {A : Type 0} → Result A ScriptFault → List ℕ
-change_text (Ok done) = ok_line
-change_text (Err fault) = error_line fault

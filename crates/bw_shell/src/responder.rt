@@ -1,8 +1,8 @@
 //! Answers whole lines of a script.
-ghost use Rattle.std.specs.Prelude.{◌≡◌, ◌≤◌, ◌||◌, not, [], Ok, true, OnOk, MatchOption};
+ghost use Rattle.std.specs.Prelude.{◌≡◌, ◌≤◌, ◌||◌, not, [], true, OnOk};
 ghost use Rattle.std.specs.Vec.{vec_capacity};
 ghost use Rattle.bw_commands.specs.Command.{Period};
-ghost use Rattle.bw_commands.specs.Parsed.{request_of};
+ghost use Rattle.bw_commands.specs.Parsed.{request_of, question_of};
 ghost use Rattle.bw_commands.specs.Script.{kept_of, request_of_kept};
 ghost use Rattle.bw_streams.specs.Watched.{is_flushed, HasNoFault};
 ghost use Rattle.bw_shell.specs.Gathers.{GathersText};
@@ -11,7 +11,7 @@ ghost use Rattle.bw_commands.specs.declared.refusal.TheConstants.{REFUSAL_BYTES}
 
 use crate::piece::Piece;
 use crate::waiting::{WAITING_BYTES, flush_waiting, gather, send_waiting};
-use bw_commands::{Command, REFUSAL_BYTES, Script, ScriptFault, put_error};
+use bw_commands::{Change, Command, Question, REFUSAL_BYTES, Script, ScriptFault, put_error};
 use bw_model::HostShape;
 use bw_streams::{RunFault, Watched, flush};
 use bw_workers::Gate;
@@ -34,28 +34,28 @@ fn command_of(line: Piece<'_>) -> Result<Command<'_>, ScriptFault>
 }
 
 // Whether the answer may take long, as each `period` does.
-fn takes_long(asked: Result<Command<'_>, ScriptFault>) -> bool
-    ensures long { request_of asked.entry ≡ Ok Period → result ≡ true }
-    ensures only { result ≡ true → request_of asked.entry ≡ Ok Period }
+fn takes_long(question: Question<'_>) -> bool
+    ensures long { question_of question.entry ≡ Period → result ≡ true }
+    ensures only { result ≡ true → question_of question.entry ≡ Period }
 {
-    matches!(asked, Ok(Command::Period))
+    matches!(question, Question::Period)
 }
 
-// Writes what waits and flushes the writer before a request that may take long, so that no earlier
+// Writes what waits and flushes the writer before a question that may take long, so that no earlier
 // answer waits for it.
 fn flush_before<W: Write>(
-    asked: Result<Command<'_>, ScriptFault>,
+    question: Question<'_>,
     writer: &mut Watched<W>,
     waiting: &mut Vec<u8>,
 ) -> Result<(), RunFault>
     requires { HasNoFault writer.old }
     ensures gathers { GathersText W.contents writer.old writer.new waiting.old.items
         waiting.new.items result [] }
-    ensures empty { OnOk result (request_of asked.entry ≡ Ok Period → waiting.new.items ≡ []) }
-    ensures flushed { OnOk result (request_of asked.entry ≡ Ok Period → is_flushed writer.new
+    ensures empty { OnOk result (question_of question.entry ≡ Period → waiting.new.items ≡ []) }
+    ensures flushed { OnOk result (question_of question.entry ≡ Period → is_flushed writer.new
         ≡ true) }
 {
-    if !takes_long(asked) {
+    if !takes_long(question) {
         return Ok(());
     }
     match send_waiting(writer, waiting) {
@@ -86,15 +86,14 @@ pub struct Responder<'a, G> {
 }
 
 impl<'a, G: Gate> Responder<'a, G> {
-    ghost use Rattle.std.specs.Prelude.{◌≡◌, [], IfOk, OnOk, true, MatchOption};
+    ghost use Rattle.std.specs.Prelude.{◌≡◌, [], IfOk, OnOk, true};
     ghost use Rattle.bw_commands.specs.Faults.{error_line};
-    ghost use Rattle.bw_commands.specs.Parsed.{request_of};
-    ghost use Rattle.bw_commands.specs.Script.{outcome_of_request, IsAnswer, IsOutcome};
-    ghost use Rattle.bw_commands.specs.Script.{Performs, ok_line};
+    ghost use Rattle.bw_commands.specs.Parsed.{change_of, question_of};
+    ghost use Rattle.bw_commands.specs.Script.{outcome_of_command, IsAnswer, IsOutcome};
     ghost use Rattle.bw_commands.specs.State.{State, start};
     ghost use Rattle.bw_shell.specs.Gathers.{Gathers, GathersText};
     ghost use Rattle.bw_shell.specs.Piece.{bytes_of};
-    ghost use Rattle.bw_shell.specs.Responder.{responder_state, responder_waits, change_text};
+    ghost use Rattle.bw_shell.specs.Responder.{responder_state, responder_waits};
     ghost use Rattle.bw_streams.specs.Watched.{is_flushed, HasNoFault};
     ghost use Rattle.bw_streams.specs.Writes.{Writes};
 
@@ -122,58 +121,38 @@ impl<'a, G: Gate> Responder<'a, G> {
         })
     }
 
-    // Forms the answer to a request in the buffer, and makes its change.
-    fn perform<H: Threads + Wait + Clock + Sync>(
-        &mut self,
-        rt: &H,
-        asked: Result<Command<'_>, ScriptFault>,
-    )
+    // Forms the answer to a question in the buffer.
+    fn form<H: Threads + Wait + Clock + Sync>(&mut self, rt: &H, question: Question<'_>)
         ensures outcome { IsOutcome (responder_state G.used self.old)
-            (outcome_of_request (responder_state G.used self.old) (request_of asked.entry))
+            (outcome_of_command (responder_state G.used self.old) (question_of question.entry))
             self.new.answer.items (responder_state G.used self.new) }
         ensures waits { responder_waits self.new ≡ responder_waits self.old }
     {
         self.answer.clear();
-        let performed = match asked {
-            Ok(command) => self.script.perform(rt, command, &mut self.answer),
-            Err(fault) => Err(fault),
-        };
-        if let Err(fault) = performed {
+        if let Err(fault) = self.script.answer(rt, question, &mut self.answer) {
             self.answer.clear();
             put_error(&mut self.answer, fault);
         }
     }
 
-    // Makes the change that a request asks for, if its answer is `ok` or a refusal. Any other
-    // request is left to be answered.
+    // Makes a change, and puts its answer behind those that wait.
     #[inline(always)]
-    fn change(&mut self, asked: Result<Command<'_>, ScriptFault>) -> Option<Result<(), ScriptFault>>
-        ensures done { MatchOption result
-            (responder_state G.used self.new ≡ responder_state G.used self.old)
-            (λ done. Performs (responder_state G.used self.old)
-            (outcome_of_request (responder_state G.used self.old) (request_of asked.entry))
-            done ok_line (responder_state G.used self.new)) }
-        ensures waits { responder_waits self.new ≡ responder_waits self.old }
-    {
-        match asked {
-            Ok(command) => self.script.change(command),
-            Err(fault) => Some(Err(fault)),
-        }
-    }
-
-    // Puts the answer to a change behind those that wait.
-    #[inline(always)]
-    fn answer_change<W: Write>(
+    fn change<W: Write>(
         &mut self,
-        done: Result<(), ScriptFault>,
+        change: Change<'_>,
         writer: &mut Watched<W>,
     ) -> Result<(), RunFault>
         requires { HasNoFault writer.old }
-        ensures gathers { GathersText W.contents writer.old writer.new (responder_waits self.old)
-            (responder_waits self.new) result (change_text done) }
-        ensures state { responder_state G.used self.new ≡ responder_state G.used self.old }
+        ensures { Gathers W.contents writer.old writer.new (responder_waits self.old)
+            (responder_waits self.new) result
+            (λ answer. IsOutcome (responder_state G.used self.old)
+            (outcome_of_command (responder_state G.used self.old) (change_of change.entry)) answer
+            (responder_state G.used self.new))
+            (λ answer. (t : State) × IsOutcome (responder_state G.used self.old)
+            (outcome_of_command (responder_state G.used self.old) (change_of change.entry)) answer
+            t) }
     {
-        match done {
+        match self.script.change(change) {
             Ok(()) => gather(writer, &mut self.waiting, b"ok\n"),
             Err(fault) => self.refuse(fault, writer),
         }
@@ -196,35 +175,35 @@ impl<'a, G: Gate> Responder<'a, G> {
         gather(writer, &mut self.waiting, self.answer.as_slice())
     }
 
-    // Puts the answer to a request behind those that wait. Before one that may take long, these
+    // Puts the answer to a question behind those that wait. Before one that may take long, these
     // are written and the writer is flushed.
     fn answer<H: Threads + Wait + Clock + Sync, W: Write>(
         &mut self,
         rt: &H,
-        asked: Result<Command<'_>, ScriptFault>,
+        question: Question<'_>,
         writer: &mut Watched<W>,
     ) -> Result<(), RunFault>
         requires { HasNoFault writer.old }
         ensures { Gathers W.contents writer.old writer.new (responder_waits self.old)
             (responder_waits self.new) result
             (λ answer. IsOutcome (responder_state G.used self.old)
-            (outcome_of_request (responder_state G.used self.old) (request_of asked.entry)) answer
-            (responder_state G.used self.new))
+            (outcome_of_command (responder_state G.used self.old) (question_of question.entry))
+            answer (responder_state G.used self.new))
             (λ answer. (t : State) × IsOutcome (responder_state G.used self.old)
-            (outcome_of_request (responder_state G.used self.old) (request_of asked.entry)) answer
-            t) }
+            (outcome_of_command (responder_state G.used self.old) (question_of question.entry))
+            answer t) }
     {
-        match flush_before(asked, writer, &mut self.waiting) {
+        match flush_before(question, writer, &mut self.waiting) {
             Ok(()) => {}
             Err(fault) => return Err(fault),
         }
         // no answer waits while a period is served
         let ready = may_begin(
-            takes_long(asked),
+            takes_long(question),
             self.waiting.is_empty() && writer.flushed(),
         );
         prove!(ready);
-        self.perform(rt, asked);
+        self.form(rt, question);
         gather(writer, &mut self.waiting, self.answer.as_slice())
     }
 
@@ -248,10 +227,11 @@ impl<'a, G: Gate> Responder<'a, G> {
             (λ answer. (t : State)
             × IsAnswer (responder_state G.used self.old) (bytes_of line.entry) answer t) }
     {
-        let asked = command_of(line);
-        match self.change(asked) {
-            Some(done) => self.answer_change(done, writer),
-            None => self.answer(rt, asked, writer),
+        match command_of(line) {
+            Ok(Command::Nothing) => Ok(()),
+            Ok(Command::Change(change)) => self.change(change, writer),
+            Ok(Command::Question(question)) => self.answer(rt, question, writer),
+            Err(refusal) => self.refuse(refusal, writer),
         }
     }
 

@@ -2,7 +2,7 @@
 use Rattle.std.proofs.Common.{rules, ◌≡◌, ◌∙◌, true, false, length, refl, sym, subst}
 use Rattle.bw_model.specs.Host.{Shape, IsHost}
 use Rattle.bw_model.specs.Faults.{host_fault_number}
-use Rattle.bw_script.specs.Reading.{IsRead}
+use Rattle.bw_commands.specs.Reading.{IsRead}
 use Rattle.bw_columns.specs.Asked.{asked_host}
 use Rattle.bw_columns.specs.Groups.{columns_with, columns_of}
 use Rattle.bw_columns.proofs.CallerLemmas.{front_by}

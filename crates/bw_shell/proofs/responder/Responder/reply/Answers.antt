@@ -1,55 +1,71 @@
 -- The goals of `Responder::reply` that are answered by hand.
-use Rattle.std.proofs.Common.{ℕ, List, sym, subst}
-use Rattle.bw_commands.specs.Parsed.{request_of}
-use Rattle.bw_commands.specs.Script.{IsAnswer, IsOutcome, outcome_of_kept, outcome_of_request}
-use Rattle.bw_commands.specs.State.{State}
+use Rattle.std.proofs.Common.{[], Ok, Err, inl, refl, append-nil}
+use Rattle.bw_commands.specs.Command as command
+use Rattle.bw_commands.specs.Parsed.{change_of, question_of}
+use Rattle.bw_streams.proofs.CallerLemmas.{Appends-nil}
 use Rattle.bw_shell.specs.Piece.{bytes_of}
-use Rattle.bw_shell.specs.Responder.{responder_state, change_text}
-use Rattle.bw_shell.proofs.Gathered.{Gathers-from, Gathers-map}
-use Rattle.bw_shell.proofs.Scanning.{change_answers}
+use Rattle.bw_shell.specs.Responder.{responder_state}
+use Rattle.bw_shell.proofs.Gathered.{Gathers-map}
+use Rattle.bw_shell.proofs.Scanning.{line_answers}
 use Rattle.bw_shell.proofs.responder.Responder.reply.Goals as goal
 
-pub returns-in-Some : goal.returns-in-Some
-unfolding outcome_of_kept
-returns-in-Some g c =
+pub returns-in-Ok-Nothing : goal.returns-in-Ok-Nothing
+returns-in-Ok-Nothing g c =
     let s = responder_state g.G.Gate.used c.args.self.now in
-    let line = bytes_of c.args.line in
-    let t = responder_state g.G.Gate.used c.answer_change.new.self in
-    let answer = change_text c.in-Some.done in
-    let made = change_answers s
-    (outcome_of_request s (request_of c.command_of-asked.result)) c.in-Some.done
-    (responder_state g.G.Gate.used c.change.new.self) c.in-Some.ensures.done in
-    let is : IsAnswer s line answer t =
-    subst (IsAnswer s line answer) (sym c.answer_change.ensures.state)
-    (subst (λ asked. IsOutcome s (outcome_of_request s asked) answer
-    (responder_state g.G.Gate.used c.change.new.self)) c.command_of-asked.ensures made) in
-    Gathers-from g.W.Write.contents c.args.writer.now c.answer_change.new.writer
-    c.change.new.self.waiting.items c.args.self.now.waiting.items
-    c.answer_change.new.self.waiting.items c.answer_change.result c.in-Some.ensures.waits
-    (Gathers-map g.W.Write.contents c.args.writer.now c.answer_change.new.writer
-    c.change.new.self.waiting.items c.answer_change.new.self.waiting.items c.answer_change.result
-    (λ text e. subst (λ l. IsAnswer s line l t) (sym e) is)
-    (λ text e. (t, subst (λ l. IsAnswer s line l t) (sym e) is))
-    c.answer_change.ensures.gathers)
+    let asked = rw c.in-Ok-Nothing.field-0-is at c.in-Ok-Nothing.ensures in
+    record {
+      ok = (
+        [],
+        [],
+        line_answers s (bytes_of c.args.line) [] s (Ok command.Nothing) asked (inl (refl, refl)),
+        Appends-nil _,
+        append-nil _,
+      );
+      quiet = c.requires;
+      err = tt;
+      blame = tt;
+      fault = tt;
+    }
 
-pub returns-in-None : goal.returns-in-None
-unfolding outcome_of_kept
-returns-in-None g c =
+pub returns-in-Ok-Change : goal.returns-in-Ok-Change
+returns-in-Ok-Change g c =
     let s = responder_state g.G.Gate.used c.args.self.now in
+    let t = responder_state g.G.Gate.used c.change.new.self in
     let line = bytes_of c.args.line in
-    let asked = c.command_of-asked.result in
-    let is : (text : List ℕ) (t : State)
-    → IsOutcome (responder_state g.G.Gate.used c.change.new.self)
-    (outcome_of_request (responder_state g.G.Gate.used c.change.new.self) (request_of asked)) text t
-    → IsAnswer s line text t =
-    λ text t p. subst (λ r. IsOutcome s (outcome_of_request s r) text t) c.command_of-asked.ensures
-    (subst (λ x. IsOutcome x (outcome_of_request x (request_of asked)) text t)
-    c.in-None.ensures.done p) in
-    Gathers-from g.W.Write.contents c.args.writer.now c.answer.new.writer
-    c.change.new.self.waiting.items c.args.self.now.waiting.items c.answer.new.self.waiting.items
-    c.answer.result c.in-None.ensures.waits
-    (Gathers-map g.W.Write.contents c.args.writer.now c.answer.new.writer
-    c.change.new.self.waiting.items c.answer.new.self.waiting.items c.answer.result
-    (λ text p. is text (responder_state g.G.Gate.used c.answer.new.self) p)
-    (λ text p. (p.0, is text p.0 p.1))
-    c.answer.ensures)
+    let request = Ok (change_of c.in-Ok-Change.change) in
+    let asked = rw c.in-Ok-Change.field-0-is at c.in-Ok-Change.ensures in
+    Gathers-map g.W.Write.contents c.args.writer.now c.change.new.writer
+    c.args.self.now.waiting.items c.change.new.self.waiting.items c.change.result
+    (λ text p. line_answers s line text t request asked p)
+    (λ text p. (p.0, line_answers s line text p.0 request asked p.1))
+    c.change.ensures
+
+pub returns-in-Ok-Question : goal.returns-in-Ok-Question
+returns-in-Ok-Question g c =
+    let s = responder_state g.G.Gate.used c.args.self.now in
+    let t = responder_state g.G.Gate.used c.answer.new.self in
+    let line = bytes_of c.args.line in
+    let request = Ok (question_of c.in-Ok-Question.question) in
+    let asked = rw c.in-Ok-Question.field-0-is at c.in-Ok-Question.ensures in
+    Gathers-map g.W.Write.contents c.args.writer.now c.answer.new.writer
+    c.args.self.now.waiting.items c.answer.new.self.waiting.items c.answer.result
+    (λ text p. line_answers s line text t request asked p)
+    (λ text p. (p.0, line_answers s line text p.0 request asked p.1))
+    c.answer.ensures
+
+pub returns-in-Err : goal.returns-in-Err
+returns-in-Err g c =
+    let s = responder_state g.G.Gate.used c.args.self.now in
+    let t = responder_state g.G.Gate.used c.refuse.new.self in
+    let line = bytes_of c.args.line in
+    let request = Err c.in-Err.refusal in
+    Gathers-map g.W.Write.contents c.args.writer.now c.refuse.new.writer
+    c.args.self.now.waiting.items c.refuse.new.self.waiting.items c.refuse.result
+    (λ text e. line_answers s line text t request c.in-Err.ensures
+    (inl (e, c.refuse.ensures.state)))
+    (λ text e. (
+      t,
+      line_answers s line text t request c.in-Err.ensures
+          (inl (e, c.refuse.ensures.state)),
+    ))
+    c.refuse.ensures.gathers

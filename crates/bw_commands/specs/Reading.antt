@@ -1,20 +1,19 @@
 -- A script that is read: the state after its lines, and the lines that are refused.
-use Rattle.std.specs.Prelude.{ℕ, ◌≡◌, ◌≢◌, ◌+◌, ◌⊎◌, List, [], ◌∷◌, ◌++◌, true}
+use Rattle.std.specs.Prelude.{ℕ, ◌≡◌, ◌+◌, ◌⊎◌, List, [], ◌∷◌, ◌++◌, true}
 use Rattle.std.specs.Prelude.{Result, Ok, Err}
 use Rattle.bw_model.specs.Host.{Shape}
 use Rattle.bw_hierarchy.specs.State.{HierarchyState, new_hierarchy}
-use Rattle.bw_commands.specs.State.{State}
+use Rattle.bw_commands.specs.State.{State, in_state}
 use Rattle.bw_commands.specs.Lines.{lines_of}
 use Rattle.bw_commands.specs.Period.{IsPeriod}
 use Rattle.bw_commands.specs.Script as script
-use Rattle.bw_commands.specs.Script.{Outcome, outcome_of, refused, ok_line}
-use Rattle.bw_commands.specs.Faults.{script_fault_number}
+use Rattle.bw_commands.specs.Script.{Outcome, outcome_of, refused, ok_line, IsRefusedBy}
 use Rattle.bw_commands.specs.declared.fault.ScriptFault.{ScriptFault}
-use Rattle.bw_script.specs.declared.reading.RefusedLine.{RefusedLine}
+use Rattle.bw_commands.specs.declared.reading.RefusedLine.{RefusedLine}
 
 -- the state of a hierarchy whose leaves all use their slices
 abbrev pub in_use : HierarchyState → State
-in_use h = record { hierarchy = h; uses = λ leaf. true }
+in_use h = in_state (λ leaf. true) h
 
 -- From s an outcome that is no refusal leads to this state. The answer to a change is `ok`. An
 -- answer that is only printed changes nothing.
@@ -28,10 +27,6 @@ LeadsTo s script.Cert next = next ≡ s
 LeadsTo s script.Period next =
     ((text : List ℕ) × IsPeriod s.hierarchy s.uses text next.hierarchy) × (next.uses ≡ s.uses)
 LeadsTo s script.Report next = next ≡ s
-
--- From s an outcome is the refusal by this fault, unless memory was refused, by the number 71.
-abbrev pub IsRefusedBy : State → Outcome → ScriptFault → Type 0
-IsRefusedBy s outcome fault = script_fault_number fault ≢ 71 → outcome ≡ refused s fault
 
 -- The result of a call that makes a change, by the outcome of what it is asked for. At Err nothing
 -- is changed.

@@ -3,9 +3,9 @@ use Rattle.std.proofs.Common.{refl, sym, Ok, Err}
 use Rattle.std.proofs.lemmas.Result.{err_from_is_err_and}
 use Rattle.bw_commands.specs.Parsed.{meaning_of}
 use Rattle.bw_commands.specs.Script.{outcome_of, outcome_of_command}
-use Rattle.bw_script.specs.Reading.{in_use}
-use Rattle.bw_script.proofs.Taken.{takes_same, outcome_by}
-use Rattle.bw_script.proofs.reader.ScriptReader.take_line.Goals as goal
+use Rattle.bw_commands.specs.Reading.{in_use}
+use Rattle.bw_commands.proofs.Taken.{takes_same, outcome_by}
+use Rattle.bw_commands.proofs.reader.ScriptReader.take_line.Goals as goal
 
 pub returns-in_err-command : goal.returns-in_err-command
 returns-in_err-command c =
@@ -19,6 +19,6 @@ returns-in_err-command c =
 pub returns : goal.returns
 returns c =
     takes_same (λ s. outcome_of_command s (meaning_of c.in_ok-command.command))
-    (λ s. outcome_of s c.args.line.now) c.args.self.now c.perform.new.self c.perform.result
+    (λ s. outcome_of s c.args.line.now) c.args.self.now c.take.new.self c.take.result
     (outcome_by (in_use c.args.self.now) c.args.line.now (Ok (meaning_of c.in_ok-command.command))
-    c.in_ok-command.ensures) c.perform.ensures
+    c.in_ok-command.ensures) c.take.ensures

@@ -6,8 +6,8 @@ use Rattle.bw_tree.specs.Snapshot.{IsDrawnWithin}
 use Rattle.bw_commands.proofs.CallerLemmas.{drawn_within}
 use Rattle.bw_commands.specs.Period.{IsPeriod}
 use Rattle.bw_demand.specs.Demands.{demands_of}
-use Rattle.bw_script.proofs.Served.{all_used, is_period}
-use Rattle.bw_script.proofs.reader.ScriptReader.period.Goals as goal
+use Rattle.bw_commands.proofs.Served.{all_used, is_period}
+use Rattle.bw_commands.proofs.reader.ScriptReader.period.Goals as goal
 
 pub book-requires-clause-drawn : goal.book-requires-clause-drawn
 book-requires-clause-drawn c =

@@ -1,6 +1,6 @@
 -- The goals of `first_line` that are answered by hand.
-use Rattle.bw_script.proofs.Parts.{first_of_parts, only_part, rest-lt}
-use Rattle.bw_script.proofs.lines.first_line.Goals as goal
+use Rattle.bw_commands.proofs.Parts.{first_of_parts, only_part, rest-lt}
+use Rattle.bw_commands.proofs.lines.first_line.Goals as goal
 
 pub returns-in-Some-clause-lines : goal.returns-in-Some-clause-lines
 returns-in-Some-clause-lines c =

@@ -3,10 +3,10 @@ use Rattle.std.proofs.Common.{◌≡◌, ◌++◌, ◌∙◌, [], sym, subst, ap
 use Rattle.std.proofs.Common.{rules, List, length}
 use Rattle.std.proofs.lemmas.List.{nil_from_length}
 use Rattle.bw_commands.specs.Lines.{lines_of}
-use Rattle.bw_script.specs.Reading.{in_use, TakesLines, IsRead}
-use Rattle.bw_script.specs.declared.reading.RefusedLine.{RefusedLine}
-use Rattle.bw_script.proofs.Taken.{takes_more, takes_none}
-use Rattle.bw_script.proofs.reading.read_script.Goals as goal
+use Rattle.bw_commands.specs.Reading.{in_use, TakesLines, IsRead}
+use Rattle.bw_commands.specs.declared.reading.RefusedLine.{RefusedLine}
+use Rattle.bw_commands.proofs.Taken.{takes_more, takes_none}
+use Rattle.bw_commands.proofs.reading.read_script.Goals as goal
 
 pub loop-rest-preserved : goal.loop-rest-preserved
 loop-rest-preserved c =

@@ -1,11 +1,11 @@
 //! Reads the lines of a script one after another.
 ghost use Rattle.std.specs.Prelude.{◌≡◌, ◌++◌, List, IfOk, OnOk};
-ghost use Rattle.bw_script.specs.Reading.{in_use, IsRead, TakesLine};
-ghost use Rattle.bw_script.specs.declared.reading.RefusedLine.{RefusedLine};
+ghost use Rattle.bw_commands.specs.Reading.{in_use, IsRead, TakesLine};
+ghost use Rattle.bw_commands.specs.declared.reading.RefusedLine.{RefusedLine};
 
+use crate::fault::ScriptFault;
 use crate::lines::first_line;
 use crate::reader::ScriptReader;
-use bw_commands::ScriptFault;
 use bw_model::HostShape;
 use std::alloc::{AllocError, Global};
 

@@ -2,9 +2,9 @@
 use Rattle.std.proofs.Common.{◌≤◌, ◌+◌, ◌++◌, List, length}
 use Rattle.bw_hierarchy.specs.State.{HierarchyState}
 use Rattle.bw_commands.specs.Lines.{lines_of}
-use Rattle.bw_script.specs.Reading.{in_use, TakesLines, IsRead}
-use Rattle.bw_script.specs.declared.reading.RefusedLine.{RefusedLine}
-use Rattle.bw_script.proofs.reading.read_script.Given as goal
+use Rattle.bw_commands.specs.Reading.{in_use, TakesLines, IsRead}
+use Rattle.bw_commands.specs.declared.reading.RefusedLine.{RefusedLine}
+use Rattle.bw_commands.proofs.reading.read_script.Given as goal
 
 abbrev pub invariant-loop-rest : goal.invariant-loop-rest
 invariant-loop-rest l = record {

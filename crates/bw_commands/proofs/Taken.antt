@@ -1,15 +1,18 @@
 -- The lines of a script, taken one after another.
 use Rattle.std.proofs.Common.{◌≡◌, ◌+◌, ◌++◌, ◌∷◌, ℕ, List, [], Result, Ok, Err, refl, sym, ap}
-use Rattle.std.proofs.Common.{subst, ◌∙◌}
+use Rattle.std.proofs.Common.{subst, ◌∙◌, IfErr}
 use Rattle.bw_hierarchy.specs.State.{HierarchyState}
 use Rattle.bw_commands.specs.Command.{Command}
 use Rattle.bw_commands.specs.Lines.{lines_of}
 use Rattle.bw_commands.specs.State.{State}
 use Rattle.bw_commands.specs.Script.{Outcome, kept_of, request_of_kept, outcome_of_request}
-use Rattle.bw_commands.specs.Script.{outcome_of, outcome_of_kept}
+use Rattle.bw_commands.specs.Script.{outcome_of, outcome_of_kept, ok_line, Gives, Performs}
+use Rattle.bw_commands.specs.Script.{IsRefusedBy}
+use Rattle.bw_commands.specs.Script.Outcome.{Silent, Says, Prints, Total, Plan, Cert, Period}
+use Rattle.bw_commands.specs.Script.Outcome.{Report}
 use Rattle.bw_commands.specs.declared.fault.ScriptFault.{ScriptFault}
-use Rattle.bw_script.specs.Reading.{in_use, LeadsTo, Takes, TakesLine, TakesLines}
-use Rattle.bw_script.specs.declared.reading.RefusedLine.{RefusedLine}
+use Rattle.bw_commands.specs.Reading.{in_use, LeadsTo, Takes, TakesLine, TakesLines}
+use Rattle.bw_commands.specs.declared.reading.RefusedLine.{RefusedLine}
 
 -- one line, and then the lines behind it
 pub takes_more : (s next last : State) (number : ℕ) (text line rest : List ℕ)
@@ -38,3 +41,23 @@ pub outcome_by : (s : State) (line : List ℕ) (asked : Result Command ScriptFau
     → asked ≡ request_of_kept (kept_of line) → outcome_of_request s asked ≡ outcome_of s line
 unfolding outcome_of_kept
 outcome_by s line asked e = ap (outcome_of_request s) e
+
+-- what is given leads on, where a text that takes no memory is `ok`
+leads : (s : State) (o : Outcome) (next : State) → Gives s o ok_line next → LeadsTo s o next
+leads s Silent next given = given.1
+leads s (Says text after) next given = (sym given.0, given.1)
+leads s (Prints text after) next given = given.1
+leads s Total next given = given.1
+leads s Plan next given = given.1
+leads s Cert next given = given.1
+leads s Period next given = ((ok_line, given.0), given.1)
+leads s Report next given = given.1
+
+-- a change that was made or refused
+pub takes_change : {T : Type 0} (f : State → Outcome) (old new : HierarchyState)
+    (r : Result T ScriptFault) → Performs (in_use old) (f (in_use old)) r ok_line (in_use new)
+    → IfErr r (IsRefusedBy (in_use old) (f (in_use old))) → Takes f old new r
+takes_change f old new (Ok x) done refused =
+    leads (in_use old) (f (in_use old)) (in_use new) done
+takes_change f old new (Err fault) done refused =
+    (ap (λ (s : State). s.hierarchy) done.0, refused)

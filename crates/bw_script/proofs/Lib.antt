@@ -1,4 +1,0 @@
--- The files of lemmas.
-mod Parts
-mod Taken
-mod Served
