@@ -17,9 +17,9 @@ kits='rattle-kit-13f or rattle-kit-13b (logic dac8208d650f15bf)'
 
 # Sets `version` to the version of the program, the library and the packages.
 find_version() {
-  version=$(sed -nE 's/^(pub )?const VERSION: &str = "(.*)";$/\2/p' crates/bw_words/src/*.rt)
+  version=$(sed -nE 's/^(pub )?const VERSION: &str = "(.*)";$/\2/p' crates/arbiter/src/version.rt)
   [ -n "$version" ] && return
-  echo "crates/bw_words has no line 'const VERSION: &str = \"..\";'" >&2
+  echo "crates/arbiter/src/version.rt has no line 'const VERSION: &str = \"..\";'" >&2
   return 1
 }
 
@@ -126,7 +126,7 @@ list_names() {
   find_kit_files
   find_crates
   find -L "${folders[@]}" -print0 && printf '%s\0' "${crates[@]/#/crates/}" "${kit_files[@]}" \
-    crates.txt "${lists[@]}" "${made[@]}" "$stamp" scripts/current.sh crates/bw_words/src/*.rt
+    crates.txt "${lists[@]}" "${made[@]}" "$stamp" scripts/current.sh crates/arbiter/src/version.rt
 }
 
 # Looks at those files, before their hashes are compared. Fails if one is as new as the look: a

@@ -128,10 +128,10 @@ def test_words_and_answers(command, words, given, out, err, status):
 
 def test_version(command):
     """The version is that of the one constant in the code."""
-    sources = sorted((ROOT / "crates/bw_words/src").rglob("*.rt"))
+    sources = sorted((ROOT / "crates/arbiter/src").rglob("*.rt"))
     text = "".join(path.read_text(encoding="utf-8") for path in sources)
     versions = re.findall(r'\bconst VERSION: &(?:\'static )?str = "([^"]+)";', text)
-    same(len(versions), 1, "constants VERSION in crates/bw_words/src")
+    same(len(versions), 1, "constants VERSION in crates/arbiter/src")
     assert re.fullmatch(r"\d+\.\d+\.\d+", versions[0]), versions
     same(command.run(["--version"]), (0, f"arbiter {versions[0]}\n".encode(), b""))
 

@@ -9,7 +9,8 @@ import stat
 
 import pytest
 
-from stand_in import (LIBRARY, LIBRARY_PROVED, PROGRAM, PROVED, Copy, holds, sources, version)
+from stand_in import (LIBRARY, LIBRARY_PROVED, PROGRAM, PROVED, VERSION_FILE, Copy, holds, sources,
+                      version)
 from support import ROOT, run, same
 
 VERSION = version()
@@ -157,7 +158,7 @@ def test_library_of_another_version(copy):
     copy.write("share/arbiter.map", copy.read("share/arbiter.map") + "# edited\n")
     copy.installs("there", "other names", [LIBRARY_PROVED])
     is_installed(copy, f"{copy.top}/there")
-    copy.write("crates/bw_words/src/lib.rt", 'pub const VERSION: &str = "2.3.4";\n')
+    copy.write(VERSION_FILE, 'pub const VERSION: &str = "2.3.4";\n')
     copy.installs("there", "another version", [PROVED, LIBRARY_PROVED])
     linked = copy.read("there/lib/libarbiter.so")
     holds(" -Wl,-soname,libarbiter.so.2 ", linked, "the library that is linked with")

@@ -1,7 +1,7 @@
 -- The end of the program when its words give no job.
 use Rattle.std.specs.Prelude.{ℕ, ◌≡◌, ◌⊎◌}
-use Rattle.bw_words.specs.declared.words.WordsFault.{WordsFault}
-use Rattle.bw_words.specs.declared.words.WordsFault.TheVariants.{Help, Usage, Memory}
+use Rattle.arbiter.specs.declared.words.WordsFault.{WordsFault}
+use Rattle.arbiter.specs.declared.words.WordsFault.TheVariants.{Help, Usage, Memory}
 
 -- the exit status: 0 for help, or 1 if it cannot be printed, 2 for a refusal, 1 if memory was
 -- refused

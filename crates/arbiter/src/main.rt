@@ -5,14 +5,16 @@
 mod asked;
 mod failure;
 mod memory;
+mod status;
 mod told;
+mod version;
+mod words;
 
 use asked::{behind_name, host_of};
 use bw_model::HostShape;
 use bw_shell::run;
 use bw_streams::{Output, Watched};
 use bw_text_check::check_text;
-use bw_words::{Job, WordsFault, read_words};
 use failure::{Failure, explained};
 use memory::keep_freed;
 use std::io;
@@ -22,6 +24,7 @@ use std::rt::Clock;
 use std::sync::Wait;
 use std::thread::Threads;
 use told::{bad_arguments, check_ended, host_refused, no_job, run_ended};
+use words::{Job, WordsFault, read_words};
 
 // Runs the script on standard input, with a worker for each processor at each `period`.
 fn run_script<R: AllocGlobal + Input + Print + Threads + Wait + Clock + RandomSource + Sync>(

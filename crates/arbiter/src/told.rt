@@ -5,11 +5,12 @@ ghost use Rattle.arbiter.specs.Told.{EndsWithoutJob};
 ghost use Rattle.bw_text_check.specs.CheckText.{check_status};
 
 use crate::failure::Failure;
+use crate::status::status_of_words;
+use crate::words::WordsFault;
 use bw_model::HostFault;
 use bw_shell::status_of_run;
 use bw_streams::RunFault;
 use bw_text_check::status_of_check;
-use bw_words::{WordsFault, status_of_words};
 use std::io::ErrorKind;
 
 // Exit status of arguments that are not text, or of a host that is refused.

@@ -8,15 +8,15 @@ use Rattle.clap.specs.Faults.{fault_of, level_fault}
 use Rattle.clap.specs.Faults.{settle_fault, walk_fault}
 use Rattle.clap.specs.Kinds.{or_else}
 use Rattle.clap.proofs.OnLiterals.{clap_on_literals}
-use Rattle.bw_words.specs.CommandLine.{arbiter_app}
-use Rattle.bw_words.specs.Found.{HasNumbers}
-use Rattle.bw_words.specs.Words.{Uses, job_named, run_job, uses_after}
-use Rattle.bw_words.specs.declared.words.Job.{Job}
-use Rattle.bw_words.specs.declared.words.Job.TheVariants as job
-use Rattle.bw_words.proofs.RunFaults.{at_start, faults_behind, run_reads, run_shape, top_run, walk_run}
-use Rattle.bw_words.proofs.Refused.{or_none}
-use Rattle.bw_words.proofs.Sound.{run_refuses, sounds}
-use Rattle.bw_words.proofs.Named.{named_gives}
+use Rattle.arbiter.specs.CommandLine.{arbiter_app}
+use Rattle.arbiter.specs.Found.{HasNumbers}
+use Rattle.arbiter.specs.Words.{Uses, job_named, run_job, uses_after}
+use Rattle.arbiter.specs.declared.words.Job.{Job}
+use Rattle.arbiter.specs.declared.words.Job.TheVariants as job
+use Rattle.arbiter.proofs.RunFaults.{at_start, faults_behind, run_reads, run_shape, top_run, walk_run}
+use Rattle.arbiter.proofs.Refused.{or_none}
+use Rattle.arbiter.proofs.Sound.{run_refuses, sounds}
+use Rattle.arbiter.proofs.Named.{named_gives}
 
 fault_below : (rest : List Text) → fault_of arbiter_app (codes "run" ∷ rest)
     ≡ or_else (level_fault run_shape [] nothing_held rest false []) []

@@ -1,6 +1,6 @@
 //! Exit statuses.
 ghost use Rattle.std.specs.Prelude.{◌≡◌};
-ghost use Rattle.bw_words.specs.Status.{status_of_fault};
+ghost use Rattle.arbiter.specs.Status.{status_of_fault};
 
 use crate::words::WordsFault;
 

@@ -3,11 +3,11 @@ use Rattle.std.proofs.Common.{◌≡◌, ◌∙◌, ap, subst, sym, map, string_
 use Rattle.clap.specs.Words.{App, is_simple, subcommand_of, subcommand_rows_of}
 use Rattle.clap.specs.Faults.{fault_of, is_simple_and_free}
 use Rattle.clap.specs.Kinds.{HasKind}
-use Rattle.bw_words.specs.CommandLine.{arbiter_app}
-use Rattle.bw_words.proofs.Named.{memory_alone, named_gives}
-use Rattle.bw_words.proofs.Plain.{plain_named}
-use Rattle.bw_words.proofs.JobSound.{job_sound}
-use Rattle.bw_words.proofs.words.read_words.Goals as goal
+use Rattle.arbiter.specs.CommandLine.{arbiter_app}
+use Rattle.arbiter.proofs.Named.{memory_alone, named_gives}
+use Rattle.arbiter.proofs.Plain.{plain_named}
+use Rattle.arbiter.proofs.JobSound.{job_sound}
+use Rattle.arbiter.proofs.words.read_words.Goals as goal
 
 pub returns-in-Ok-try_get_matches_from : goal.returns-in-Ok-try_get_matches_from
 returns-in-Ok-try_get_matches_from c =

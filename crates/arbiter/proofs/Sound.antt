@@ -15,7 +15,7 @@ use Rattle.std.proofs.lemmas.Bool.{ltb-true, lt-ltb, ne_eqb}
 use Rattle.std.proofs.lemmas.Str.Parse.{digit_from_value}
 use Rattle.std.proofs.lemmas.Slice.Eq.{bytes_eq-Decides}
 use Rattle.clap.specs.Lexer.{short_of_rest}
-use Rattle.bw_words.specs.Words.{are_digits}
+use Rattle.arbiter.specs.Words.{are_digits}
 use Rattle.clap.specs.Words.{Shape, Text}
 use Rattle.clap.specs.Lexer.{long_of, short_of}
 use Rattle.clap.specs.Walk.{Held, arg_by_id, arg_by_long, idle, option, next, trailing, settled}
@@ -28,16 +28,16 @@ use Rattle.clap.specs.ValueTests.{accepts}
 use Rattle.clap.specs.Simple.{filled, help_rule}
 use Rattle.clap.specs.declared.builder.ValueParser.TheVariants as parser
 use Rattle.clap.proofs.WalkLemmas.{both}
-use Rattle.bw_words.specs.Words.{Uses, is_setting, is_given, may_give, is_number, option_parts}
-use Rattle.bw_words.specs.Words.{begins_with_dash, uses_after, after_parts, is_empty}
-use Rattle.bw_words.proofs.RunWalk.{Reads, IsIdle, IsWaiting, state, rows_for, setting_rule, turned}
-use Rattle.bw_words.proofs.RunWalk.{given_row, number_is, none≢some, parts_are, name_met}
-use Rattle.bw_words.proofs.RunWalk.{name_turn, pair_met, pair_turn, paired, valued}
-use Rattle.bw_words.proofs.RunFaults.{run_shape}
-use Rattle.bw_words.proofs.Refused.{RefusesWords, is_fault, contra, or_none, fault_left}
-use Rattle.bw_words.proofs.Refused.{fault_right, split, turn_of, trails, short_refused, fault_at}
-use Rattle.bw_words.proofs.Refused.{long_fault_at, short_fault_at, met_at, met_other, met_empty}
-use Rattle.bw_words.proofs.Refused.{idle_other}
+use Rattle.arbiter.specs.Words.{Uses, is_setting, is_given, may_give, is_number, option_parts}
+use Rattle.arbiter.specs.Words.{begins_with_dash, uses_after, after_parts, is_empty}
+use Rattle.arbiter.proofs.RunWalk.{Reads, IsIdle, IsWaiting, state, rows_for, setting_rule, turned}
+use Rattle.arbiter.proofs.RunWalk.{given_row, number_is, none≢some, parts_are, name_met}
+use Rattle.arbiter.proofs.RunWalk.{name_turn, pair_met, pair_turn, paired, valued}
+use Rattle.arbiter.proofs.RunFaults.{run_shape}
+use Rattle.arbiter.proofs.Refused.{RefusesWords, is_fault, contra, or_none, fault_left}
+use Rattle.arbiter.proofs.Refused.{fault_right, split, turn_of, trails, short_refused, fault_at}
+use Rattle.arbiter.proofs.Refused.{long_fault_at, short_fault_at, met_at, met_other, met_empty}
+use Rattle.arbiter.proofs.Refused.{idle_other}
 
 -- the options of a run are all that the command takes
 pub record Refuses (s : Shape) : Type 0 where

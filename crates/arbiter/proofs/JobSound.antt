@@ -17,18 +17,18 @@ use Rattle.clap.specs.Simple.{filled, help_rule, version_rule}
 use Rattle.clap.proofs.WalkLemmas.{walk_stopped}
 use Rattle.clap.proofs.FaultLemmas.{stopped_fault}
 use Rattle.clap.proofs.OnLiterals.{clap_on_literals}
-use Rattle.bw_words.specs.CommandLine.{arbiter_app}
-use Rattle.bw_words.specs.Found.{HasNumbers}
-use Rattle.bw_words.specs.Words.{Uses, is_end, job_named, run_job}
-use Rattle.bw_words.specs.declared.words.Job.{Job}
-use Rattle.bw_words.specs.declared.words.Job.TheVariants as job
-use Rattle.bw_words.proofs.RunWalk.{state}
-use Rattle.bw_words.proofs.RunFaults.{built_app, faults_behind, names}
-use Rattle.bw_words.proofs.Refused.{RefusesWords, is_fault, contra, or_none, fault_left}
-use Rattle.bw_words.proofs.Refused.{fault_right, turn_of, trails, fault_at, long_fault_at}
-use Rattle.bw_words.proofs.Refused.{idle_other}
-use Rattle.bw_words.proofs.RunSound.{run_sound}
-use Rattle.bw_words.proofs.Named.{named_gives}
+use Rattle.arbiter.specs.CommandLine.{arbiter_app}
+use Rattle.arbiter.specs.Found.{HasNumbers}
+use Rattle.arbiter.specs.Words.{Uses, is_end, job_named, run_job}
+use Rattle.arbiter.specs.declared.words.Job.{Job}
+use Rattle.arbiter.specs.declared.words.Job.TheVariants as job
+use Rattle.arbiter.proofs.RunWalk.{state}
+use Rattle.arbiter.proofs.RunFaults.{built_app, faults_behind, names}
+use Rattle.arbiter.proofs.Refused.{RefusesWords, is_fault, contra, or_none, fault_left}
+use Rattle.arbiter.proofs.Refused.{fault_right, turn_of, trails, fault_at, long_fault_at}
+use Rattle.arbiter.proofs.Refused.{idle_other}
+use Rattle.arbiter.proofs.RunSound.{run_sound}
+use Rattle.arbiter.proofs.Named.{named_gives}
 
 -- ---- commands without options
 

@@ -4,11 +4,11 @@ ghost use Rattle.std.specs.Prelude.{codes, map, string_bytes};
 ghost use Rattle.clap.specs.Words.{app_of, found_of, kind_of, one_of, rows_of, rule_of};
 ghost use Rattle.clap.specs.Words.{subcommand_rows_of, without_minus};
 ghost use Rattle.clap.specs.declared.builder.Command.TheViews.{out-Command as fields_of};
-ghost use Rattle.bw_words.specs.CommandLine.{arbiter_app, number_rule, run_app};
-ghost use Rattle.bw_words.specs.Found.{HasNumbers};
-ghost use Rattle.bw_words.specs.Status.{is_shown, IsHelpUnlessMemory, IsUsageUnlessMemory};
-ghost use Rattle.bw_words.specs.Words.{is_number, job_named, number_in, plain_job, run_job};
-ghost use Rattle.bw_words.specs.declared.words.Job.{Job};
+ghost use Rattle.arbiter.specs.CommandLine.{arbiter_app, number_rule, run_app};
+ghost use Rattle.arbiter.specs.Found.{HasNumbers};
+ghost use Rattle.arbiter.specs.Status.{is_shown, IsHelpUnlessMemory, IsUsageUnlessMemory};
+ghost use Rattle.arbiter.specs.Words.{is_number, job_named, number_in, plain_job, run_job};
+ghost use Rattle.arbiter.specs.declared.words.Job.{Job};
 
 use crate::version::VERSION;
 use clap::error::ErrorKind;

@@ -14,7 +14,7 @@ use Rattle.clap.specs.Faults.{walk_fault, flag_word_fault, flags_fault, long_fau
 use Rattle.clap.specs.Faults.{step_fault, stray_fault, bundle_fault}
 use Rattle.clap.specs.Kinds.{or_else, Kinds}
 use Rattle.clap.proofs.WalkLemmas.{bundle_ends}
-use Rattle.bw_words.proofs.RunWalk.{state, none≢some}
+use Rattle.arbiter.proofs.RunWalk.{state, none≢some}
 
 abbrev pub is_fault : Kinds → Bool
 is_fault [] = false
