@@ -1,6 +1,6 @@
 -- What a period leaves over changes no group's place, and nothing else of it.
 use Rattle.std.proofs.Common.{◌≡◌, ℕ, zero, suc, ◌<◌, Bool, true, false, cond, ◌||◌, List, [], ◌∷◌}
-use Rattle.std.proofs.Common.{length, get_or, take, Option, Some, None, is_some, refl}
+use Rattle.std.proofs.Common.{length, get_or, take, position, Option, Some, None, is_some, refl}
 use Rattle.std.proofs.Common.{sym, ap, subst, ◌∙◌, arith, eqb}
 use Rattle.std.specs.Prelude.{slice_set}
 use Rattle.std.specs.Map.{keys_of}
@@ -236,6 +236,9 @@ nodes_carried gs cs fronts nodes =
                 (look_carried gs cs q) ∙ up,
             tt,
           )) n.depth p 0 tt is.depth;
+      place = λ q up. ap (position (eqb q)) (keys_carried gs cs)
+          ∙ is.place q (sym (parent_kept (group_at (carried gs cs) p) (group_at gs p)
+          (look_carried gs cs p)) ∙ up);
       front = is.front;
       tail = tail_kept gs (carried gs cs) (λ q k m found. child_carried gs cs q m ∙ found)
           n.tail p is.tail;

@@ -15,18 +15,19 @@ use Rattle.bw_tree.specs.Groups.{GroupFields, TreeState, group_at, has_group, ha
 use Rattle.bw_tree.specs.Groups.{is_parent, children_count, IsTree, AllAfter, AllBefore}
 use Rattle.bw_tree.specs.Groups.{AreRising}
 use Rattle.bw_tree.specs.Nodes.{root_node, leaf_below, node_at, one_child_more, one_child_less}
+use Rattle.bw_tree.specs.Nodes.{lowered, lowered_from}
 use Rattle.bw_tree.specs.Nodes.{IsNodeOf, AreNodesOf}
 use Rattle.bw_tree.specs.Tails.{IsTailOf, no_tail}
 use Rattle.bw_tree.specs.Tree.{changed, changed_at}
 use Rattle.bw_tree.proofs.CountLemmas.{count_push, count_removed, count_set, count_has}
 use Rattle.bw_tree.proofs.GroupLemmas.{not_positive}
 use Rattle.bw_tree.proofs.IndexLemmas.{at_more}
+use Rattle.bw_tree.proofs.LowerLemmas.{nodes_lowered, place_left, place_low, place_pushed}
 use Rattle.bw_tree.proofs.PlaceLemmas.{StandsAt, stands_at, stands_later}
 use Rattle.bw_tree.specs.Groups.{above, parent_of}
 use Rattle.bw_tree.proofs.GroupLemmas.{above_here, above_more, look_push_other, look_push_same}
 use Rattle.bw_tree.proofs.GroupLemmas.{parent_found, child_push_old}
-use Rattle.bw_tree.proofs.RemoveLemmas.{children_found, look_removed_other, look_removed_same}
-use Rattle.bw_tree.proofs.RemoveLemmas.{rising_removed}
+use Rattle.bw_tree.proofs.RemoveLemmas.{children_found, look_removed_other}
 use Rattle.bw_tree.proofs.SetLemmas.{look_set_other, look_set_same, child_set}
 use Rattle.bw_tree.proofs.TailLemmas.{tail_kept, tail_left}
 use Rattle.std.proofs.Common.{◌⊎◌, inl, inr, Option, leb, ◌≤◌, ◌+◌, ◌-◌, is_some}
@@ -60,18 +61,6 @@ module _ (P : ℕ → Node → Type 0) where
   node_push [] (x ∷ ns) e n all new = absurd all
   node_push (y ∷ gs) [] e n all new = absurd all
   node_push (y ∷ gs) (x ∷ ns) e n all new = (all.0, node_push gs ns e n all.1 new)
-
-  -- a group less, with its node
-  pub node_removed : (gs : Groups) (ns : List Node) (id i : ℕ) → StandsAt gs id i → Beside gs ns
-      → Beside (remove_entry (eqb id) gs) (remove ns i)
-  node_removed [] ns id i at all = absurd (omega (arith, at.within))
-  node_removed (e ∷ es) [] id i at all = absurd all
-  node_removed (e ∷ es) (n ∷ ns) id zero at all =
-      subst (λ (b : Bool). Beside (cond b es (e ∷ remove_entry (eqb id) es)) ns) (sym at.here) all.1
-  node_removed (e ∷ es) (n ∷ ns) id (suc i) at all =
-      subst (λ (b : Bool). Beside (cond b es (e ∷ remove_entry (eqb id) es)) (n ∷ remove ns i))
-      (sym (at.before 0 (omega arith)))
-      (all.0, node_removed es ns id i (stands_later e es id i at) all.1)
 
 -- there are as many nodes as groups
 pub as_many : (gs : Groups) (fronts : ℕ → PathHash) (ns : List Node) → AreNodesOf gs fronts ns
@@ -146,27 +135,6 @@ module _ (P Q : ℕ → Node → Type 0) where
               absurd (cc)) all.0,
           node_set es ns i new up.1 (stands_later e es id i at) own all.1,
         )
-
--- what is known of each node but that of a group which is not there
-others_left : (P : ℕ → Node → Type 0) (id : ℕ) (gs : Groups) (ns : List Node)
-    → group_at gs id ≡ None → AllZip (λ e n. e.0 ≢ id → P e.0 n) gs ns
-    → AllZip (λ e n. P e.0 n) gs ns
-others_left P id [] [] none all = tt
-others_left P id [] (n ∷ ns) none all = all
-others_left P id (e ∷ es) [] none all = all
-others_left P id (e ∷ es) (n ∷ ns) none all =
-    by (eqb_tells id e.0) (λ rest. others_left P id es ns rest all.1)
-  where
-    by : ((eqb id e.0 ≡ true) × (id ≡ e.0)) ⊎ ((eqb id e.0 ≡ false) × (id ≢ e.0))
-        → (group_at es id ≡ None → AllZip (λ e n. P e.0 n) es ns)
-        → P e.0 n × AllZip (λ e n. P e.0 n) es ns
-    by (inl same) later = let wrong : Some e.1 ≡ None =
-        sym (ap (λ b. cond b (Some e.1) (group_at es id)) same.0) ∙ none in
-        absurd (cc)
-    by (inr apart) later = (
-      all.0 (λ same. apart.1 (sym same)),
-      later (sym (ap (λ b. cond b (Some e.1) (group_at es id)) apart.0) ∙ none),
-    )
 
 -- where there is a child, there is a group that is one
 child_there : (gs : Groups) (p : ℕ) → AreRising gs → has_children gs p ≡ true
@@ -329,6 +297,7 @@ fronted gs fronts k front ns =
     (λ q n apart is. record {
       children = is.children;
       depth = is.depth;
+      place = is.place;
       front = is.front ∙ sym (front_of_other fronts k front q apart);
       tail = is.tail;
     })
@@ -338,7 +307,11 @@ fronted gs fronts k front ns =
 module _ (gs : Groups) (fronts : ℕ → PathHash) (k parent i : ℕ) (g : GroupFields)
     (up : g.parent ≡ Some parent) (rising : AreRising gs) (absent : group_at gs k ≡ None)
     (apart : parent ≢ k)
-    (none : has_children gs k ≡ false) (at : StandsAt gs parent i) where
+    (none : has_children gs k ≡ false) (up_more : AreRising (gs ++ (k, g) ∷ []))
+    (before : AllBefore k gs) (place : position (eqb parent) (keys_of gs) ≡ Some i) where
+  stands : StandsAt gs parent i
+  stands = stands_at gs parent i place
+
   old_way : (steps id top : ℕ) → above gs steps id ≡ Some top
       → above (gs ++ (k, g) ∷ []) steps id ≡ Some top
   old_way steps id top is =
@@ -363,48 +336,65 @@ module _ (gs : Groups) (fronts : ℕ → PathHash) (k parent i : ℕ) (g : Group
       → AreNodesOf gs fronts ns
       → AreNodesOf (gs ++ (k, g) ∷ []) fronts
       (slice_set ns i (one_child_more (node_at ns i))
-      ++ leaf_below (node_at ns i) (fronts k) tail ∷ [])
+      ++ leaf_below (node_at ns i) i (fronts k) tail ∷ [])
   nodes_pushed ns tail goes_on all =
-      node_push (IsNodeOf hs fronts) gs _ (k, g) (leaf_below (node_at ns i) (fronts k) tail)
-      (node_set (IsNodeOf gs fronts) (IsNodeOf hs fronts) parent other gs ns i (one_child_more
-      (node_at ns i))
-      rising at own all)
+      node_push (IsNodeOf hs fronts) gs _ (k, g) (leaf_below (node_at ns i) i (fronts k) tail)
+      (node_set Old (IsNodeOf hs fronts) parent other gs ns i (one_child_more (node_at ns i))
+      rising stands own
+      (nodes_before (IsNodeOf gs fronts) Old k (λ q n old is. (old, is)) gs ns before all))
       (record {
         children = sym (counted_by false gs k k g
             (ap (λ o. is_parent o k) up ∙ ne_eqb parent k apart) ∙ none_counted gs k none);
         depth = lowest;
+        place = λ p upward. ap (λ q. position (eqb q) (keys_of hs))
+            (inside {a = p} {b = parent} (sym upward ∙ ap parent_of (look_push_same gs k g absent) ∙ up))
+            ∙ place_pushed gs ((k, g) ∷ []) parent i up_more place;
         front = refl;
         tail = goes_on (old_tail (node_at ns i).tail parent
-            (node_read (IsNodeOf gs fronts) gs ns parent i at all).tail);
+            (node_read (IsNodeOf gs fronts) gs ns parent i stands all).tail);
       })
     where
       hs : Groups
       hs = gs ++ (k, g) ∷ []
 
-      other : (id : ℕ) (n : Node) → id ≢ parent → IsNodeOf gs fronts id n → IsNodeOf hs fronts id n
-      other id n else_where is = record {
+      -- the node of a group that was there
+      Old : ℕ → Node → Type 0
+      Old q n = (q ≢ k) × IsNodeOf gs fronts q n
+
+      -- its parent stays where it stood
+      old_place : (q a p : ℕ) → q ≢ k
+          → ((p : ℕ) → parent_of (group_at gs q) ≡ Some p → position (eqb p) (keys_of gs) ≡ Some a)
+          → parent_of (group_at hs q) ≡ Some p → position (eqb p) (keys_of hs) ≡ Some a
+      old_place q a p old was upward =
+          place_pushed gs ((k, g) ∷ []) p a up_more
+          (was p (sym (ap parent_of (look_push_other gs k q g (ne_eqb q k old))) ∙ upward))
+
+      other : (id : ℕ) (n : Node) → id ≢ parent → Old id n → IsNodeOf hs fronts id n
+      other id n else_where old = let is = old.1 in record {
         children = is.children ∙ sym (counted_by false gs id k g
             (ap (λ o. is_parent o id) up ∙ ne_eqb parent id (λ same. else_where (sym same))));
         depth = old_way n.depth id 0 is.depth;
+        place = λ p. old_place id n.above p old.0 is.place;
         front = is.front;
         tail = old_tail n.tail id is.tail;
       }
 
-      own : IsNodeOf gs fronts parent (node_at ns i)
-          → IsNodeOf hs fronts parent (one_child_more (node_at ns i))
-      own is =
+      own : Old parent (node_at ns i) → IsNodeOf hs fronts parent (one_child_more (node_at ns i))
+      own old =
+          let is = old.1 in
           let more = counted_by true gs parent k g
           (ap (λ o. is_parent o parent) up ∙ eq-eqb parent parent refl) in
           record {
             children = omega (arith, is.children, more);
             depth = old_way (node_at ns i).depth parent 0 is.depth;
+            place = λ p. old_place parent (node_at ns i).above p old.0 is.place;
             front = is.front;
             tail = old_tail (node_at ns i).tail parent is.tail;
           }
 
       lowest : above hs ((node_at ns i).depth + 1) k ≡ Some 0
       lowest =
-          let is = node_read (IsNodeOf gs fronts) gs ns parent i at all in
+          let is = node_read (IsNodeOf gs fronts) gs ns parent i stands all in
           let e : (node_at ns i).depth + 1 ≡ suc (node_at ns i).depth = omega arith in
           ap (λ n. above hs n k) e
           ∙ above_more hs (node_at ns i).depth k (Some parent)
@@ -415,19 +405,50 @@ module _ (gs : Groups) (fronts : ℕ → PathHash) (k parent i : ℕ) (g : Group
 module _ (gs : Groups) (fronts : ℕ → PathHash) (id parent i j : ℕ) (g : GroupFields)
     (at : group_at gs id ≡ Some g) (up : g.parent ≡ Some parent) (whole : AreRising gs)
     (lone : has_children gs id ≡ false)
-    (place : StandsAt gs id i) (higher : StandsAt (remove_entry (eqb id) gs) parent j) where
+    (lower : (q p : ℕ) (h : GroupFields) → group_at gs q ≡ Some h → h.parent ≡ Some p → p < q)
+    (place : StandsAt gs id i) (higher : StandsAt gs parent j) where
+  -- the node of a group, whose children are those that are left
+  record IsLeft (q : ℕ) (n : Node) : Type 0 where
+    pub children : n.children ≡ children_count (remove_entry (eqb id) gs) q
+    pub depth : above gs n.depth q ≡ Some 0
+    pub stands : (p : ℕ) → parent_of (group_at gs q) ≡ Some p
+        → position (eqb p) (keys_of gs) ≡ Some n.above
+    pub front : n.front ≡ fronts q
+    pub tail : IsTailOf gs n.tail q
+
   pub nodes_taken : (ns : List Node) → AreNodesOf gs fronts ns
       → AreNodesOf (remove_entry (eqb id) gs) fronts
-      (slice_set (remove ns i) j (one_child_less (node_at (remove ns i) j)))
+      (lowered_from i i (remove (slice_set ns j (one_child_less (node_at ns j))) i))
   nodes_taken ns all =
-      others_left (IsNodeOf hs fronts) id hs _ (look_removed_same id gs whole)
-      (node_set (IsNodeOf gs fronts) (λ q n. q ≢ id → IsNodeOf hs fronts q n) parent other hs
-      (remove ns i) j
-      (one_child_less (node_at (remove ns i) j)) (rising_removed id gs whole) higher own
-      (node_removed (IsNodeOf gs fronts) gs ns id i place all))
+      nodes_lowered IsLeft (IsNodeOf hs fronts) id i first later gs
+      (slice_set ns j (one_child_less (node_at ns j))) i whole place
+      (node_set (IsNodeOf gs fronts) IsLeft parent other gs ns j (one_child_less (node_at ns j))
+      whole higher own all)
     where
       hs : Groups
       hs = remove_entry (eqb id) gs
+
+      other : (q : ℕ) (n : Node) → q ≢ parent → IsNodeOf gs fronts q n → IsLeft q n
+      other q n else_where is = record {
+        children = is.children ∙ left_by false gs id q g at
+            (ap (λ o. is_parent o q) up ∙ ne_eqb parent q (λ same. else_where (sym same)));
+        depth = is.depth;
+        stands = is.place;
+        front = is.front;
+        tail = is.tail;
+      }
+
+      own : IsNodeOf gs fronts parent (node_at ns j) → IsLeft parent (one_child_less (node_at ns j))
+      own is =
+          let less = left_by true gs id parent g at
+          (ap (λ o. is_parent o parent) up ∙ eq-eqb parent parent refl) in
+          record {
+            children = omega (arith, is.children, less);
+            depth = is.depth;
+            stands = is.place;
+            front = is.front;
+            tail = is.tail;
+          }
 
       step : (q p : ℕ) → q ≢ id → parent_of (group_at gs q) ≡ Some p
           → (parent_of (group_at hs q) ≡ Some p) × (p ≢ id)
@@ -440,50 +461,52 @@ module _ (gs : Groups) (fronts : ℕ → PathHash) (id parent i j : ℕ) (g : Gr
                 absurd (cc),
           )
 
-      way : (n : Node) (q : ℕ) → q ≢ id → IsNodeOf gs fronts q n → above hs n.depth q ≡ Some 0
+      -- its parent was the same
+      same_parent : (q p : ℕ) → q ≢ id → parent_of (group_at hs q) ≡ Some p
+          → parent_of (group_at gs q) ≡ Some p
+      same_parent q p w upward =
+          sym (ap parent_of (look_removed_other id gs q (ne_eqb q id w))) ∙ upward
+
+      below : (q p : ℕ) → parent_of (group_at gs q) ≡ Some p → p < q
+      below q p upward =
+          let found = parent_found (group_at gs q) p upward in
+          lower q p found.0 found.1 found.2
+
+      way : (n : Node) (q : ℕ) → q ≢ id → IsLeft q n → above hs n.depth q ≡ Some 0
       way n q w is = above_kept gs hs (λ k. k ≢ id) step n.depth q 0 w is.depth
 
-      other : (q : ℕ) (n : Node) → q ≢ parent → IsNodeOf gs fronts q n → q ≢ id
-          → IsNodeOf hs fronts q n
-      other q n else_where is w = record {
-        children = is.children ∙ left_by false gs id q g at
-            (ap (λ o. is_parent o q) up ∙ ne_eqb parent q (λ same. else_where (sym same)));
-        depth = way n q w is;
-        front = is.front;
-        tail = tail_left gs id lone n.tail q w is.tail;
-      }
-
-      own : IsNodeOf gs fronts parent (node_at (remove ns i) j)
-          → parent ≢ id → IsNodeOf hs fronts parent (one_child_less (node_at (remove ns i) j))
-      own is w =
-          let less = left_by true gs id parent g at
-          (ap (λ o. is_parent o parent) up ∙ eq-eqb parent parent refl) in
+      first : (q : ℕ) (n : Node) → q < id → IsLeft q n → IsNodeOf hs fronts q n
+      first q n low is =
+          let w : q ≢ id = λ same. omega (arith, low, same) in
           record {
-            children = omega (arith, is.children, less);
-            depth = way (node_at (remove ns i) j) parent w is;
+            children = is.children;
+            depth = way n q w is;
+            place = λ p upward. let was = same_parent q p w upward in
+                place_low gs id i whole place p n.above (is.stands p was)
+                (omega (arith, low, below q p was));
             front = is.front;
-            tail = tail_left gs id lone (node_at (remove ns i) j).tail parent w is.tail;
+            tail = tail_left gs id lone n.tail q w is.tail;
           }
 
-  -- the parent of the group that is removed had a child
-  pub some_child : (ns : List Node) → AreNodesOf gs fronts ns
-      → 0 < (node_at (remove ns i) j).children
+      later : (q : ℕ) (n : Node) → id < q → IsLeft q n → IsNodeOf hs fronts q (lowered i n)
+      later q n high is =
+          let w : q ≢ id = λ same. omega (arith, high, same) in
+          record {
+            children = is.children;
+            depth = way n q w is;
+            place = λ p upward. let was = same_parent q p w upward in
+                place_left gs id i whole place p n.above (is.stands p was) (step q p w was).1;
+            front = is.front;
+            tail = tail_left gs id lone n.tail q w is.tail;
+          }
+
+  -- the parent of the group that is removed has a child
+  pub some_child : (ns : List Node) → AreNodesOf gs fronts ns → 0 < (node_at ns j).children
   some_child ns all =
-      let own = node_read (IsNodeOf gs fronts) (remove_entry (eqb id) gs)
-      (remove ns i) parent j higher
-      (node_removed (IsNodeOf gs fronts) gs ns id i place all) in
+      let own = node_read (IsNodeOf gs fronts) gs ns parent j higher all in
       let less = left_by true gs id parent g at
       (ap (λ o. is_parent o parent) up ∙ eq-eqb parent parent refl) in
       omega (arith, own.children, less)
-
-  -- and its node is left
-  pub node_left : (ns : List Node) → AreNodesOf gs fronts ns → j < length (remove ns i)
-  node_left ns all =
-      let long : length (remove ns i) ≡ length (remove_entry (eqb id) gs) =
-      AllZip-long (λ (e : ℕ × GroupFields) (n : Node). IsNodeOf gs fronts e.0 n)
-      (remove_entry (eqb id) gs) (remove ns i)
-      (node_removed (IsNodeOf gs fronts) gs ns id i place all) in
-      omega (arith, higher.within, long)
 
 keys_changed : (f : GroupFields → GroupFields) (id : ℕ) (g : GroupFields) (gs : Groups)
     → keys_of (set_value (eqb id) gs g) ≡ keys_of gs
@@ -511,6 +534,8 @@ nodes_set f gs fronts id ns same named all = by (group_at gs id) refl
           children = is.children ∙ sym (count_set id (f g) g (same g) gs p at);
           depth = above_kept gs (set_value (eqb id) gs (f g)) (λ _. Unit {0})
               (λ q k w up. (stays g at q ∙ up, tt)) n.depth p 0 tt is.depth;
+          place = λ q up. ap (position (eqb q)) (keys_changed f id (f g) gs)
+              ∙ is.place q (sym (stays g at p) ∙ up);
           front = is.front;
           tail = tail_kept gs (set_value (eqb id) gs (f g))
               (λ q k m found. child_set id (f g) g (same g) (named g) gs q m at ∙ found)

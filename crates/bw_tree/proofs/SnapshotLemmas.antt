@@ -1,5 +1,5 @@
 -- The rows of a tree are an instance.
-use Rattle.std.proofs.Common.{◌≡◌, ◌⊎◌, inl, inr, ℕ, suc, zero, ◌+◌, ◌<◌, ◌≤◌, Bool, true, false}
+use Rattle.std.proofs.Common.{◌≡◌, ◌⊎◌, inl, inr, ℕ, suc, zero, ◌<◌, ◌≤◌, Bool, true, false}
 use Rattle.std.proofs.Common.{map, subst, ◌==◌, ◌||◌, ◌&&◌, not, List, [], ◌∷◌, length}
 use Rattle.std.proofs.Common.{cond, get_or, Option}
 use Rattle.std.proofs.Common.{Some, None, is_some, refl, sym, ap, ◌∙◌, arith, eqb, ltb, position}
@@ -22,7 +22,7 @@ use Rattle.std.proofs.lemmas.List.FromFn.{get_or-map-range_with_len, length-map-
 use Rattle.bw_model.specs.declared.quota.Quota.TheVariants.{Max}
 use Rattle.bw_tree.specs.Groups.{GroupFields, TreeState, group_at, has_group, has_children}
 use Rattle.bw_tree.specs.Groups.{demand_at, demand_of, above, parent_of, IsTree, IsSound, AllAfter}
-use Rattle.bw_tree.specs.Groups.{AreRising, AllBefore}
+use Rattle.bw_tree.specs.Groups.{AreRising}
 use Rattle.bw_tree.specs.Snapshot.{row_above, bursting, row_of, rows_of, instance_of}
 use Rattle.bw_tree.specs.Tree.{root_group}
 use Rattle.bw_tree.proofs.GroupLemmas.{above_more, above_here, some_of}
@@ -71,17 +71,6 @@ place_le gs (suc i) d up lt =
     let next = rising_at gs i (suc i) d up (omega arith) lt in
     omega (arith, before, next)
 
--- above each place as many ids are left as groups
-pub place_ge : (gs : List (ℕ × GroupFields)) (i next : ℕ) (d : ℕ × GroupFields) → AreRising gs
-    → AllBefore next gs → i < length gs → (get_or gs i d).0 + length gs ≤ next + i
-place_ge [] i next d up below lt = absurd (omega (arith, lt))
-place_ge (e ∷ []) zero next d up below lt = omega (arith, below.0)
-place_ge (e ∷ f ∷ fs) zero next d up below lt =
-    let rest = place_ge (f ∷ fs) zero next d up.1 below.1 (omega arith) in
-    omega (arith, rest, up.0.0)
-place_ge (e ∷ es) (suc i) next d up below lt =
-    let rest = place_ge es i next d up.1 below.1 (omega (arith, lt)) in omega (arith, rest)
-
 -- the group at a place is found by its id
 pub found_at : (gs : List (ℕ × GroupFields)) (i : ℕ) (d : ℕ × GroupFields) → AreRising gs
     → i < length gs
@@ -129,30 +118,6 @@ place_read gs i id up lt read = same (cases_order j.0 i)
         absurd (omega (arith, low, key, here))
     same (inr (inr after)) = let high = rising_at gs i j.0 d up after there.within in
         absurd (omega (arith, high, key, here))
-
--- where no group was removed each id is its place
-pub whole_place : (t : TreeState) → IsTree t → t.next ≡ length t.groups → (id : ℕ)
-    → has_group t.groups id ≡ true
-    → (position (eqb id) (keys_of t.groups) ≡ Some id) × (id < length t.groups)
-whole_place t ok whole id there = (j.1 ∙ ap Some same, omega (arith, at.within, same))
-  where
-    d : ℕ × GroupFields
-    d = (0, root_group)
-
-    j : (k : ℕ) × (position (eqb id) (keys_of t.groups) ≡ Some k)
-    j = place_found t.groups id there
-
-    at : StandsAt t.groups id j.0
-    at = stands_at t.groups id j.0 j.1
-
-    key : (get_or t.groups j.0 d).0 ≡ id
-    key = key_there t.groups id j.0 d at
-
-    same : j.0 ≡ id
-    same =
-        let low = place_le t.groups j.0 d ok.rising at.within in
-        let high = place_ge t.groups j.0 t.next d ok.rising ok.below_next at.within in
-        omega (arith, low, high, key, whole)
 
 -- the values of the group at a place are in range
 pub sound_at : (t : TreeState) → IsTree t → (i : ℕ) (x : ℕ × GroupFields) → i < length t.groups

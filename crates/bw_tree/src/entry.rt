@@ -27,10 +27,6 @@ impl Tree {
     }
 
     /// Group of a row, in order of creation. Allocates nothing.
-    ///
-    /// # Cost
-    ///
-    /// Constant, if no group before its parent was removed. Otherwise the parent is searched for.
     pub fn entry_of_row(&self, row: usize) -> Entry<'_>
         requires { row < length (keys_of self.now.groups) }
         ensures id { result.id ≡ slice_index (keys_of self.now.groups) row }
@@ -44,7 +40,7 @@ impl Tree {
         let (id, group) = &self.groups[row];
         Entry {
             id: *id,
-            parent: self.row_above(group.parent),
+            parent: self.parent_row(row),
             name: group.name.as_str(),
         }
     }

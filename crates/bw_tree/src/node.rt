@@ -1,11 +1,11 @@
-//! Nodes of the tree: the number of children, the depth, the front and the tail of each group, in
-//! their order.
+//! Nodes of the tree: the number of children, the depth, the parent's place, the front and the tail
+//! of each group, in their order.
 ghost use Rattle.std.specs.Prelude.{◌≡◌, ◌<◌, ◌+◌, ◌^◌, ◌++◌, [], ◌∷◌, length, slice_set};
-ghost use Rattle.std.specs.Prelude.{vec_len, vec_capacity, ℕ, List, Some};
+ghost use Rattle.std.specs.Prelude.{vec_len, vec_capacity, remove, ℕ, List, Some};
 ghost use Rattle.bw_tree.specs.Groups.{GroupFields, child_of};
 ghost use Rattle.bw_tree.specs.Tails.{IsTailOf};
 ghost use Rattle.bw_tree.specs.Nodes.{root_node, leaf_below, node_at, one_child_more};
-ghost use Rattle.bw_tree.specs.Nodes.{one_child_less};
+ghost use Rattle.bw_tree.specs.Nodes.{one_child_less, lowered, lowered_from};
 ghost use Rattle.bw_tree.specs.Keys.{with_bytes};
 
 use crate::group::Group;
@@ -19,6 +19,8 @@ pub(crate) struct Node {
     pub(crate) children: u32,
     // depth: number of groups above it, 0 for the root
     pub(crate) depth: u32,
+    // place of its parent, 0 for the root
+    pub(crate) above: u32,
     // start of the paths of its children: its own path and `/`, nothing for the root
     pub(crate) front: PathHash,
     // end of its own path
@@ -34,6 +36,7 @@ impl Node {
         Node {
             children: 0,
             depth: 0,
+            above: 0,
             front: PathHash::empty(),
             tail: Tail::none(),
         }
@@ -69,14 +72,16 @@ pub(crate) fn tail_below(nodes: &Vec<Node>, above: usize, group: &Group, name: &
 }
 
 // Appends a leaf below the node at a place. The caller has reserved room for it.
+#[inline(always)]
 pub(crate) fn push_leaf(nodes: &mut Vec<Node>, above: usize, front: PathHash, tail: Tail)
     requires within { above < length nodes.old.items }
     requires few { (node_at nodes.old.items above).children + 1 < 2 ^ 32 }
     requires shallow { (node_at nodes.old.items above).depth + 1 < 2 ^ 32 }
+    requires fits { above < 2 ^ 32 }
     requires room { vec_len nodes.old < vec_capacity nodes.old }
     ensures { nodes.new.items
         ≡ slice_set nodes.old.items above (one_child_more (node_at nodes.old.items above))
-        ++ leaf_below (node_at nodes.old.items above) front tail ∷ [] }
+        ++ leaf_below (node_at nodes.old.items above) above front tail ∷ [] }
 {
     let node = &mut nodes[above];
     node.children += 1;
@@ -84,9 +89,30 @@ pub(crate) fn push_leaf(nodes: &mut Vec<Node>, above: usize, front: PathHash, ta
     nodes.push_reserved(Node {
         children: 0,
         depth,
+        above: above as u32,
         front,
         tail,
     });
+}
+
+// Takes out the node at a place. Those behind it move up by one, and so do the places of parents.
+pub(crate) fn take_node(nodes: &mut Vec<Node>, place: usize)
+    requires { place < length nodes.old.items }
+    ensures { nodes.new.items ≡ lowered_from place place (remove nodes.old.items place) }
+{
+    nodes.remove(place);
+    for i in place..nodes.len() {
+        lower(&mut nodes[i], place);
+    }
+}
+
+// Lowers the place of a node's parent by one if it is behind a place.
+fn lower(node: &mut Node, place: usize)
+    ensures { node.new ≡ lowered place node.old }
+{
+    if node.above as usize > place {
+        node.above -= 1;
+    }
 }
 
 // Takes one child from the node at a place.

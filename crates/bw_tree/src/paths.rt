@@ -89,7 +89,7 @@ impl Tree {
         ensures way { IfSome result (λ x. IsWay self.now.groups x.1.now x.0 id) }
         ensures valid { IsTree self.now }
     {
-        let place = place_of(&self.groups, id)?;
+        let place = place_of(&self.groups, &self.places, id)?;
         let tail = &self.nodes[place].tail;
         if tail.is_none() {
             let group = group_there(&self.groups, id, place);

@@ -1,14 +1,13 @@
 //! The groups of a tree as an instance on a host.
 ghost use Rattle.std.specs.Prelude.{◌≡◌, ◌<◌, length, nat_eq, slice_index_or, IfOk, IfErr, None};
-ghost use Rattle.std.specs.Prelude.{Some, true, IfSome};
+ghost use Rattle.std.specs.Prelude.{ℕ};
 ghost use Rattle.std.specs.List.{IsDistinct};
 ghost use Rattle.std.specs.Vec.{vec_capacity};
 ghost use Rattle.bw_model.specs.Groups.{IsInstance, row_of};
-ghost use Rattle.bw_tree.specs.Groups.{has_group, IsTree};
+ghost use Rattle.bw_tree.specs.Groups.{GroupFields};
 ghost use Rattle.std.specs.Map.{keys_of};
 ghost use Rattle.bw_tree.specs.Snapshot.{instance_of, rows_of, base_of, row_above};
 
-use crate::by_id::place_of;
 use crate::carry::{period_limit, quota_slices};
 use crate::fault::TreeFault;
 use crate::group::GroupId;
@@ -97,12 +96,11 @@ impl Tree {
     {
         let alloc = *self.groups.allocator();
         let count = self.groups.len();
-        let none_removed = self.next_id == count as u64;
         let mut ids = Vec::with_capacity(alloc, count)?;
         let mut rows = Vec::with_capacity(alloc, count)?;
         let mut quotas = Vec::with_capacity(alloc, count)?;
         for place in 0..count {
-            let (quota, row) = self.row_at(place, none_removed, shape);
+            let (quota, row) = self.row_at(place, shape);
             ids.push_reserved(self.groups[place].0);
             rows.push_reserved(row);
             quotas.push_reserved(quota);
@@ -115,10 +113,9 @@ impl Tree {
         ensures { IfOk result (λ rows. rows.items ≡ rows_of self.now.groups shape) }
     {
         let count = self.groups.len();
-        let none_removed = self.next_id == count as u64;
         let mut rows = Vec::with_capacity(*self.groups.allocator(), count)?;
         for place in 0..count {
-            let (_, row) = self.row_at(place, none_removed, shape);
+            let (_, row) = self.row_at(place, shape);
             rows.push_reserved(row);
         }
         Ok(rows)
@@ -126,16 +123,15 @@ impl Tree {
 
     // Quota of the group at a place in whole slices, and its row. Divides the quota once.
     #[inline(always)]
-    fn row_at(&self, place: usize, none_removed: bool, shape: HostShape) -> (Option<u64>, Row)
-        requires within { place < length self.now.groups }
-        requires all { none_removed ≡ true → self.now.next ≡ length self.now.groups }
+    fn row_at(&self, place: usize, shape: HostShape) -> (Option<u64>, Row)
+        requires { place < length self.now.groups }
         ensures quota { result.0 ≡ slice_index_or (base_of self.now.groups shape) place None }
         ensures row { result.1 ≡ row_of (rows_of self.now.groups shape) place }
     {
         let (_, group) = &self.groups[place];
         let quota = quota_slices(group, shape);
         let row = Row {
-            parent: self.parent_row(group.parent, none_removed),
+            parent: self.parent_row(place),
             weight: group.weight,
             limit: period_limit(group, quota, shape),
             demand: group.demand,
@@ -143,34 +139,15 @@ impl Tree {
         (quota, row)
     }
 
-    // Number of the row of a group's parent, if there is one: its id where no group was removed.
-    fn parent_row(&self, parent: Option<GroupId>, none_removed: bool) -> Option<u32>
-        requires tree { IsTree self.now }
-        requires found { IfSome parent (λ id. has_group self.now.groups id ≡ true) }
-        requires all { none_removed ≡ true → self.now.next ≡ length self.now.groups }
-        ensures { result ≡ row_above self.now.groups parent }
+    // Number of the row of the parent of the group at a place, if it has one.
+    pub(crate) fn parent_row(&self, place: usize) -> Option<u32>
+        requires { place < length self.now.groups }
+        ensures { (d : ℕ × GroupFields) → result
+            ≡ row_above self.now.groups (slice_index_or self.now.groups place d).1.parent }
     {
-        match parent {
-            Some(id) if none_removed => Some(id as u32),
-            _ => self.row_above(parent),
-        }
-    }
-
-    // Number of the row of a parent, if there is a parent.
-    pub(crate) fn row_above(&self, parent: Option<GroupId>) -> Option<u32>
-        ensures { result ≡ row_above self.now.groups parent }
-    {
-        match parent {
+        match self.groups[place].1.parent {
             None => None,
-            Some(id) => self.row_number(id),
+            Some(_) => Some(self.nodes[place].above),
         }
-    }
-
-    // Number of the row of the group with this id.
-    fn row_number(&self, id: GroupId) -> Option<u32>
-        ensures { result ≡ row_above self.now.groups (Some id) }
-    {
-        let place = place_of(&self.groups, id)?;
-        Some(place as u32)
     }
 }

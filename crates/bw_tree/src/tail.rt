@@ -6,7 +6,7 @@ ghost use Rattle.bw_tree.specs.Tails.{IsTailOf};
 use crate::group::GroupId;
 use arrayvec::ArrayString;
 
-// Maximum length of a tail in bytes: with it a node takes 56.
+// Maximum length of a tail in bytes: with it a node takes 64.
 const MAX_TAIL: usize = 24;
 
 // End of the way from the root down to a group. So a path is compared by several names at once.

@@ -35,7 +35,7 @@ returns c =
     c.self.invariant.nodes in
     c.get.ensures
     ∙ ap (λ k. child_at gs c.self.inside.children k c.args.parent c.args.name.now)
-    (c.number.ensures ∙ ap (number seed) (c.path_below-path.ensures
+    (c.number-key.ensures ∙ ap (number seed) (c.path_below-path.ensures
     ∙ ap (λ h. with_bytes seed h c.args.name.now) own.front))
     ∙ c.self.invariant.index.children c.args.parent c.args.name.now
     ∙ ap (λ (s : TreeState). child_of s.groups c.args.parent c.args.name.now) c.self.view_is

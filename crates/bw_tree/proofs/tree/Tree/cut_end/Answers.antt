@@ -1,5 +1,5 @@
 -- The goals of `Tree::cut_end` that are answered by hand.
-use Rattle.std.proofs.Common.{◌≡◌, ◌++◌, Some}
+use Rattle.std.proofs.Common.{Some}
 use Rattle.std.proofs.lemmas.Bool.Decides.{Decides-eqb}
 use Rattle.std.proofs.lemmas.Slice.Eq.{strip_suffix_is}
 use Rattle.bw_tree.proofs.tree.Tree.cut_end.Goals as goal

@@ -1,31 +1,75 @@
 -- The goals of `Tree::parent_row` that are answered by hand.
-use Rattle.std.proofs.Common.{◌≡◌, ◌<◌, ◌≤◌, ℕ, Option, Some, true, length, position, eqb, sym}
-use Rattle.std.proofs.Common.{ap, subst, ◌∙◌, arith}
-use Rattle.std.specs.Prelude.{IfSome}
+use Rattle.std.proofs.Common.{◌≡◌, ◌<◌, ℕ, Option, List, Some, length, get_or, position, sym, ap}
+use Rattle.std.proofs.Common.{subst, ◌∙◌, arith, eqb}
+use Rattle.std.proofs.lemmas.List.{get_or-map, length-map, get_or_default}
 use Rattle.std.specs.Map.{keys_of}
-use Rattle.bw_tree.specs.Groups.{TreeState, IsTree, has_group}
+use Rattle.bw_tree.specs.declared.node.Node.{Node}
+use Rattle.bw_tree.specs.declared.path_hash.PathHash.{PathHash}
+use Rattle.bw_tree.specs.Groups.{GroupFields, TreeState, IsTree, group_at, parent_of}
+use Rattle.bw_tree.specs.Nodes.{AreNodesOf}
 use Rattle.bw_tree.specs.Snapshot.{row_above}
-use Rattle.bw_tree.proofs.SnapshotLemmas.{whole_place}
+use Rattle.bw_tree.proofs.NodeLemmas.{as_many, node_found}
+use Rattle.bw_tree.proofs.SnapshotLemmas.{found_at, place_read}
 use Rattle.bw_tree.proofs.tree.Tree.parent_row.Goals as goal
 
--- the id of a parent is its place
-id_is_place : (t : TreeState) → IsTree t → t.next ≡ length t.groups → (parent : Option ℕ) (id : ℕ)
-    → parent ≡ Some id → IfSome parent (λ p. has_group t.groups p ≡ true)
-    → (position (eqb id) (keys_of t.groups) ≡ Some id) × (id < length t.groups)
-id_is_place t tree all parent id is there =
-    whole_place t tree all id (subst (λ o. IfSome o (λ p. has_group t.groups p ≡ true)) is there)
+-- `same` is the tree as it is stored, from which the group was read
+module _ {t same : TreeState} (equal : same ≡ t) (tree : IsTree same) (i : ℕ)
+    (x : ℕ × GroupFields) (read : x ≡ get_or same.groups i x) (within : i < length t.groups) where
+  here : i < length same.groups
+  here = omega (arith, within, ap (λ (s : TreeState). length s.groups) equal)
 
-pub overflow_cast-result : goal.overflow_cast-result
-overflow_cast-result c =
-    let there = id_is_place c.args.self.now c.requires.tree
-    (c.requires.all c.if-none_removed.true) c.args.parent c.in-Some.id c.in-Some.is
-    c.requires.found in
-    let few : length c.args.self.now.groups ≤ 16384 = c.requires.tree.count in
-    omega (arith, there.1, few)
+  -- whatever is read where there is no group
+  is : (d : ℕ × GroupFields) → x ≡ get_or t.groups i d
+  is d = read ∙ ap (λ (s : TreeState). get_or s.groups i x) equal
+      ∙ get_or_default t.groups i x d within
+
+  group : group_at same.groups x.0 ≡ Some x.1
+  group = subst (λ (y : ℕ × GroupFields). group_at same.groups y.0 ≡ Some y.1) (sym read)
+      (found_at same.groups i x tree.rising here)
+
+  place : position (eqb x.0) (keys_of same.groups) ≡ Some i
+  place = place_read same.groups i x.0 tree.rising
+      (omega (arith, here, length-map same.groups (λ (e : ℕ × GroupFields). e.0)))
+      (get_or-map (λ (e : ℕ × GroupFields). e.0) same.groups i x 0 here
+      ∙ sym (ap (λ (y : ℕ × GroupFields). y.0) read))
+
+  -- the node of a group has its parent's row
+  row : (fronts : ℕ → PathHash) (ns : List Node) (node : Node) (parent : Option ℕ) (p : ℕ)
+      → AreNodesOf same.groups fronts ns → node ≡ get_or ns i node → x.1.parent ≡ parent
+      → parent ≡ Some p → Some node.above ≡ row_above t.groups x.1.parent
+  row fronts ns node parent p all at up some =
+      let own = node_found same.groups fronts ns x.0 i node all place at in
+      sym (own.place p (ap parent_of group ∙ up ∙ some))
+      ∙ ap (row_above same.groups) (sym (up ∙ some))
+      ∙ ap (λ (s : TreeState). row_above s.groups x.1.parent) equal
+
+pub index-requires : goal.index-requires
+index-requires c = omega (arith, ap (λ (s : TreeState). length s.groups) c.self.view_is)
+
+pub index-requires-in-Some : goal.index-requires-in-Some
+index-requires-in-Some c =
+    omega (
+      arith,
+      ap (λ (s : TreeState). length s.groups) c.self.view_is,
+      as_many c.self.inside.groups.items c.self.invariant.fronts c.self.inside.nodes.items
+          c.self.invariant.nodes,
+    )
 
 pub returns-in-Some : goal.returns-in-Some
-returns-in-Some c =
-    let there = id_is_place c.args.self.now c.requires.tree
-    (c.requires.all c.if-none_removed.true) c.args.parent c.in-Some.id c.in-Some.is
-    c.requires.found in
-    sym there.0 ∙ ap (row_above c.args.self.now.groups) (sym c.in-Some.is)
+returns-in-Some c d =
+    let x = c.index.result.now in
+    let up = sym (ap (λ (y : ℕ × GroupFields). y.1.parent) c.behind-self.view_is) in
+    row c.self.view_is c.self.invariant.tree c.args.place x c.index.ensures c.requires
+    c.self.invariant.fronts c.self.inside.nodes.items c.index-in-Some.result.now
+    c.behind-self.inside.0.1.0.parent c.in-Some.field-0 c.self.invariant.nodes
+    c.index-in-Some.ensures up c.in-Some.is
+    ∙ ap (λ (y : ℕ × GroupFields). row_above c.args.self.now.groups y.1.parent)
+    (is c.self.view_is c.self.invariant.tree c.args.place x c.index.ensures c.requires d)
+
+pub returns-in-None : goal.returns-in-None
+returns-in-None c d =
+    let x = c.index.result.now in
+    let up = sym (ap (λ (y : ℕ × GroupFields). y.1.parent) c.behind-self.view_is) in
+    sym (ap (row_above c.args.self.now.groups) (up ∙ c.in-None.is))
+    ∙ ap (λ (y : ℕ × GroupFields). row_above c.args.self.now.groups y.1.parent)
+    (is c.self.view_is c.self.invariant.tree c.args.place x c.index.ensures c.requires d)
