@@ -182,6 +182,14 @@ def set_demands(model: Model, measured: dict[str, Measured], want: str, seconds:
             group.tasks = max(counters.tasks, needed)
 
 
+def stop(model: Model, paths: Sequence[str], why: str) -> None:
+    """Lets groups whose tasks cannot run ask for nothing, and tells it."""
+    for path in paths:
+        model.groups[path].demand = Fraction(0)
+    if paths:
+        model.notes.append(f"{why}: {names.listed(paths)}: it asks for nothing")
+
+
 def matching(model: Model, pattern: str) -> list[Group]:
     """The groups of a path, a path's end, a title, or a pattern with `*` of these; a fault where
     none is. In a pattern of a path's end `*` stands for no slash."""

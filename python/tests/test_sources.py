@@ -797,6 +797,15 @@ def test_docker(engine):
     assert "containers that do not run, left out: 1" in model.notes
 
 
+def test_paused_containers_ask_for_nothing(engine):
+    """A frozen task uses nothing, whatever its limit is."""
+    raw = [{"Id": "1", "Name": "/a", "HostConfig": {}, "State": {"Running": True, "Paused": True}},
+           {"Id": "2", "Name": "/b", "HostConfig": {}, "State": {"Running": True}}]
+    model = reading.docker([("d", json.dumps(raw).encode())], EIGHT, engine.library)
+    assert [each.demand for each in model.groups.values()] == [0, 0, 8000]
+    assert model.notes == ["paused: system.slice/a: it asks for nothing"]
+
+
 def test_podman(engine):
     model = reading.docker([fixture("podman.json")], EIGHT, engine.library)
     group = model.groups["machine.slice/pod-web"]

@@ -122,6 +122,12 @@ def is_running(container: dict[str, Any]) -> bool:
     return table(container, "State").get("Running", True) is not False
 
 
+def is_paused(container: dict[str, Any]) -> bool:
+    """Whether the tasks of a container are frozen."""
+    state = table(container, "State")
+    return state.get("Paused") is True or text(state, "Status") == "paused"
+
+
 def config_with(container: dict[str, Any], setting: Setting, host: Host) -> dict[str, Any]:
     """The HostConfig of a container with `--cpus` or `--cpu-shares` as docker takes them."""
     config = table(container, "HostConfig")
@@ -183,6 +189,8 @@ class ContainerSource(Measurable):
         measured = {path: Measured() for path in model.groups}
         measured |= {path: self.known.get(place, Measured()) for path, place in places.items()}
         demands.set_demands(model, measured, self.wish.want, self.seconds)
+        demands.stop(model, [path for path, (at, _) in places.items()
+                             if is_paused(self.running[at])], "paused")
         return model, places
 
     def plain(self) -> Model:

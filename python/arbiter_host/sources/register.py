@@ -17,7 +17,7 @@ PARTS = re.compile(rb'"kind"\s*:\s*"(Pod|Node)(?:List)?"')
 UNITS = re.compile(rb"^(ControlGroup|Slice|CPUWeight)=", re.M)
 # The head of what sacct and sstat print, and what sstat says a step has used.
 JOB_IDS = re.compile(rb"[A-Za-z_0-9|%]*\bJobID(Raw)?\b[A-Za-z_0-9|%]*\r?\n")
-USED = "TRESUsageInTot"
+USED, AVERAGE = "TRESUsageInTot", "AveCPU"
 
 
 def is_json(data: bytes) -> bool:
@@ -49,7 +49,8 @@ def part_of_jobs(data: bytes) -> str:
     head = begin.split(b"\n")[0].strip().split(b"|")
     if len(head) < 2 or not JOB_IDS.match(begin):
         return ""
-    return "sstat" if USED.encode() in head else "sacct"
+    is_average = AVERAGE.encode() in head and not {b"State", b"Elapsed", b"TotalCPU"} & set(head)
+    return "sstat" if is_average or USED.encode() in head else "sacct"
 
 
 class SourceKind(NamedTuple):

@@ -24,7 +24,7 @@ from arbiter_host.faults import HostFault, NoHost
 from arbiter_host.model import Group, Model, check_count
 from arbiter_host.names import NOWHERE, listed, shown
 from arbiter_host.sources.data import MAX_BYTES, loads, number, table, tables, text
-from arbiter_host.sources.register import USED, part_of_jobs
+from arbiter_host.sources.register import AVERAGE, USED, part_of_jobs
 from arbiter_host.sources.wish import File, Wish
 
 # The folder of a job.
@@ -66,6 +66,7 @@ class SlurmJob:
     has_cores: bool | None = None
     # The name of its folder is told by the number of a job alone.
     is_raw: bool = True
+    is_suspended: bool = False
     # What sacct calls a task of an array or a part of a job of several kinds of nodes.
     alias: str = ""
 
@@ -189,9 +190,11 @@ def take_jobs(data: Any, node: str, jobs: dict[str, SlurmJob]) -> int:
             left += 1
             continue
         job = job_of(raw, node)
+        job.is_suspended = not set(words_of(raw, "job_state")) & set(RUNNING[:2])
         known = jobs.setdefault(job.identifier, job)
         known.user, known.name, known.nodes = job.user, job.name, job.nodes
         known.whole.cpus, known.has_cores = job.whole.cpus, job.has_cores
+        known.is_suspended = job.is_suspended
     return left
 
 
@@ -240,6 +243,7 @@ def take_row(row: dict[str, str], jobs: dict[str, SlurmJob], aliases: Mapping[st
     if match.group(2):
         job.steps[match.group(2)] = step
         return True
+    job.is_suspended = job.is_suspended or row.get("State", "").startswith(RUNNING[2])
     job.user, job.name = row.get("User") or job.user, row.get("JobName") or job.name
     job.nodes = job.nodes or nodes
     job.whole = JobStep(job.whole.cpus or step.cpus, step.used, step.passed)
@@ -257,16 +261,30 @@ def take_rows(data: bytes, name: str, jobs: dict[str, SlurmJob]) -> int:
     return left
 
 
+def used_of(row: dict[str, str]) -> int | None:
+    """Microseconds that a step has used: in all, or on average by each of its tasks; None where a
+    row of sstat does not say it."""
+    cell = CPU_USED.fullmatch(row.get(USED, ""))
+    if cell:
+        return time_of(cell.group(1))
+    tasks = row.get("NTasks")
+    if tasks is None and USED not in row:
+        raise HostFault(f"{AVERAGE} is of one task: print NTasks beside it, or {USED}")
+    if not row.get(AVERAGE) or not (tasks and tasks.isascii() and tasks.isdigit()):
+        return None
+    return time_of(row[AVERAGE]) * int(tasks)
+
+
 def take_used(data: bytes, name: str, jobs: Mapping[str, SlurmJob]) -> None:
     """Takes what sstat says that steps which run have used."""
     for at, row in rows_of(data, name):
         match = IDENTIFIER.fullmatch(row.get("JobID", ""))
         job = jobs.get(match.group(1)) if match else None
         step = job.steps.get(match.group(2) or "") if match and job else None
-        cell = CPU_USED.fullmatch(row[USED])
         try:
-            if step is not None and cell:
-                step.used = time_of(cell.group(1)) // max(len(step.nodes), 1)
+            used = used_of(row) if step is not None else None
+            if step is not None and used is not None:
+                step.used = used // max(len(step.nodes), 1)
         except HostFault as fault:
             raise HostFault(f"{name}:{at}: {fault.message}") from fault
 
@@ -298,6 +316,7 @@ class JobBuilder:
     def __init__(self, model: Model) -> None:
         self.model = model
         self.measured: dict[str, Measured] = {}
+        self.suspended: list[str] = []
 
     def group(self, path: str, title: str, place: str, step: JobStep) -> None:
         """Makes a group."""
@@ -312,10 +331,13 @@ class JobBuilder:
         path = names.path_name(":".join(job.parts), self.model.groups)
         place = f"{TOP}/job_{job.identifier}" if job.is_raw else NOWHERE
         self.group(path, job.title, place, job.whole)
+        self.suspended += [path] if job.is_suspended and not job.steps else []
         for name, step in job.steps.items():
             below = f"{place}/step_{name}" if job.is_raw else NOWHERE
-            self.group(f"{path}/{names.path_name(f'step_{name}', ())}", f"{job.title}/{name}",
-                       below, JobStep(step.cpus or job.whole.cpus, step.used, step.passed))
+            own = f"{path}/{names.path_name(f'step_{name}', ())}"
+            self.group(own, f"{job.title}/{name}", below,
+                       JobStep(step.cpus or job.whole.cpus, step.used, step.passed))
+            self.suspended += [own] if job.is_suspended else []
 
 
 def take_allotted(jobs: Sequence[SlurmJob], model: Model) -> None:
@@ -404,4 +426,5 @@ def read(files: Sequence[File], _: Library, wish: Wish) -> Model:
     if want not in ("usage", "request", "busy"):
         raise HostFault(f"--want {want} needs readings: jobs have usage, request and busy", 2)
     demands.set_demands(model, builder.measured, want, Fraction(1))
+    demands.stop(model, builder.suspended, "suspended")
     return model
