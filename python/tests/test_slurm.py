@@ -131,8 +131,8 @@ def test_suspended_jobs_ask_for_nothing():
     found = read(json.dumps({"jobs": [raw]}), host=Host(8, 100000, 1000))
     assert found.groups["eve:x:7"].demand == 0
     assert "suspended: eve:x:7: it asks for nothing" in found.notes
-    found = read(HEAD + "".join(f"{job}|x|eve|SUSPENDED|4|01:00|02:00|n1\n" for job in ("7", "7.0")),
-                 host=Host(8, 100000, 1000))
+    found = read(HEAD + "".join(f"{job}|x|eve|SUSPENDED|4|01:00|02:00|n1\n"
+                                for job in ("7", "7.0")), host=Host(8, 100000, 1000))
     assert [each.demand for each in found.groups.values()] == [0, 0]
 
 
