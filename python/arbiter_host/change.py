@@ -132,7 +132,7 @@ def changed(model: Model, words: Sequence[str]) -> Model:
     return after
 
 
-def told(before: Model, after: Model) -> Model:
+def warned(before: Model, after: Model) -> Model:
     """The model after a change, whose new notes are printed on standard error."""
     for note in [each for each in after.notes if each not in before.notes]:
         output.warn(f"--set: {note}")

@@ -78,7 +78,7 @@ def run_apply(options: argparse.Namespace) -> None:
         raise UsageFault("apply takes BEFORE and AFTER, or BEFORE and --set")
     by = engine_of(options.library)
     models = [load.model_of(options, opened, by) for opened in sources]
-    after = change.told(models[-1], change.changed(models[-1], options.set))
+    after = change.warned(models[-1], change.changed(models[-1], options.set))
     root, way = safe_files.Root(options.root), apply.By(options.by)
     for each in forms:
         write_form(each, exports.Draft(models[0], after, sources[0], root, way, by.library,

@@ -53,7 +53,7 @@ def compared(options: argparse.Namespace, by: Engine) -> tuple[Model, Model]:
     models = models_of(options, sources, by)
     for model, files in zip(models, sources):
         load.warn(model, source_name([path for path, _ in files]))
-    return models[0], change.told(models[-1], change.changed(models[-1], options.set))
+    return models[0], change.warned(models[-1], change.changed(models[-1], options.set))
 
 
 def chosen(options: argparse.Namespace, models: Sequence[Model]) -> frozenset[str] | None:

@@ -23,7 +23,7 @@ def run(options: argparse.Namespace) -> None:
     outputs, by = table.outputs(options), found_engine(options)
     model = load.load(options, options.source, by)
     if options.set:
-        model = change.told(model, change.changed(model, options.set))
+        model = change.warned(model, change.changed(model, options.set))
     # A script and TOML have the warnings in them.
     has_notes = all(each.form != "json" for each in outputs)
     load.warn(replace(model, notes=[]) if has_notes else model, source_name(options.source))

@@ -43,7 +43,7 @@ def run(options: argparse.Namespace) -> None:
     uses = uses_of(options, model)
     load.warn(model, source_name(options.source))
     found = recommend.recommended(by, model, uses, rule, choosing.chosen(model, options))
-    change.told(model, found.after.model)
+    change.warned(model, found.after.model)
     count = max((len(use.values) for use in uses.values()), default=0)
     output.write_forms(outputs, {"text": lambda: lines_of(found, count),
                                  "json": lambda: output.json_text(recommend.as_data(found))})

@@ -32,11 +32,11 @@ def run(options: argparse.Namespace) -> None:
     outputs, by = table.outputs(options), found_engine(options)
     model = load.load(options, options.source, by)
     load.warn(model, source_name(options.source))
-    before = plan(by, change.told(model, change.changed(model, options.set)))
+    before = plan(by, change.warned(model, change.changed(model, options.set)))
     answer = tune.tune(before, options.goal, options.guaranteed,
                        choosing.chosen(before.model, options))
     if answer.best is not None:
-        change.told(before.model, answer.best.plan.model)
+        change.warned(before.model, answer.best.plan.model)
     write_forms(outputs, {"text": lambda: lines_of(answer, options.unit),
                           "json": lambda: json_text(tune.as_data(answer))})
     if answer.is_nothing:
