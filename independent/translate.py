@@ -39,7 +39,8 @@ PARTS: dict[str, tuple[tuple[str, ...], ...]] = {
         ("bw_model/specs/Faults.antt",),
     ),
     "Reading": (
-        ("bw_cert/src/fault.rt", "CertFault"), ("bw_cert/specs/Faults.antt",), ("bw_cert/specs/Spelling.antt",),
+        ("bw_cert/src/fault.rt", "CertFault"), ("bw_cert/specs/Faults.antt",),
+        ("bw_cert/specs/Spelling.antt",),
         ("bw_cert/specs/Reading.antt",),
     ),
 }
@@ -55,7 +56,8 @@ WORDS = {"ℕ": "nat", "List": "list", "Option": "option", "Bool": "bool", "zero
 # Operators by their binding, the loosest first: how Coq writes them, and how they associate.
 OPERATORS = {
     "→": (1, "->", "right"), "↔": (2, "<->", "none"), "×": (3, "/\\", "right"),
-    "⊎": (3, "\\/", "right"), ">>=": (2, ">>=", "left"), "≡": (4, "=", "none"), "≢": (4, "<>", "none"),
+    "⊎": (3, "\\/", "right"), ">>=": (2, ">>=", "left"),
+    "≡": (4, "=", "none"), "≢": (4, "<>", "none"),
     "<": (4, "<", "none"), "≤": (4, "<=", "none"), "||": (5, "||", "left"),
     "&&": (6, "&&", "left"), "==": (7, "=?", "none"), "∷": (8, "::", "right"),
     "++": (8, "++", "right"), "+": (9, "+", "left"), "-": (9, "-", "left"),
@@ -63,10 +65,16 @@ OPERATORS = {
     "^": (11, "^", "right"),
 }
 TOKEN = re.compile(r"""\s*(?:(?P<text>"[^"]*")|(?P<number>[0-9]+)|(?P<name>[^\W\d][\w']*)
-    |(?P<field>\.(?=\w))|(?P<sign>>>=|==|\|\||&&|\+\+|[→↔×⊎≡≢<≤∷+\-*/%^¬λ⊥(){}\[\],;:=.←⏎]))""", re.X)
+    |(?P<field>\.(?=\w))
+    |(?P<sign>>>=|==|\|\||&&|\+\+|[→↔×⊎≡≢<≤∷+\-*/%^¬λ⊥(){}\[\],;:=.←⏎]))""",
+                   re.X)
 # Names that mean something else to Coq.
 RESERVED = {"at", "return", "end", "match", "as", "fun", "forall", "exists", "in", "to", "with"}
 CLAIM = re.compile(r"(Is|Are|Has|Holds|Headline)")
+# A struct or an enum of Rust, with its parameters and its fields or variants.
+DECLARATION = re.compile(r"pub (struct|enum) (\w+)(?:<([^>]*)>)? \{(.*?)^\}", re.M | re.S)
+# How the names of claims begin that are no records.
+CLAIMED = re.compile(r"(Is|Are|Has|No|May|Drains|All|If|⊥)")
 # The word by which a file names the variants of its faults.
 ALIAS = "faults"
 # An operator that the definitions define, and the name that it has here.
@@ -398,7 +406,8 @@ class Writer:
             value, rest = node.parts
             kind = self.type_of(value, scope)
             of_ok = kind.parts[1] if kind is not None and head(kind) == "Result" else None
-            text = self.binding(rest, scope, is_claim, of_ok) if rest.kind == "function" else inner(rest)
+            is_function = rest.kind == "function"
+            text = self.binding(rest, scope, is_claim, of_ok) if is_function else inner(rest)
             return f"({STEP_NAME} {inner(value)} {text})"
         if node.kind == "operator":
             sign = OPERATORS[node.word][1]
@@ -411,7 +420,7 @@ class Writer:
         if node.kind == "pair":
             return f"({inner(node.parts[0])}, {inner(node.parts[1])})"
         if node.kind == "let":
-            below = {**scope, node.word: (plain(node.word), node.parts[0])}
+            below: Scope = {**scope, node.word: (plain(node.word), node.parts[0])}
             return (f"(let {plain(node.word)} := {inner(node.parts[1])} in"
                     f" {self.term(node.parts[2], below, is_claim)})")
         if node.kind == "field":
@@ -458,7 +467,7 @@ class Writer:
                 element: Node | None = None) -> str:
         """Names with types, and what holds of them, or a function."""
         below, groups = dict(scope), []
-        types = node.parts[:-1] or [None] * len(node.names)
+        types: list[Node | None] = [*node.parts[:-1]] or [None] * len(node.names)
         for names, kind in zip(node.names, types):
             text = "" if kind is None else f" : {self.term(kind, scope, is_holding(kind))}"
             below.update({each: (plain(each), kind or element) for each in names})
@@ -558,10 +567,12 @@ class Writer:
         if matched:
             rows = [" | " + ", ".join(self.pattern(patterns[at]) for at in matched)
                     + f" => {body}" for (patterns, _), body in zip(clauses, bodies)]
-            text = f"match {', '.join(names[at] for at in matched)} with\n" + "\n".join(rows) + "\nend"
+            heads_of_match = ", ".join(names[at] for at in matched)
+            text = f"match {heads_of_match} with\n" + "\n".join(rows) + "\nend"
         is_recursive = any(mentions(body, title) for _, body in clauses)
         word = "Fixpoint" if is_recursive else "Definition"
-        self.lines.append(f"{word} {title}{heads} : {self.term(result, scope, False)} :=\n  {text}.")
+        kind_of_result = self.term(result, scope, False)
+        self.lines.append(f"{word} {title}{heads} : {kind_of_result} :=\n  {text}.")
 
     def is_one_name(self, clauses: Sequence[tuple[list[Node], Node]], at: int) -> bool:
         """Whether all clauses have one name at this place."""
@@ -610,7 +621,7 @@ def is_holding(kind: Node) -> bool:
         return True
     if kind.kind == "operator":
         return kind.word in ("≡", "≢", "<", "≤", "⊎", "↔")
-    return kind.kind == "not" or bool(re.match(r"(Is|Are|Has|No|May|Drains|All|If|⊥)", head(kind)))
+    return kind.kind == "not" or bool(CLAIMED.match(head(kind)))
 
 
 def mentions(node: Node, word: str) -> bool:
@@ -685,10 +696,11 @@ class Reader:
         """The items of a file or of a module."""
         signature: tuple[str, Node] | None = None
         clauses: list[tuple[list[Node], Node]] = []
-        for item in [*items(lines), []]:
+        all_items: list[list[str]] = [*items(lines), []]
+        for item in all_items:
             text = one_line(item)
             title = text.split(" ")[0] if item else ""
-            is_step = bool(signature) and STEP_NAME == signature[0] and " >>= " in text
+            is_step = signature is not None and STEP_NAME == signature[0] and " >>= " in text
             if signature and title != signature[0] and not is_step:
                 if signature[0] not in LEFT_OUT:
                     self.writer.add_function(*signature, clauses, scope)
@@ -779,7 +791,7 @@ def add_declared(writer: Writer, text: str, wanted: Sequence[str]) -> None:
             writer.results[match[1]] = (0, name("ℕ"))
             writer.lines.append(f"Definition {match[1]} : nat := "
                                 f"{writer.term(parsed(value), {}, False)}.")
-    for match in re.finditer(r"pub (struct|enum) (\w+)(?:<([^>]*)>)? \{(.*?)^\}", text, re.M | re.S):
+    for match in DECLARATION.finditer(text):
         kind, title, parameters, body = match.groups()
         if title not in wanted:
             continue
