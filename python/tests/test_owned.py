@@ -13,7 +13,7 @@ import reading
 import trees
 from arbiter import Host
 from arbiter_host import change
-from arbiter_host.faults import UsageFault
+from arbiter_host.faults import HostFault, UsageFault
 from arbiter_host.goals import Goals, goals_of
 from arbiter_host.knobs import Knobs
 from arbiter_host.owned import Setting, remade
@@ -530,3 +530,21 @@ def test_the_least_weight_of_a_unit_of_a_tree(ctl, folder):
     by, _ = needed(ctl, "a.service", "600m", *words)
     assert (by["CPUWeight"]["now"], by["CPUWeight"]["least"]) == ("100", "294")
     assert by["CPUQuota"]["now"] == "-"
+
+
+# The host
+
+@pytest.mark.parametrize("words, host", [
+    ([".cpus=2"], Host(2, 100000, 1000)), ([".period=1s", ".slice=5ms"], Host(8, 1000000, 5000)),
+])
+def test_another_host(engine, words, host):
+    """What is busy asks for all CPUs of the new host; weights and limits stay."""
+    data = (FIXTURES / "docker.json").read_bytes()
+    model = reading.docker([("d", data)], EIGHT, engine.library, want="busy")
+    after = change.changed(model, [*words, "system.slice/web.cpu-shares=512"])
+    assert after.host == host and of(after.groups["system.slice/web"]) == (20, 150000, 100000)
+    assert after.groups["system.slice/web"].demand == 1000 * host.processors
+    for word in (".cpus=x", ".cpus=0", ".slice=3ms"):
+        with pytest.raises(HostFault) as fault:
+            change.changed(model, [word])
+        assert fault.value.status == 2
