@@ -82,14 +82,6 @@ def add_source_options(parser: argparse.ArgumentParser) -> None:
     group.add_argument("--cgroup", metavar="DIR", help="the tree of cgroups in which pods or"
                        " containers are measured, such as /sys/fs/cgroup")
     group.add_argument("--node", default="", metavar="NAME", help="the node whose pods are read")
-    group.add_argument("--conversion", choices=tuple(units.CONVERSIONS), default="linear",
-                       help="shares to weights: `linear` before runc 1.3.2 and crun 1.23, `log`"
-                       " from these on (default linear)")
-    for name, written in (("kubelet", "kubepods, classes and pods"), ("runtime", "containers")):
-        group.add_argument(f"--{name}", choices=tuple(units.CONVERSIONS),
-                           help=f"the conversion of {written} alone (default: --conversion)")
-    group.add_argument("--driver", choices=("systemd", "cgroupfs"), default="systemd",
-                       help="how the runtime names groups (default systemd)")
     group.add_argument("--strict", action="store_true",
                        help="refused lines of a script end the command with status 4")
 
@@ -239,9 +231,11 @@ def wish_of(options: argparse.Namespace) -> Wish:
     if options.used or options.usage or options.cgroup:
         from arbiter_host.sources import used
         tree, measured = used.tree_of(options) or tree, used.measured_by(options)
-    return Wish(options.cpus, period, slice_, options.node, options.kubelet or options.conversion,
-                options.runtime or options.conversion, options.driver, tree, options.want or "",
-                interval_of(options.interval), measured)
+    weights = options.node_weights
+    return Wish(options.cpus, period, slice_, options.node, tree=tree, want=options.want or "",
+                kubelet="log" if weights == "log" else "linear",
+                runtime="linear" if weights == "linear" else "log",
+                seconds=interval_of(options.interval), measured=measured)
 
 
 def opened(options: argparse.Namespace, paths: Sequence[str]) -> list[Opened]:

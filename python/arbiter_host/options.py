@@ -321,13 +321,10 @@ def bridge(options: argparse.Namespace) -> None:
     """Sets what readers of sources still ask for by names that are no longer options."""
     there, read = vars(options), readings(options.read or "2x1s")
     used, form = (options.used or [""])[0], form_of_used(options)
-    weights = options.node_weights
     for dest, value in {
             "interval": read.time, "samples": read.number or 2, "later": [], "own": False,
             "depth_read": MAX_DEPTH, "usage": used if form == "file" else None,
-            "cgroup": used if form == "folder" else None, "kubelet": None, "runtime":
-            "log" if weights == "runtime-log" else None, "driver": "systemd", "conversion":
-            "log" if weights == "log" else "linear"}.items():
+            "cgroup": used if form == "folder" else None}.items():
         there.setdefault(dest, value)
 
 
