@@ -25,8 +25,7 @@ from arbiter_host.sources.samples import History
 
 # What a worker reads of the options. What was used goes to each host with its pods.
 READING = ("kind", "want", "scale", "node", "node_weights", "strict", "cpus", "period", "slice",
-           "interval", "samples", "later", "own", "depth_read", "conversion", "kubelet", "runtime",
-           "driver")
+           "interval", "samples", "later", "own", "depth_read")
 OF_NO_HOST: dict[str, Any] = {"used": [], "usage": None, "cgroup": None}
 Samples = Callable[[HostFile], History]
 Missing = list[tuple[str, str]]
