@@ -271,7 +271,7 @@ def test_units(ctl, folder):
     assert out.split("\n")[4].split() == ["used", "most", "CPUWeight", "then", "CPUQuota", "then",
                                           "gets", "guaranteed", "unit"]
     _, err = ctl.run("recommend", words[0], "--cpus", "4", status=1)
-    assert "nothing was seen of any unit here: --used, or a later copy" in err
+    assert "nothing was seen of any unit here: --used says what they used" in err
 
 
 def test_units_of_a_tree(ctl, folder):

@@ -121,7 +121,7 @@ def test_explain_has_use_and_what_is_short(ctl):
     (b'{"kind": "PodMetricsList", "items": [{"containers": [{"name": "x", "usage": 5}]}]}',
      "'None' is no quantity"),
     (b'{"items": []}', "it names no container"), (b"[" * 100000, "no JSON that can be read"),
-    (b'{"CPUPerc": "1e5%", "Name": "x"}', "is no quantity"), (b"\xff\xfe\x00", "no usage as"),
+    (b'{"CPUPerc": "1e5%", "Name": "x"}', "is no quantity"), (b"\xff\xfe\x00", "not UTF-8"),
 ], ids=lambda each: repr(each)[:30])
 def test_bad_usage(ctl, folder, text, words):
     """One line names the file and its fault, and nothing is planned."""

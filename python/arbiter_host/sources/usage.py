@@ -61,10 +61,12 @@ def is_text(data: bytes) -> bool:
 
 
 def is_usage(data: bytes) -> bool:
-    """Whether a file tells what was used at one time, and has no samples."""
+    """Whether a file tells what was used at one time, and has no samples. An empty one is taken
+    for such a file."""
     head = next((line for line in data[:65536].decode("utf-8-sig", "replace").split("\n")
                  if line.strip()), "")
-    return not is_text(data) or CPU_COLUMN in head.split() or CPU_PART in GAP.split(head.strip())
+    return (not is_text(data) or not head or CPU_COLUMN in head.split()
+            or CPU_PART in GAP.split(head.strip()))
 
 
 def amount_of(word: str, where: str) -> Fraction:

@@ -64,16 +64,20 @@ def check_want(options: argparse.Namespace) -> None:
                          f" tree alone, and not to {want}")
 
 
+def check_input(options: argparse.Namespace) -> None:
+    """A fault where standard input is meant twice."""
+    many = words_of(options).count("-")
+    source = getattr(options, "source", [])
+    if many and "-" in ([source] if isinstance(source, str) else source):
+        raise UsageFault("--used -: standard input is the source already")
+    if many > 1:
+        raise UsageFault("--used -: standard input is one file")
+
+
 def bytes_of(options: argparse.Namespace, word: str) -> bytes:
     """The bytes of a file of `--used`."""
-    if word != "-":
-        return load.file_bytes(word)
-    source = getattr(options, "source", [])
-    if "-" in ([source] if isinstance(source, str) else source):
-        raise UsageFault("--used -: standard input is the source already")
-    if words_of(options).count("-") > 1:
-        raise UsageFault("--used -: standard input is one file")
-    return load.standard_input()
+    check_input(options)
+    return load.standard_input() if word == "-" else load.file_bytes(word)
 
 
 def asked_range(options: argparse.Namespace) -> prometheus.Range:
@@ -167,6 +171,7 @@ def measured_by(options: argparse.Namespace) -> Callable[[Measurable], Owned] | 
     if not words_of(options):
         return None
     check_want(options)
+    check_input(options)
 
     def measured(source: Measurable) -> Owned:
         if not is_tree(options):
