@@ -86,7 +86,7 @@ def test_one_more_pod_of_a_deployment(ctl, folder):
     assert "3500m less the 3200m" in by["n1"]["why"] and by["n2"]["gets"] == 100
     name, = (each["name"] for each in spec["containers"])
     out, _ = ctl.run("apply", folder / "made.json", "--cpus", "2", "--set",
-                     f"team/jobs/{name}.request=500m", "--as", "kubectl-patch", "--to", "-")
+                     f"team/jobs/{name}.request=500m", "-o", "kubectl")
     assert yaml.safe_load(out) == {
         "apiVersion": "apps/v1", "kind": "Deployment",
         "metadata": {"name": "jobs", "namespace": "team"},

@@ -360,4 +360,4 @@ def test_rows_of_the_text(ctl, fleet):
     out, err = ctl.run("explain", fleet, "--workers", "0")
     assert out.endswith(f"\nand {HOSTS - 20} more (--all)\n") and err == ""
     out, err = ctl.run("explain", fleet, "--workers", "0", "--all", "-v")
-    assert out.count("\nhost-") == HOSTS and " seconds, processes: 1\n" in err
+    assert out.count("\nhost-") == HOSTS and err.endswith(" seconds\n")

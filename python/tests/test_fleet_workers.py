@@ -170,7 +170,7 @@ def test_processes_answer_as_one(ctl, folder):
 
 def test_a_host_that_kills_workers_is_named(hosts, calls, by_name):
     """Each worker that dies has a successor, and only the host that no worker survives is named."""
-    names = [f"good-{number}" for number in range(12)]
+    names = [f"good-{number}" for number in range(4)]
     found, missing = fleets.asked(hosts("die", *names), calls, workers=2)
     assert missing == {"die": "its worker died, twice"} and found.keys() == set(names)
 
@@ -179,7 +179,7 @@ def test_workers_that_all_die(hosts, calls, by_name, monkeypatch):
     """The run ends with words of its own."""
     monkeypatch.setattr(pool, "MOST_DEATHS", 1)
     with pytest.raises(HostFault, match="workers die one after another"):
-        fleets.asked(hosts(*(f"die-{number}" for number in range(9))), calls, workers=2)
+        fleets.asked(hosts(*(f"die-{number}" for number in range(4))), calls, workers=2)
 
 
 def test_an_exception_is_told_of_its_host(hosts, calls, by_name):

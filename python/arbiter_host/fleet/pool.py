@@ -70,6 +70,16 @@ def uninterrupted() -> Iterator[None]:
         signal.pthread_sigmask(signal.SIG_SETMASK, before)
 
 
+def let_go(executor: Executor) -> None:
+    """Frees the thread of a pool that hands items on, when no process is left that takes them.
+
+    Python waits for it without an end before 3.12 (gh-94777).
+    """
+    items: Any = getattr(executor, "_call_queue", None)
+    if items is not None:
+        items._reader.close()
+
+
 @contextmanager
 def processes(count: int) -> Iterator[Executor]:
     """Processes of this machine. All are ended behind it, whatever they work at."""
@@ -81,6 +91,7 @@ def processes(count: int) -> Iterator[Executor]:
     except BaseException:
         for each in multiprocessing.active_children():
             each.kill()
+        let_go(found)
         raise
     finally:
         found.shutdown(cancel_futures=True)
@@ -116,6 +127,7 @@ def alone(job_text: str, item: Item) -> Reply:
         for _, future in given(executor, 1, job_text, [item]):
             if future.exception() is None:
                 return Reply(item.host, future.result())
+        let_go(executor)
     return Reply(item.host, b"", "its worker died, twice")
 
 
@@ -134,6 +146,8 @@ def by_processes(count: int, job_text: str, items: Iterator[Item]) -> Replies:
                 deaths = 0
                 yield Reply(item.host, b"", f"its worker: {type(error).__name__}: {error}"
                             ) if error else Reply(item.host, future.result())
+            if lost:
+                let_go(executor)
         for item in lost:
             reply = alone(job_text, item)
             deaths = deaths + 1 if reply.why else 0

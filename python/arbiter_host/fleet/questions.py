@@ -4,7 +4,6 @@ from __future__ import annotations
 import argparse
 import base64
 import os
-import time
 from collections.abc import Callable, Iterator, Sequence
 from contextlib import closing
 from dataclasses import replace
@@ -18,7 +17,7 @@ from arbiter_host.fleet.hosts import Fleet, HostFile
 from arbiter_host.fleet.job import Job
 from arbiter_host.fleet.work import Item
 from arbiter_host.model import Group, Model
-from arbiter_host.output import json_text, say, warn, write_forms
+from arbiter_host.output import json_text, warn, write_forms
 from arbiter_host.plan import Engine, engine_of
 from arbiter_host.sources import used
 from arbiter_host.sources.samples import History
@@ -122,7 +121,7 @@ def workers_of(options: argparse.Namespace, fleet: Fleet) -> int:
 def asked(options: argparse.Namespace, job: Job, fleet: Fleet,
           samples: Samples | None = None) -> tuple[list[Host], Missing]:
     """The answers of all hosts, and the hosts that have none with the reasons, by name."""
-    engine, began = engine_of(options.library), time.monotonic()
+    engine = engine_of(options.library)
     workers, found = workers_of(options, fleet), dict[str, Host]()
     missing: Missing = []
     items = items_of(fleet.hosts, samples, missing)
@@ -134,8 +133,6 @@ def asked(options: argparse.Namespace, job: Job, fleet: Fleet,
             except HostFault as fault:
                 missing.append((reply.host, fault.message))
             tick()
-    if options.verbose:
-        say(f"{time.monotonic() - began:.1f} seconds, processes: {workers or 1}")
     known = {*found, *(name for name, _ in missing)}
     missing += [(host.name, pool.GONE) for host in fleet.hosts if host.name not in known]
     return [found[name] for name in sorted(found)], sorted(missing)
@@ -155,8 +152,7 @@ def with_pending(options: argparse.Namespace, job: Job, fleet: Fleet,
         return found
     pods = [[f"{each.title}.json", base64.b64encode(each.data).decode()]
             for each in fleet.shapes().values()]
-    quiet = argparse.Namespace(**{**vars(options), "verbose": False})
-    placing, _ = asked(quiet, replace(job, action="place", pods=pods), fleet)
+    placing, _ = asked(options, replace(job, action="place", pods=pods), fleet)
     return pending.added(found, pending.placed(fleet, placing, options.rank), options.rank)
 
 
