@@ -3,7 +3,7 @@
 # two runs of the scenario `two-demands` in a guest with Linux 6.1, one after the other.
 #
 #     sh examples/copies.sh FOLDER
-#     arbiterctl audit FOLDER/copy-? --interval 3s --cpus 2 --want psi
+#     arbiterctl audit FOLDER/copy-? --read x3s --cpus 2 --want psi
 
 # One group: its folder, weight, tasks, and the microseconds that it used and waited.
 group() {

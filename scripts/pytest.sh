@@ -6,7 +6,7 @@ python=/usr/bin/python3
 test_report=out/tests.xml
 # Seconds that all tests may take.
 test_seconds=2400
-test_folders=(tests)
+test_folders=(tests bench/kernel)
 [ -d python/tests ] && test_folders+=(python/tests)
 
 # Debian's packages that the tests need, and their modules.
@@ -29,6 +29,9 @@ need_packages() {
   for tool in "${tools[@]}"; do
     command -v "$tool" >/dev/null || missing+=("$tool")
   done
+  # What short guests need. Their kernel is had by apt-get where no earlier run has unpacked one.
+  command -v qemu-system-x86_64 >/dev/null || missing+=(qemu-system-x86)
+  command -v busybox >/dev/null || missing+=(busybox-static)
   # What clang-14 links a program with sanitizers and a fuzzer to.
   compgen -G '/usr/lib/llvm-14/lib/clang/*/lib/linux/libclang_rt.fuzzer-*.a' >/dev/null ||
     missing+=(libclang-rt-14-dev)

@@ -63,6 +63,20 @@ def refusing() -> str:
         yield support.build_refusing_library(folder)
 
 
+@pytest.fixture(scope="session")
+def guests_kernel():
+    """A kernel for guests. It is had once by apt-get; a skip where packages are missing."""
+    from kernel import packages
+    from kernel.faults import KernelFault
+    lacks = packages.missing()
+    if lacks:
+        pytest.skip(lacks)
+    try:
+        return packages.any_kernel()
+    except KernelFault as fault:
+        pytest.skip(str(fault))
+
+
 @pytest.fixture
 def scratch() -> Path:
     """An empty folder, which is removed after the test."""

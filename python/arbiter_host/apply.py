@@ -17,13 +17,13 @@ from enum import Enum
 from fractions import Fraction
 from typing import Any
 
-from arbiter_host import units
+from arbiter_host import cgroup2, units
 from arbiter_host.atomic_files import any_place, faults
 from arbiter_host.faults import HostFault, strerror
 from arbiter_host.model import Group, Model, check_settings
 from arbiter_host.names import NOWHERE, raw_path, shown
 from arbiter_host.safe_files import Gone, Identity, Root, parts_of
-from arbiter_host.sources import cgroup2, data
+from arbiter_host.sources import data
 from arbiter_host.sources.systemd import UNIT
 
 SECONDS = 60

@@ -38,7 +38,7 @@ class RefusedLines(HostFault):
 
 
 class Alerted(HostFault):
-    """Alerts of `watch` that hold: status 5."""
+    """Alerts of `top` that hold: status 5."""
 
     def __init__(self, alerts: Sequence[tuple[str, str]]) -> None:
         super().__init__("\n".join(f"alert: {condition}: {group}" for condition, group in alerts)

@@ -10,39 +10,35 @@ import json
 import os
 import re
 import time
-from collections.abc import Callable, Iterable, Sequence
-from dataclasses import asdict, dataclass, field, replace
+from collections.abc import Callable, Iterable
+from dataclasses import asdict, dataclass, replace
 from fractions import Fraction
 from typing import Any, NamedTuple
 
 from arbiter import Columns, Host, Row
-from arbiter_host import apply, awake, demands, output, safe_files, units, weights
+from arbiter_host import apply, cgroup2, hunger, looks, output, safe_files, units, weights
 from arbiter_host.apply import Back, By, Change, Settings
-from arbiter_host.awake import Tasks
-from arbiter_host.demands import Reading
+from arbiter_host.demands import rise
 from arbiter_host.faults import HostFault
-from arbiter_host.model import MAX_DEPTH, Group, Model, checked, planned
+from arbiter_host.looks import Counted, Times
+from arbiter_host.model import MAX_DEPTH, Group, Model, planned
 from arbiter_host.names import shown
 from arbiter_host.plan import Engine, asking
 from arbiter_host.record import Record
 from arbiter_host.safe_files import Gone, Identity, Root
-from arbiter_host.sources import cgroup1, cgroup2, cgroups
-from arbiter_host.sources.cgroups import Node, Wish, keyed
+from arbiter_host.sources.pods import kubelets
 
 # What is told of a round.
 Line = dict[str, Any]
 
-HOST_TREE = "/sys/fs/cgroup"
-KUBELET = re.compile(r"kubepods([-.].*)?")
 # Failed readings in a row that end the loop.
 MOST_FAILED = 2
 # Rounds, and their nanoseconds, that may be missed before one. After more of both the clock has
 # jumped, or nothing ran for long.
-MOST_MISSED, LONGEST_MISSED = 5, 5 * 10**9
+SECOND = 10**9
+MOST_MISSED, LONGEST_MISSED = 5, 5 * SECOND
 # Files that are open beside those of the groups.
 SPARE_FILES = 64
-# Quota over burst, where a limit has a burst.
-BURST_PART = 10
 # A quota stands that is up to this part of it above the limit of the rule; half as much is written
 # above it. The kernel gives a new quota at each writing, so a group could use two in a period.
 MOST_ABOVE = 64
@@ -54,8 +50,6 @@ class Ways(NamedTuple):
     # Whether groups of kubelet are held too.
     is_forced: bool = False
     has_weights: bool = False
-    # Each limit has a burst of a tenth of its quota.
-    has_burst: bool = False
     # A group so many levels below the top is held as one.
     depth: int = MAX_DEPTH
 
@@ -75,13 +69,10 @@ class Kept:
     stands: Settings
     # What is being written; what stands where nothing is.
     target: Settings
-    reading: Reading
-    # Nanoseconds of the clock at the last reading.
-    at: int
+    # Its last reading.
+    counted: Counted
     # Whether its limit is left alone, since somebody else sets it.
     is_left: bool = False
-    # What its tasks did by the last reading.
-    tasks: Tasks = field(default_factory=dict)
     # Slices that the plan of the last round gave it; None before its first round.
     planned: int | None = None
 
@@ -130,44 +121,24 @@ class WriteFault(HostFault):
     """A fault of a writing, which ends the loop. One of a reading may pass."""
 
 
-def used_between(leaf: Kept, now: Reading, at: int, tasks: Tasks) -> Used:
+def used_between(leaf: Kept, now: Counted) -> Used:
     """What a leaf used since its last reading, and whether it would have used more.
 
     It would if it was throttled, or if a task of it waited and hardly slept.
     """
-    rise, passed = demands.rise(leaf.reading.usage, now.usage), at - leaf.at
-    if rise is None or passed <= 0:
+    span, has_limit = looks.risen(leaf.counted, now, Fraction(0)), leaf.stands.quota is not None
+    if span.risen.usage is None or span.seconds <= 0:
         raise HostFault(f"{shown(leaf.folder)}: its reading is older than the last: nothing is"
                         " written")
-    throttled = demands.rise(leaf.reading.throttled, now.throttled)
-    waited = demands.rise(leaf.reading.pressure, now.pressure)
-    found = awake.Round(passed, rise, waited or 0,
-                        leaf.stands.quota is not None and bool(throttled))
-    used = units.thousandths_of_usage(rise, Fraction(passed, 10**9))
-    if not awake.is_hungry(leaf.tasks, tasks, found):
-        return Used(used, False)
-    most = awake.most_wanted(leaf.tasks, tasks, found)
-    return Used(used, True, None if most is None else max(used, Fraction(1000 * most, passed)))
-
-
-def tree(top: str, host: Host, depth: int = MAX_DEPTH) -> tuple[Model, list[Node]]:
-    """The groups of a tree of cgroup v2 as they stand, down to a depth."""
-    cgroup2.check_folder(top)
-    if cgroup1.is_tree(top) or not cgroup2.is_tree(top):
-        raise HostFault(f"{shown(top)}: no tree of cgroup v2")
-    files, model = cgroup2.Files(), Model(checked(host))
-    model.notes += files.told(top)
-    walk = cgroups.Walk(files, model, Wish(depth=depth))
-    walk.below(Node(top, Group(".")))
-    if not walk.nodes:
-        model.notes.append("no groups with the cpu controller are below this folder")
-    return model, walk.nodes
+    if not span.is_hungry(has_limit):
+        return Used(span.used, False)
+    return Used(span.used, True, span.most_wanted(has_limit))
 
 
 def own_folder() -> str:
     """The folder of the group in which this process runs."""
-    path = re.search(r"^0::(/.*)$", cgroups.file_text("/proc/self", "cgroup") or "", re.M)
-    return f"{HOST_TREE}{path.group(1)}" if path else ""
+    path = re.search(r"^0::(/.*)$", cgroup2.file_text("/proc/self", "cgroup") or "", re.M)
+    return f"{looks.HOST_TREE}{path.group(1)}" if path else ""
 
 
 def own_group() -> Identity | None:
@@ -179,13 +150,6 @@ def own_group() -> Identity | None:
     return found.st_dev, found.st_ino
 
 
-def of_kubelet(path: str) -> str:
-    """The part of a path down to a group that has a name as kubelet's; empty without one."""
-    parts = path.split("/")
-    return next(("/".join(parts[:place + 1]) for place, part in enumerate(parts)
-                 if KUBELET.fullmatch(part)), "")
-
-
 def is_trusted(folder: str) -> bool:
     """Whether a group is root's or this user's. Others may give theirs any name."""
     try:
@@ -194,18 +158,18 @@ def is_trusted(folder: str) -> bool:
         return False
 
 
-def check_owner(top: str, nodes: Sequence[Node]) -> None:
+def check_owner(top: str, model: Model) -> None:
     """A fault where kubelet owns a group: it writes limits itself, and would undo these."""
-    for folder in [top, *(node.folder for node in nodes)]:
-        found = of_kubelet(folder)
-        if found and is_trusted(found):
+    for folder in [top, *(group.place for group in model.groups.values())]:
+        above = kubelets(folder)
+        if above and is_trusted(above):
             raise HostFault(f"{shown(folder)}: kubelet owns the limits there, and would write over"
                             " these (--force)")
 
 
-def entry(settings: Settings) -> dict[str, Any]:
+def entry(held: Settings) -> dict[str, Any]:
     """Settings in an undo file, which has no weight 0."""
-    return asdict(replace(settings, weight=settings.weight or 1))
+    return asdict(replace(held, weight=held.weight or 1))
 
 
 def own_settings(group: Group, old: Settings) -> None:
@@ -219,8 +183,8 @@ class Loop:
     def __init__(self, engine: Engine, root: Root, top: str, host: Host,
                  record: Record | None = None, ways: Ways = Ways(),
                  clock: Callable[[], int] = time.monotonic_ns) -> None:
-        self.engine, self.root, self.host = engine, root, host
-        self.top, self.record = os.path.realpath(top), record
+        self.engine, self.root, self.host, self.record = engine, root, host, record
+        self.tree = looks.Tree(top, host, depth=ways.depth)
         self.ways, self.clock, self.own = ways, clock, own_group()
         # The groups that are open, by their paths.
         self.groups: dict[str, Kept] = {}
@@ -233,36 +197,43 @@ class Loop:
         self.is_checked = ways.is_forced
         self.rounds = 0
 
-    def counters(self, folder: str) -> tuple[Reading, int]:
-        """The counters of a group that is open, and when they were read."""
-        stat = keyed(self.root.read(folder, "cpu.stat"))
+    def counted(self, folder: str, is_leaf: bool, before: Counted | None = None) -> Counted:
+        """What is counted of a group that is open. What its tasks did is read at the first reading,
+        and where tasks waited since the last."""
+        stat = self.root.read(folder, "cpu.stat")
         try:
-            pressure = cgroup2.pressure_of(self.root.read(folder, "cpu.pressure"))
+            pressure = self.root.read(folder, "cpu.pressure")
         except HostFault:
-            pressure = None
-        return Reading(stat.get("usage_usec"), stat.get("nr_periods"), stat.get("nr_throttled"),
-                       pressure), self.clock()
+            pressure = ""
+        reading, at = cgroup2.counters(stat, pressure), Fraction(self.clock(), SECOND)
+        has_waited = before is None or rise(before.reading.pressure, reading.pressure)
+        return Counted(reading, self.threads(folder) if is_leaf and has_waited else {}, at)
 
-    def take_up(self, node: Node) -> None:
+    def threads(self, folder: str) -> hunger.Tasks:
+        """What the tasks of a group did."""
+        try:
+            return hunger.tasks(self.root.read(folder, "cgroup.threads", hunger.MOST_TEXT))
+        except HostFault:
+            return {}
+
+    def take_up(self, group: Group, is_leaf: bool) -> None:
         """Opens a group that is new, and reads what stands in it."""
-        path, folder = node.group.path, apply.folder_of(node.group, self.root)
+        path, folder = group.path, apply.folder_of(group, self.root)
         if len(self.groups) >= safe_files.most_files() - SPARE_FILES:
             self.tell([f"more than {len(self.groups)} groups: the others are left alone, since each"
                        " takes an open file (ulimit -n)"])
             return
         try:
-            self.root.keep(folder, node.group.identity)
+            self.root.keep(folder, group.identity)
             stands = apply.current(self.root, folder, takes_idle=True)
-            reading, at = self.counters(folder)
+            counted = self.counted(folder, is_leaf)
         except HostFault as fault:
             if folder in self.root.kept:
                 self.root.let_go(folder)
             self.tell([f"{path}: left alone: {fault.message}"])
             return
-        kept = Kept(folder, node.group.identity or (0, 0), not node.children, stands, stands,
-                    stands, reading, at)
-        kept.tasks = self.tasks_of(kept)
-        self.groups[path] = kept
+        self.groups[path] = Kept(folder, group.identity or (0, 0), is_leaf, stands, stands, stands,
+                                 counted)
 
     def drop(self, path: str, model: Model) -> None:
         """Closes a group that went, or that has children now or none any more. What stood is put
@@ -303,45 +274,50 @@ class Loop:
             kept.is_left = kept.is_leaf
         kept.target = kept.stands
 
-    def is_held(self, node: Node) -> bool:
+    def is_held(self, group: Group, is_leaf: bool) -> bool:
         """Whether a group may be written. The loop's own is not: it would stop itself. Kubelet's
         are not that came since the loop began."""
-        kubelets = "" if self.ways.is_forced else of_kubelet(node.folder[len(self.top):])
-        if kubelets and is_trusted(self.top + kubelets):
-            self.tell([f"{kubelets[1:]}: kubelet owns the limits there: it is left alone"
-                       " (--force)"])
+        top = self.tree.top
+        above = "" if self.ways.is_forced else kubelets(group.place[len(top):])
+        if above and is_trusted(top + above):
+            self.tell([f"{above[1:]}: kubelet owns the limits there: it is left alone (--force)"])
             return False
-        if not node.children and node.group.identity == self.own:
-            self.tell([f"{node.group.path}: this loop runs there: it is left alone"])
+        if is_leaf and group.identity == self.own:
+            self.tell([f"{group.path}: this loop runs there: it is left alone"])
             return False
-        return self.ways.has_weights or not node.children
+        return self.ways.has_weights or is_leaf
 
     def read(self) -> tuple[Model, dict[str, Used]]:
         """The groups as they stand, and what each leaf used since the last reading of it."""
-        model, nodes = tree(self.top, self.host, self.ways.depth)
+        look = self.tree.look()
+        model = look.model
+        if not model.groups:
+            model.notes.append("no groups with the cpu controller are below this folder")
         if not self.is_checked:
-            check_owner(self.top, nodes)
+            check_owner(self.tree.top, model)
             self.is_checked = True
         self.tell(model.notes)
-        there = {node.group.path: node for node in nodes if self.is_held(node)}
-        self.tasks = {path: node.measured.tasks or 1 for path, node in there.items()}
+        below = model.children()
+        there = {path: not below[path] for path, group in model.groups.items()
+                 if self.is_held(group, not below[path])}
+        self.tasks = {path: look.tasks.get(path) or 1 for path in there}
         for path, kept in list(self.groups.items()):
-            node = there.get(path)
-            if (node is None or node.group.identity != kept.identity
-                    or kept.is_leaf == bool(node.children)):
+            is_same = path in there and model.groups[path].identity == kept.identity
+            if not is_same or kept.is_leaf != there[path]:
                 self.drop(path, model)
         return model, self.read_all(there, model)
 
-    def read_all(self, there: dict[str, Node], model: Model) -> dict[str, Used]:
-        """What each leaf used. New groups are opened, those that went are closed."""
+    def read_all(self, there: dict[str, bool], model: Model) -> dict[str, Used]:
+        """What each leaf used. New groups are opened, those that went are closed. `there` tells of
+        each whether it is a leaf."""
         used, faults = {}, []
-        for path, node in there.items():
+        for path, is_leaf in there.items():
             if path not in self.groups:
-                self.take_up(node)
+                self.take_up(model.groups[path], is_leaf)
                 continue
             try:
                 found = self.read_group(path)
-                if self.groups[path].is_leaf:
+                if is_leaf:
                     used[path] = found
             except Gone:
                 self.drop(path, model)
@@ -355,22 +331,11 @@ class Loop:
         """What a group used since its last reading."""
         kept = self.groups[path]
         self.look(kept, path)
-        reading, at = self.counters(kept.folder)
-        has_waited = demands.rise(kept.reading.pressure, reading.pressure)
-        tasks = self.tasks_of(kept) if has_waited else {}
+        now = self.counted(kept.folder, kept.is_leaf, kept.counted)
         try:
-            return used_between(kept, reading, at, tasks)
+            return used_between(kept, now)
         finally:
-            kept.reading, kept.at, kept.tasks = reading, at, tasks
-
-    def tasks_of(self, kept: Kept) -> Tasks:
-        """What the tasks of a leaf did."""
-        if not kept.is_leaf:
-            return {}
-        try:
-            return awake.tasks(self.root.read(kept.folder, "cgroup.threads", awake.MOST_TEXT))
-        except HostFault:
-            return {}
+            kept.counted = now
 
     def rows(self, model: Model, amounts: dict[str, Fraction]) -> list[Row]:
         """The rows of the operator's own settings and of amounts in thousandths of a CPU."""
@@ -434,15 +399,10 @@ class Loop:
                 return old
             most = min(most, own * self.host.slice_us)
         stands = kept.stands
-        if (stands.quota is not None and (stands.period, stands.burst) == (period,
-                                                                           self.burst(stands.quota))
+        if (stands.quota is not None and (stands.period, stands.burst) == (period, 0)
                 and quota <= stands.quota <= quota + quota // MOST_ABOVE):
             return stands
-        return replace(old, quota=most, period=period, burst=self.burst(most))
-
-    def burst(self, quota: int) -> int:
-        """The burst of a limit."""
-        return quota // BURST_PART if self.ways.has_burst else 0
+        return replace(old, quota=most, period=period, burst=0)
 
     def target_of(self, path: str, kept: Kept, found: Round) -> Settings:
         """What a group is to hold. A leaf without a limit of the rule holds what it holds."""
@@ -541,7 +501,7 @@ class Loop:
         model, used = self.read()
         if is_jump:
             raise HostFault(f"{missed} rounds missed at once: nothing is written. The clock jumped,"
-                            " or --interval is too short")
+                            " or the time of --read is too short")
         found = self.planned(model, used)
         self.rounds += 1
         changed = self.write(found)
@@ -560,23 +520,16 @@ class Loop:
             raise HostFault(f"{fault.message}\nto undo: arbiterctl undo {name} --yes") from fault
 
 
-class Times(NamedTuple):
-    """The nanoseconds of a round, those of the whole (None: no end), and whether one is all."""
-
-    interval: int
-    whole: int | None = None
-    is_once: bool = False
-
-    def is_jump(self, missed: int) -> bool:
-        """Whether so many missed rounds are a jump of the clock."""
-        return missed > MOST_MISSED and missed * self.interval > LONGEST_MISSED
+def is_jump(missed: int, interval: int) -> bool:
+    """Whether so many missed rounds, of so many nanoseconds each, are a jump of the clock."""
+    return missed > MOST_MISSED and missed * interval > LONGEST_MISSED
 
 
-def tried(loop: Loop, times: Times, failed: int, missed: int,
+def tried(loop: Loop, interval: int, failed: int, missed: int,
           emit: Callable[[Line], None]) -> int:
     """One round, whose line is told. Returns the failed readings in a row."""
     try:
-        line = loop.round(missed, times.is_jump(missed))
+        line = loop.round(missed, is_jump(missed, interval))
     except HostFault as fault:
         if failed + 1 >= MOST_FAILED or isinstance(fault, WriteFault):
             raise
@@ -588,23 +541,25 @@ def tried(loop: Loop, times: Times, failed: int, missed: int,
 
 def run(loop: Loop, times: Times, wait: Callable[[float], bool],
         emit: Callable[[Line], None], begin: Callable[[], object] = lambda: None) -> None:
-    """Rounds until the end, or until `wait` tells a signal. What stood is put back at each end.
+    """Rounds until the last reading, or until `wait` tells a signal. What stood is put back at each
+    end. The limits of the last round stand for an interval.
 
     `begin` is called after the first reading.
     """
     try:
         loop.read()
         begin()
-        begun, turn, failed = loop.clock(), 1, 0
-        while not wait((begun + turn * times.interval - loop.clock()) / 10**9):
-            passed = loop.clock() - begun
-            missed = max(passed // times.interval - turn, 0)
+        interval = int(times.interval * SECOND)
+        begun, turn, failed, readings = loop.clock(), 1, 0, 1
+        while not wait((begun + turn * interval - loop.clock()) / SECOND):
+            missed = max((loop.clock() - begun) // interval - turn, 0)
             if missed:
                 output.warn(f"{missed} rounds missed")
-            if times.whole is not None and passed >= times.whole or times.is_once and turn > 1:
+            if readings == times.number:
                 return
-            failed = tried(loop, times, failed, missed, emit)
-            if times.is_once and loop.record is None:
+            failed = tried(loop, interval, failed, missed, emit)
+            readings += 1
+            if loop.record is None and readings == times.number:
                 return
             turn += 1 + missed
     except Stopped:

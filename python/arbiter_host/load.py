@@ -14,19 +14,15 @@ import sys
 from collections.abc import Sequence
 from contextlib import suppress
 from dataclasses import replace
-from fractions import Fraction
-from typing import TYPE_CHECKING, BinaryIO
+from typing import BinaryIO
 
 from arbiter import Host, Library
-from arbiter_host import demands, names, options as table, output, safe_files, units
+from arbiter_host import demands, looks, names, options as table, output, safe_files, units
 from arbiter_host.faults import HostFault, RefusedLines, UsageFault, strerror
 from arbiter_host.model import MAX_DEPTH, Model
 from arbiter_host.plan import Engine
 from arbiter_host.sources.register import READERS
 from arbiter_host.sources.wish import File, Wish
-
-if TYPE_CHECKING:
-    from arbiter_host.sources import cgroups
 
 MAX_FILE = 512 << 20
 TOO_LONG = f"more than {MAX_FILE >> 20} MiB"
@@ -35,7 +31,6 @@ PIECE = 1 << 20
 PACKED = {b"\x1f\x8b": "gzip", b"\xfd7zXZ\0": "xz", b"(\xb5/\xfd": "zstd"}
 # Bytes of UTF-16 that are taken, which PowerShell writes.
 MAX_WIDE = 128 << 20
-MAX_SECONDS = 86400
 # A path and its bytes; None stands for a folder.
 Opened = tuple[str, bytes | None]
 
@@ -86,34 +81,12 @@ def add_source_options(parser: argparse.ArgumentParser) -> None:
                        help="refused lines of a script end the command with status 4")
 
 
-def interval_of(text: str) -> Fraction:
-    """The seconds of an interval: above 0, at most a day. A plain number is seconds."""
-    parsed = units.number_and_unit(text)
-    try:
-        seconds = (parsed[0] if parsed and not parsed[1]
-                   else Fraction(units.parse_time(text), 10**6))
-    except HostFault as fault:
-        raise UsageFault(f"--interval: {names.shown(fault.message)}") from fault
-    if not 0 < seconds <= MAX_SECONDS:
-        raise UsageFault(f"--interval: above 0 and at most {MAX_SECONDS} seconds")
-    return seconds
-
-
 def time_option(text: str, option: str) -> int:
     """The microseconds of an option."""
     try:
         return units.parse_time(text)
     except HostFault as fault:
         raise UsageFault(f"{option}: {names.shown(fault.message)}") from fault
-
-
-def check_options(options: argparse.Namespace) -> None:
-    """A fault where a number of the options is out of its range."""
-    interval_of(options.interval)
-    if not 2 <= options.samples <= 10000:
-        raise UsageFault("--samples: 2 to 10000")
-    if not 1 <= options.depth_read <= MAX_DEPTH:
-        raise UsageFault(f"--depth-read: 1 to {MAX_DEPTH}")
 
 
 def bounded(file: BinaryIO) -> bytes:
@@ -198,11 +171,10 @@ def kind_of(path: str, data: bytes | None) -> str:
                  if each.is_one(name, b"" if is_named else data)), "script")
 
 
-def readings_of(options: argparse.Namespace, want: str) -> cgroups.Wish:
-    """How a tree of cgroups is read."""
-    from arbiter_host.sources import cgroups
-    return cgroups.Wish(interval_of(options.interval), options.samples, tuple(options.later),
-                        options.depth_read, options.own, want)
+def times_of(options: argparse.Namespace) -> looks.Times:
+    """How often a source is read: twice where that is not said."""
+    times = looks.times_of(options.read or "2x1s")
+    return times if times.number else times._replace(number=2)
 
 
 def machine(options: argparse.Namespace) -> Host:
@@ -235,12 +207,11 @@ def wish_of(options: argparse.Namespace) -> Wish:
     return Wish(options.cpus, period, slice_, options.node, tree=tree, want=options.want or "",
                 kubelet="log" if weights == "log" else "linear",
                 runtime="linear" if weights == "linear" else "log",
-                seconds=interval_of(options.interval), measured=measured)
+                seconds=times_of(options).interval, measured=measured)
 
 
 def opened(options: argparse.Namespace, paths: Sequence[str]) -> list[Opened]:
-    """The files of some paths, after the options were checked."""
-    check_options(options)
+    """The files of some paths."""
     kept: dict[str, bytes | None] = getattr(options, "kept", {})
     return [(path, kept[path]) if path in kept else
             (path, None if os.path.isdir(path) else file_bytes(path)) for path in paths]
@@ -286,12 +257,15 @@ def model_of(options: argparse.Namespace, files: Sequence[Opened], engine: Engin
 
 def read_tree(options: argparse.Namespace, paths: Sequence[str]) -> Model:
     """A tree of cgroups, and later copies of it."""
-    from arbiter_host.sources import cgroup2
-    wish = readings_of(options, options.want or "usage")
-    wish = replace(wish, later=(*wish.later, *paths[1:]))
-    if wish.want == "request":
+    from arbiter_host.sources import cgroups
+    want = options.want or "usage"
+    if want == "request":
         raise UsageFault("--want request: cgroups have no requests")
-    return cgroup2.read(paths[0], machine(options), wish)
+    times = times_of(options)
+    if times.number == 1 and len(paths) == 1 and want in demands.OF_USE:
+        raise UsageFault(f"--want {want}: use is measured from one reading to the next: --read"
+                         " 2x1s")
+    return cgroups.read(paths, machine(options), times, want)
 
 
 def read_files(options: argparse.Namespace, kind: str, files: Sequence[File],
@@ -324,7 +298,6 @@ def finished(options: argparse.Namespace, model: Model) -> Model:
 
 def of_bytes(options: argparse.Namespace, path: str, data: bytes, engine: Engine) -> Model:
     """The model of one file whose bytes were read before. Nothing of this machine is asked."""
-    check_options(options)
     kind = options.kind or kind_of(path, data)
     if kind == "cgroup":
         raise HostFault(f"{names.shown(path)}: a file is no tree of cgroups: `export` writes one")

@@ -1,26 +1,31 @@
-"""Figures of a round as metrics, by prometheus_client: in a file, or at a loopback port."""
+"""The figures of a round as OpenMetrics, by prometheus_client: in a file, or at a loopback port."""
 from __future__ import annotations
 
 import ipaddress
+import os
 import socket
 import socketserver
 import threading
 import time
-from collections.abc import Callable, Iterable, Sequence
-from contextlib import closing, suppress
+from collections.abc import Callable, Iterable, Iterator, Sequence
+from contextlib import closing, contextmanager, suppress
+from dataclasses import replace
+from fractions import Fraction
 from typing import Any
 from wsgiref.simple_server import WSGIRequestHandler, WSGIServer, make_server
 
-from prometheus_client import CollectorRegistry, generate_latest, make_wsgi_app
+from arbiter import Host
+from prometheus_client import CollectorRegistry, make_wsgi_app
 from prometheus_client.core import GaugeMetricFamily
+from prometheus_client.openmetrics.exposition import generate_latest
 from prometheus_client.registry import Collector
 
-from arbiter_host.atomic_files import collected_folder, faults, place_of
+from arbiter_host.atomic_files import CHANGED, Place, collected_folder, faults, place_of
 from arbiter_host.faults import HostFault, UsageFault, strerror
 from arbiter_host.names import shown
-from arbiter_host.watch import Alert, Figures
+from arbiter_host.top import Alert, Figures
 
-# What the first lines of the file hold.
+# What the first lines of a file hold.
 MARK = "# HELP arbiter_"
 # Seconds in which a reader has to ask, and those in which it has to take the answer.
 SECONDS = 5
@@ -41,10 +46,27 @@ GROUPS: tuple[tuple[str, Callable[[Figures], Any], str], ...] = (
 )
 OTHERS = ("arbiter_alert", "arbiter_round_timestamp_seconds")
 NAMES = (*(name for name, _, _ in GROUPS), *OTHERS)
+# Keys of a group in the line of a round of a loop, and what the gauge is.
+HELD = {
+    "want": "CPUs that a group asked for in the last round; +Inf for a hungry one.",
+    "plan": "CPUs that the plan of the last round gives a group.",
+    "used": "CPUs that a group used in the last round.",
+    "limit": "CPUs of the limit of a group for the next round.",
+    "unserved": "CPUs of the plan that stood which a hungry group was not given.",
+}
+
+
+def of_groups(name: str, words: str, values: Iterable[tuple[str, Any]]) -> GaugeMetricFamily:
+    """A gauge of groups. Their names have no control character."""
+    family = GaugeMetricFamily(name, words, labels=["group"])
+    for path, value in values:
+        if value is not None:
+            family.add_metric([shown(path)], float(value))
+    return family
 
 
 class Figured(Collector):
-    """The figures of the last round. They are replaced as a whole."""
+    """The figures of the last round of `top`. They are replaced as a whole."""
 
     def __init__(self) -> None:
         self.last: tuple[Sequence[Figures], Sequence[Alert], float] = ((), (), 0.0)
@@ -54,15 +76,10 @@ class Figured(Collector):
         self.last = (figures, alerts, time.time())
 
     def collect(self) -> Iterable[GaugeMetricFamily]:
-        """The metrics. Names of groups have no control character."""
+        """The metrics."""
         figures, alerts, at = self.last
         for name, value, words in GROUPS:
-            family = GaugeMetricFamily(name, words, labels=["group"])
-            for each in figures:
-                found = value(each)
-                if found is not None:
-                    family.add_metric([shown(each.path)], float(found))
-            yield family
+            yield of_groups(name, words, ((each.path, value(each)) for each in figures))
         family = GaugeMetricFamily(OTHERS[0], "1 for each alert that holds.",
                                    labels=["alert", "group"])
         for alert in alerts:
@@ -72,20 +89,71 @@ class Figured(Collector):
             yield GaugeMetricFamily(OTHERS[1], "When the last round was.", value=at)
 
 
-def registry_of(figured: Figured) -> CollectorRegistry:
+class Held(Collector):
+    """The line of a round of `hold`, on a host."""
+
+    def __init__(self, line: dict[str, Any], host: Host) -> None:
+        self.line, self.one = line, Fraction(host.slice_us, host.period_us)
+
+    def collect(self) -> Iterable[GaugeMetricFamily]:
+        """The metrics."""
+        groups: dict[str, dict[str, Any]] = self.line["groups"]
+        for key, words in HELD.items():
+            yield of_groups(f"arbiter_hold_{key}_cpus", words, (
+                (path, float("inf") if key == "want" and each["hungry"] else each[key] * self.one)
+                for path, each in groups.items()))
+        yield of_groups("arbiter_hold_hungry",
+                        "1 if a group would have used more in the last round.",
+                        ((path, each["hungry"]) for path, each in groups.items()))
+        for key, name, words in (("round", "rounds", "Rounds since the loop began."),
+                                 ("missed", "missed_rounds", "Rounds missed before the last one.")):
+            yield GaugeMetricFamily(f"arbiter_hold_{name}", words, value=self.line[key])
+
+
+def registry_of(collector: Collector) -> CollectorRegistry:
     """A registry of these metrics alone."""
     registry = CollectorRegistry(auto_describe=False)
-    registry.register(figured)
+    registry.register(collector)
     return registry
 
 
-def put_file(path: str, registry: CollectorRegistry) -> None:
-    """Writes the metrics to a file whole, or not at all. Everybody may read it. Another file is not
-    replaced."""
-    with closing(place_of(path, collected_folder, mode=0o644, is_synced=False)) as place:
-        with faults(path, ""):
-            place.check_ours(path, MARK, "has no metrics of arbiterctl")
-            place.put(generate_latest(registry))
+def text_of(collector: Collector) -> bytes:
+    """The metrics as OpenMetrics."""
+    text: bytes = generate_latest(registry_of(collector))  # type: ignore[no-untyped-call]
+    return text
+
+
+class File:
+    """A file of a textfile collector that has the last round, whole or not at all.
+
+    Everybody may read it. It is in a folder that no other user changes, and replaces no file that
+    is not ours.
+    """
+
+    def __init__(self, path: str) -> None:
+        self.path = os.path.abspath(path)
+        with self.opened():
+            pass
+
+    @contextmanager
+    def opened(self) -> Iterator[Place]:
+        """Where it is written."""
+        place = place_of(self.path, collected_folder, mode=0o644, is_synced=False)
+        # (what a kill leaves under the one other name is replaced)
+        with closing(replace(place, part=f".{place.name}.part")) as place:
+            with faults(self.path):
+                place.check_ours(self.path, MARK, f"has no metrics of arbiterctl{CHANGED}")
+                yield place
+
+    def put(self, collector: Collector) -> None:
+        """Puts metrics in place of the last."""
+        with self.opened() as place:
+            place.put(text_of(collector))
+
+    def remove(self) -> None:
+        """Removes the file."""
+        with self.opened() as place, suppress(FileNotFoundError):
+            os.unlink(place.name, dir_fd=place.folder)
 
 
 class Handler(WSGIRequestHandler):
@@ -168,10 +236,10 @@ def address_of(text: str) -> tuple[str, int]:
     return bare, int(port)
 
 
-def guarded(registry: CollectorRegistry) -> Callable[..., Any]:
+def guarded(collector: Collector) -> Callable[..., Any]:
     """Answers `GET /metrics` of a loopback name alone: no page of a browser reaches it by another
     name."""
-    app = make_wsgi_app(registry)
+    app = make_wsgi_app(registry_of(collector))
 
     def answer(environ: dict[str, Any], start: Callable[..., Any]) -> Any:
         host = str(environ.get("HTTP_HOST", "")).lower()
@@ -191,12 +259,12 @@ def guarded(registry: CollectorRegistry) -> Callable[..., Any]:
     return answer
 
 
-def serve(text: str, registry: CollectorRegistry) -> tuple[str, int]:
+def serve(text: str, collector: Collector) -> tuple[str, int]:
     """Begins to answer at a loopback address. Returns the address and the port."""
     address, port = address_of(text)
     kind = Server6 if ":" in address else Server
     try:
-        server = make_server(address, port, guarded(registry), kind, Handler)
+        server = make_server(address, port, guarded(collector), kind, Handler)
     except OSError as error:
         raise HostFault(f"--listen {shown(text)}: {strerror(error)}") from error
     threading.Thread(target=server.serve_forever, daemon=True).start()

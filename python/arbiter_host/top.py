@@ -1,272 +1,223 @@
-"""A live view over a host's cgroups and their plan, with keys and what each group got of late."""
+"""Rounds over a source: what each group wants, what the plan gives it, what it got, and alerts."""
 from __future__ import annotations
 
-import os
-import queue
-import select
-import signal
-import sys
-import termios
-import threading
-import time
-import tty
-from collections import deque
-from collections.abc import Callable, Iterator
-from contextlib import contextmanager
+import re
+from collections.abc import Callable, Iterator, Mapping, Sequence
 from dataclasses import dataclass, field
+from fractions import Fraction
+from typing import Any, NamedTuple
 
-from arbiter_host import explain, names
-from arbiter_host.explain import View
-from arbiter_host.plan import Plan, Planned
+from arbiter_host import demands, looks, names, units
+from arbiter_host.demands import Measured
+from arbiter_host.faults import HostFault, UsageFault
+from arbiter_host.looks import Times
+from arbiter_host.names import shown
+from arbiter_host.plan import Engine, Plan, Planned, plan
 
-Lines = list[tuple[str, str]]
-# Pictures that are remembered, and the letters of what a group got, from nothing to most.
-HISTORY = 10
-BARS = " \u2581\u2582\u2583\u2584\u2585\u2586\u2587\u2588"
-# The orders and filters that a key goes through. The first is that of the options.
-SORTS = ("", *explain.SORTS)
-FILTERS = ("", *explain.ONLY)
-ENDS = "qQ\x04"
-HELP = "q quit  s sort  f filter  - fold  + unfold  a all"
-# Seconds after which keys are looked for again.
-PATIENCE = 0.1
+CONDITION = re.compile(r"(starved|throttled|lack|off)(?:>(.+?))?(?: +for +([0-9]{1,6}))?")
+# Failed rounds in a row that end the command.
+MOST_FAILED = 2
 
 
-def height() -> int:
-    """Rows of the terminal, 24 where there is none."""
+@dataclass(frozen=True)
+class Figures:
+    """One group in one round. Amounts are thousandths of a CPU; None where nothing was measured."""
+
+    path: str
+    title: str
+    plan: Fraction
+    want: Fraction
+    # What it used, and the part of its periods in which it was throttled.
+    got: Fraction | None
+    throttled: Fraction | None
+    is_starved: bool
+    is_leaf: bool
+
+    @property
+    def off(self) -> Fraction | None:
+        """By how much it got more than the plan gives it; below 0 where it got less."""
+        return None if self.got is None else self.got - self.plan
+
+    def value(self, key: str, is_named: bool = False) -> Fraction | None:
+        """What a condition compares; None where nothing was measured for it.
+
+        Groups with children are compared by `throttled`, and where a condition names them.
+        """
+        if key == "throttled":
+            return self.throttled
+        if not (self.is_leaf or is_named):
+            return None
+        if key == "off":
+            return None if self.off is None else abs(self.off)
+        return Fraction(self.is_starved) if key == "starved" else self.want - self.plan
+
+
+class Condition(NamedTuple):
+    """When there is an alert: a key, the value that has to be exceeded, and which groups."""
+
+    words: str
+    key: str
+    least: Fraction
+    group: str = ""
+    # The rounds in a row for which it has to hold.
+    rounds: int = 1
+
+    def is_of(self, figures: Figures) -> bool:
+        """Whether it speaks of a group."""
+        shape = names.pattern(self.group)
+        return (self.group in ("", figures.path, figures.title)
+                or figures.path.endswith(f"/{self.group}")
+                or any(shape.fullmatch(each) for each in (figures.path, figures.title)))
+
+    def holds(self, figures: Figures) -> bool:
+        """Whether there is an alert of a group."""
+        value = figures.value(self.key, bool(self.group) and "*" not in self.group)
+        return value is not None and value > self.least and self.is_of(figures)
+
+
+def least_of(key: str, word: str | None) -> Fraction:
+    """The value behind `>`: a part of the periods in percent, or an amount of CPU."""
+    if word is None:
+        return Fraction(0)
+    if key == "starved":
+        raise HostFault("starved has no number")
+    if key == "throttled":
+        found = units.number_and_unit(word)
+        if found is None or found[1] != "%" or found[0] > 100:
+            raise HostFault(f"{word!r} is no part of the periods: write 5%")
+        return found[0] / 100
+    return units.parse_cpu(word)
+
+
+def condition_of(word: str) -> Condition:
+    """The condition of a word such as `web/*:throttled>5% for 4`."""
+    group, _, rest = word.rpartition(":")
+    match = CONDITION.fullmatch(rest.rstrip())
+    if not match or match.group(3) and int(match.group(3)) < 1:
+        raise UsageFault(f"--alert {shown(word)}: not [GROUP:]starved, throttled>5%, lack>250m or"
+                         " off>250m, and `for 4` behind it")
+    key, least, rounds = match.groups()
     try:
-        return os.get_terminal_size(sys.stdout.fileno()).lines
-    except (OSError, ValueError, AttributeError):
-        return 24
+        return Condition(word, key, least_of(key, least), group, int(rounds or 1))
+    except HostFault as fault:
+        raise UsageFault(f"--alert {shown(word)}: {shown(fault.message)}") from fault
 
 
-def folded(plan: Plan, view: View, rows: int,
-           table: Callable[[Plan, View], Lines]) -> tuple[int, Lines]:
-    """The table as deep as it has room, behind that depth; else the top of the tree, the greatest
-    lack first."""
-    lines = table(plan, view)
-    depth = max((group.depth for group in in_order(plan, view)), default=0)
-    while len(lines) > rows and depth > 1 and not view.is_flat:
-        depth -= 1
-        lines = table(plan, view._replace(depth=depth))
-    if len(lines) <= rows or view.sort or view.is_flat:
-        return depth, lines
-    return depth, table(plan, view._replace(depth=1, sort="lack"))
+def conditions(text: str) -> list[Condition]:
+    """The conditions of a text such as `starved,web/*:throttled>5%,lack>250m for 4`."""
+    return [condition_of(word.strip()) for word in text.split(",") if word.strip()]
 
 
-def screen(plan: Plan, view: View, rows: int,
-           table: Callable[[Plan, View], Lines] = explain.table) -> Lines:
-    """The lines of one picture of the host, folded and cut to so many rows."""
-    _, lines = folded(plan, view, rows, table)
-    head = [(f"{time.strftime('%H:%M:%S')}  {lines[0][0]}", lines[0][1]), *lines[1:]]
-    if len(head) <= rows:
-        return head
-    left = len(head) - rows + 1
-    return [*head[:rows - 1], (f"lines that have no room here: {left}", "dim")]
+class Alert(NamedTuple):
+    """An alert of a group."""
 
-
-def in_order(plan: Plan, view: View) -> list[Planned]:
-    """The groups in the order of the rows of their table."""
-    if view.is_flat:
-        return [group for group in explain.ordered(plan.groups, view)
-                if group.depth <= view.depth
-                and any(explain.ONLY[name](group) for name in view.only)]
-    found, waiting = [], [plan.root]
-    while waiting:
-        found.append(waiting.pop())
-        waiting += reversed(explain.below(found[-1], view))
-    return found
+    condition: str
+    group: str
 
 
 @dataclass
-class History:
-    """What each group got in the last pictures, in slices; the latest stands last."""
+class Round:
+    """The plan of one round, and what is known of each group by path."""
 
-    pictures: deque[dict[str, int]] = field(default_factory=lambda: deque(maxlen=HISTORY))
+    plan: Plan
+    got: Mapping[str, Fraction] = field(default_factory=dict)
+    throttled: Mapping[str, Fraction] = field(default_factory=dict)
 
-    def take(self, plan: Plan) -> None:
-        """Remembers a picture."""
-        self.pictures.append({group.path: group.gets for group in plan.groups})
+    def figures(self) -> list[Figures]:
+        """The figures of each group, the root first."""
+        return [self.figures_of(each) for each in self.plan.groups]
 
-    def line(self, path: str) -> str:
-        """A line of bars. Only nothing has no bar, and the most of the group has a whole one."""
-        found = [picture.get(path, 0) for picture in self.pictures]
-        most = max(found, default=0)
-        bars = "".join(BARS[-(-(len(BARS) - 1) * each // most)] if most else " " for each in found)
-        return bars.rjust(HISTORY)
-
-    def table(self, plan: Plan, view: View) -> Lines:
-        """The table of a plan with the history before each row."""
-        narrow = view._replace(width=max(view.width - HISTORY - 1, 40))
-        lines = explain.table(plan, narrow)
-        at = next((at for at, (_, style) in enumerate(lines) if style == "bold"), None)
-        if at is None:
-            return lines
-        groups = in_order(plan, narrow)
-        rows = [(f"{self.line(group.path)} {line}", style)
-                for group, (line, style) in zip(groups, lines[at + 1:])]
-        head = (f"{'history':{HISTORY}} {lines[at][0]}", lines[at][1])
-        return [*lines[:at], head, *rows, *lines[at + 1 + len(rows):]]
+    def figures_of(self, group: Planned) -> Figures:
+        """The figures of one group."""
+        return Figures(group.path, group.group.title if group.group else "",
+                       self.plan.thousandths(group.gets), self.plan.thousandths(group.want),
+                       self.got.get(group.path), self.throttled.get(group.path),
+                       group.is_starved, not group.children)
 
 
-@dataclass
-class Keys:
-    """What keys have changed of the view."""
-
-    sort: int = 0
-    only: int = 0
-    depth: int | None = None
-    is_all: bool = False
-    is_ended: bool = False
-
-    def take(self, letter: str, shown: int) -> None:
-        """Takes a key. `shown` is the depth to which there is room."""
-        if letter in ENDS:
-            self.is_ended = True
-        elif letter == "s":
-            self.sort = (self.sort + 1) % len(SORTS)
-        elif letter == "f":
-            self.only = (self.only + 1) % len(FILTERS)
-        elif letter == "a":
-            self.is_all = not self.is_all
-        elif letter in "-+":
-            now = shown if self.depth is None else min(self.depth, shown)
-            self.depth = max(now + (1 if letter == "+" else -1), 0)
-
-    def view(self, view: View) -> View:
-        """The view with what keys have changed."""
-        if self.sort:
-            view = view._replace(sort=SORTS[self.sort])
-        if self.only:
-            view = view._replace(only=(FILTERS[self.only],))
-        if self.depth is not None:
-            view = view._replace(depth=min(self.depth, view.depth))
-        return view._replace(everything=view.everything or self.is_all)
-
-    def words(self) -> str:
-        """The line of the keys, with what they chose."""
-        chosen = [f"{name}: {value}" for name, value in (
-            ("sort", SORTS[self.sort]), ("only", FILTERS[self.only])) if value]
-        return "  ".join([HELP, *chosen])
+def alerts(found: Sequence[Figures], wanted: Sequence[Condition]) -> list[Alert]:
+    """The alerts of a round."""
+    return [Alert(each.words, figures.path) for each in wanted for figures in found
+            if each.holds(figures)]
 
 
-@contextmanager
-def ended_by_signals() -> Iterator[None]:
-    """Lets signals that end the command end the view first, so that the terminal is as it was."""
-    came: list[int] = []
-
-    def take(number: int, _: object) -> None:
-        came.append(number)
-        raise KeyboardInterrupt
-
-    before = {each: signal.signal(each, take) for each in (signal.SIGTERM, signal.SIGHUP)}
-    try:
-        yield
-    except KeyboardInterrupt:
-        if not came:
-            raise
-    finally:
-        for each, handler in before.items():
-            signal.signal(each, handler)
-    if came:
-        os.kill(os.getpid(), came[0])
+def missing(found: Sequence[Figures], wanted: Sequence[Condition]) -> list[str]:
+    """What is to be told of conditions whose group is not there."""
+    return [f"--alert {each.words}: no group {each.group} is there" for each in wanted
+            if not any(map(each.is_of, found))]
 
 
-@contextmanager
-def key_by_key() -> Iterator[int | None]:
-    """Standard input key by key, if it is a terminal. It is as it was at the end."""
-    if sys.stdin is None or not sys.stdin.isatty():
-        yield None
-        return
-    descriptor = sys.stdin.fileno()
-    before = termios.tcgetattr(descriptor)
-    try:
-        tty.setcbreak(descriptor)
-        yield descriptor
-    finally:
-        termios.tcsetattr(descriptor, termios.TCSADRAIN, before)
+class Watched:
+    """A tree that is read again and again. Each look is compared with the last."""
 
+    def __init__(self, engine: Engine, tree: looks.Tree, want: str) -> None:
+        self.engine, self.tree, self.want, self.last = engine, tree, want, tree.look()
 
-def pressed(descriptor: int | None) -> str:
-    """The keys that were pressed, after a moment."""
-    if descriptor is None:
-        time.sleep(PATIENCE)
-        return ""
-    if not select.select([descriptor], [], [], PATIENCE)[0]:
-        return ""
-    return os.read(descriptor, 100).decode("ascii", "ignore")
-
-
-class Reader:
-    """Reads plan after plan beside the view, so that keys are taken while it waits."""
-
-    def __init__(self, read: Callable[[], Plan], count: int) -> None:
-        self.read, self.count = read, count
-        self.found: queue.Queue[Plan | BaseException | None] = queue.Queue(1)
-        threading.Thread(target=self.run, daemon=True).start()
-
-    def run(self) -> None:
-        """Reads so many plans, or until the end. A fault is handed on."""
-        turn = 0
-        try:
-            while self.count == 0 or turn < self.count:
-                self.found.put(self.read())
-                turn += 1
-            self.found.put(None)
-        except BaseException as error:  # (raised again where it is taken)
-            self.found.put(error)
-
-    def newest(self) -> Plan | None:
-        """A plan that was read since; None where there is none."""
-        found = self.found.get_nowait()
-        if isinstance(found, BaseException):
-            raise found
-        return found
-
-
-def live(read: Callable[[], Plan], view: Callable[[], View], count: int) -> None:
-    """Shows picture after picture on a terminal, until a key, Ctrl-C or so many."""
-    from rich.console import Console, Group
-    from rich.live import Live
-    from rich.text import Text
-    console, reader, keys, history = (Console(highlight=False), Reader(read, count), Keys(),
-                                      History())
-    plan: Plan | None = None
-    with (ended_by_signals(), key_by_key() as descriptor,
-          Live(console=console, screen=True, auto_refresh=False) as live_):
-        while not keys.is_ended:
-            letters = pressed(descriptor)
-            try:
-                plan, is_new = reader.newest(), True
-                if plan is None:
-                    return
-                history.take(plan)
-            except queue.Empty:
-                is_new = False
-            if plan is None or not (letters or is_new):
-                keys.is_ended = any(letter in ENDS for letter in letters)
+    def round(self) -> Round:
+        """Reads the tree, and plans it. Groups that came since the last look want nothing."""
+        last, now = self.last, self.tree.look()
+        self.last, seconds = now, max(now.at - last.at, Fraction(1, 10**6))
+        spans = {path: looks.between(last, now, path) for path in now.counted}
+        measured = {path: Measured(tasks=now.tasks.get(path)) if isinstance(span, str) else
+                    span.measured(now.tasks.get(path)) for path, span in spans.items()}
+        demands.set_demands(now.model, measured, self.want, seconds)
+        got, throttled = {}, {}
+        for path, span in spans.items():
+            if isinstance(span, str):
                 continue
-            rows = max(height() - 2, 5)
-            if letters:
-                shown, _ = folded(plan, keys.view(view()), rows, history.table)
-                for letter in letters:
-                    keys.take(letter, shown)
-            lines = screen(plan, keys.view(view()), rows, history.table)
-            texts = [Text(names.cut(line, console.width), style)
-                     for line, style in [*lines, (keys.words(), "reverse")]]
-            live_.update(Group(*texts), refresh=True)
+            got[path] = units.thousandths_of_usage(span.risen.usage or 0, seconds)
+            periods, stopped = span.risen.periods, span.risen.throttled
+            if periods is not None and stopped is not None:
+                throttled[path] = Fraction(min(stopped, periods), max(periods, 1))
+        return Round(plan(self.engine, now.model), got, throttled)
 
 
-def plain(read: Callable[[], Plan], view: View, count: int,
-          emit: Callable[[str], None]) -> None:
-    """Prints picture after picture where there is no terminal: one without a count."""
-    for turn in range(max(count, 1)):
-        lines = screen(read(), view, 10**6)
-        emit("".join(f"{line}\n" for line, _ in lines) + ("\n" if turn + 1 < count else ""))
+class State:
+    """What goes on from round to round: the number of rounds, and alerts that stand."""
+
+    def __init__(self, wanted: Sequence[Condition]) -> None:
+        self.wanted, self.rounds = wanted, 0
+        self.needed = {each.words: each.rounds for each in wanted}
+        # The rounds in a row in which each alert held.
+        self.standing: dict[Alert, int] = {}
+
+    def take(self, figures: Sequence[Figures]) -> list[Alert]:
+        """Takes a round. Returns the alerts that it raises: they have held for as many rounds in a
+        row as they need."""
+        self.rounds += 1
+        self.standing = {each: self.standing.get(each, 0) + 1
+                         for each in alerts(figures, self.wanted)}
+        return [each for each, count in self.standing.items()
+                if count == self.needed[each.condition]]
+
+    @property
+    def held(self) -> list[Alert]:
+        """The alerts that were raised and hold."""
+        return [each for each, count in self.standing.items()
+                if count >= self.needed[each.condition]]
 
 
-def data(read: Callable[[], Plan], view: View, count: int,
-         emit: Callable[[object], None]) -> None:
-    """Prints plan after plan as JSON: one without a count."""
-    for _ in range(max(count, 1)):
-        emit(explain.as_data(read(), view))
+def line_of(state: State, found: Round) -> dict[str, Any]:
+    """The line of JSON of a round."""
+    root = found.plan.root
+    return {"round": state.rounds, "wanted_cpus": float(found.plan.thousandths(root.want) / 1000),
+            "planned_cpus": float(found.plan.thousandths(root.gets) / 1000),
+            "alerts": [{"alert": each.condition, "group": each.group} for each in state.held]}
+
+
+def rounds_of(read: Callable[[], Round], times: Times, first: int,
+              warn: Callable[[str], None]) -> Iterator[Round]:
+    """Rounds until the end: readings from the one of a number on. One that fails may pass, unless
+    it is the only one."""
+    failed = 0
+    for _ in looks.turns(times, first=first):
+        try:
+            found = read()
+        except HostFault as fault:
+            failed += 1
+            if failed >= MOST_FAILED or times.number == first + 1:
+                raise
+            warn(fault.message)
+            continue
+        failed = 0
+        yield found

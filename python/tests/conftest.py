@@ -10,7 +10,7 @@ import pytest
 
 from places import PACKAGE
 
-sys.path[:0] = [str(PACKAGE), str(PACKAGE.parent / "tests")]
+sys.path[:0] = [str(PACKAGE), *(str(PACKAGE.parent / name) for name in ("tests", "bench/kernel"))]
 pytest_plugins = ["shared_fixtures"]
 SECONDS = 300
 

@@ -6,7 +6,7 @@ import sys
 
 import trees
 from arbiter import Host
-from arbiter_host import awake, hold, record, safe_files
+from arbiter_host import hold, hunger, looks, record, safe_files
 from places import PACKAGE
 
 TWO = Host(2, 100000, 1000)
@@ -26,7 +26,7 @@ class World:
         self.tree, self.now, self.lines, self.after = folder / "t", 0, [], []
         self.counters = {}
         # (the tasks of these groups are none of this machine)
-        awake.PROC = str(folder / "proc")
+        hunger.PROC = str(folder / "proc")
         trees.root2(self.tree)
         for path, weight, maximum in groups:
             self.add(path, weight, maximum)
@@ -61,7 +61,7 @@ class World:
         return hold.Loop(engine, safe_files.Root(str(self.tree)), str(self.tree), TWO, kept,
                          clock=lambda: self.now, **words)
 
-    def run(self, loop, *steps, times=hold.Times(SECOND)):
+    def run(self, loop, *steps, times=looks.Times(number=None)):
         """Rounds, a step before each. Returns the lines and what stood at each line."""
         self.after, lines = list(steps), []
 
@@ -85,8 +85,8 @@ def started(ctl, world, undo, *words):
     """A loop that runs, after it has told its first round."""
     found = subprocess.Popen(
         [sys.executable, str(PACKAGE / "arbiterctl"), "hold", str(world.tree), "--root",
-         str(world.tree), "--cpus", "2", "--interval", "100ms", "--period", "100ms", "--undo",
-         str(undo), *words],
+         str(world.tree), "--cpus", "2", "--yes", "--read", "x100ms", "--period", "100ms",
+         "--undo", str(undo), *words],
         env=ctl.environment, stdout=subprocess.PIPE, stderr=subprocess.PIPE)
     assert json.loads(found.stdout.readline())["round"] == 1
     return found

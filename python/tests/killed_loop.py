@@ -68,7 +68,7 @@ def world_of(folder):
 def run(folder, engine, at):
     """The loop, which uses and wants more and less from round to round."""
     world = world_of(folder)
-    loop = world.loop(engine, folder / "u", ways=hold.Ways(False, True, True))
+    loop = world.loop(engine, folder / "u", ways=hold.Ways(has_weights=True))
 
     def step(turn):
         world.uses("a", 5 + 60 * (turn % 2))

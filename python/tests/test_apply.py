@@ -9,10 +9,10 @@ from fractions import Fraction
 import pytest
 import trees
 from arbiter import Host
-from arbiter_host import apply, safe_files
+from arbiter_host import apply, looks, safe_files
 from arbiter_host.apply import By, Change, Settings
 from arbiter_host.faults import HostFault
-from arbiter_host.sources import cgroup2, cgroups
+from arbiter_host.sources import cgroups
 from hypothesis import HealthCheck, given, settings
 from hypothesis import strategies as st
 
@@ -345,8 +345,8 @@ def test_places_of_an_import(folder):
     """A tree that is read directly knows its folders, also of names that a script writes as %XX."""
     trees.root2(folder / "t")
     trees.group2(folder / "t/a b", OLD.weight, OLD.maximum, OLD.burst)
-    wish = cgroups.Wish(Fraction(1, 1000))
-    before = cgroup2.read(str(folder / "t"), Host(2, 100000, 1000), wish)
+    before = cgroups.read([str(folder / "t")], Host(2, 100000, 1000),
+                          looks.Times(Fraction(1, 1000)))
     after = before.copy()
     after.groups["a%20b"].weight = 5
     found, left = apply.changes(before, after, safe_files.Root(str(folder / "t")))

@@ -1,7 +1,6 @@
-"""Audit: worked amounts, holes, causes, Prometheus, files without names, and what is refused."""
+"""Audit: worked amounts, holes, causes, Prometheus, the page, and what is refused."""
 import http.server
 import json
-import os
 import re
 import shutil
 import threading
@@ -13,13 +12,14 @@ import test_drawn
 import test_prometheus
 import trees
 from arbiter import Host
-from arbiter_host import awake, placement, watch
-from arbiter_host.audit import answer, causes, intervals, looks, page, ranges, written
+from arbiter_host import hunger, looks, placement
+from arbiter_host.audit import answer, causes, intervals, page, ranges
 from arbiter_host.audit.intervals import Cell, Interval
 from arbiter_host.demands import Reading
 from arbiter_host.faults import HostFault
 from arbiter_host.model import Group, Model
-from kernel import firm, kept
+from arbiter_host.sources import prometheus
+from laboratory import firm, kept
 from places import PACKAGE
 
 FIXTURES = PACKAGE / "tests/fixtures"
@@ -51,7 +51,7 @@ def copies(folder, count=3):
 
 def audited(ctl, *words):
     """What --json says, and what is warned of."""
-    out, err = ctl.run("audit", *words, "--json")
+    out, err = ctl.run("audit", *words, "-o", "json")
     return json.loads(out), err
 
 
@@ -70,7 +70,7 @@ def test_amounts_by_hand(ctl, folder):
     1200m. Then it waited for six tenths, and wants 1400m / 0.4 = 3500m of two tasks. Of 2000m web
     has 500m, so 1500m are planned, and batch had 1400m.
     """
-    found, err = audited(ctl, *copies(folder), "--interval", "10s", "--cpus", "2")
+    found, err = audited(ctl, *copies(folder), "--read", "x10s", "--cpus", "2")
     groups = by_group(found)
     assert [each["group"] for each in found["groups"]] == ["batch", "web"]
     web, batch = groups["web"], groups["batch"]
@@ -96,7 +96,7 @@ def test_amounts_by_hand(ctl, folder):
 
 def test_table(ctl, folder):
     """The same as a table, the group that was most off first."""
-    out, _ = ctl.run("audit", *copies(folder), "--interval", "10s", "--cpus", "2")
+    out, _ = ctl.run("audit", *copies(folder), "--read", "x10s", "--cpus", "2")
     lines = out.split("\n")
     assert lines[:4] == [
         "2 CPUs, period 1000 ms, slice 1 ms (one slice is 1m)",
@@ -120,7 +120,7 @@ def test_amounts_in_words(off, planned, words):
 
 def test_another_rule_for_demands(ctl, folder):
     """By what was used nothing is off but what is above a limit. By psi each wait counts."""
-    words = [*copies(folder), "--interval", "10s", "--cpus", "2", "--want"]
+    words = [*copies(folder), "--read", "x10s", "--cpus", "2", "--want"]
     assert by_group(audited(ctl, *words, "usage")[0])["batch"]["plan_millicpu"] == [1200, 1400]
     # 1200m / 0.8 is planned whole.
     assert by_group(audited(ctl, *words, "psi")[0])["batch"]["plan_millicpu"] == [1500, 1500]
@@ -130,7 +130,7 @@ def test_slices_that_are_asked_for(ctl, folder):
     """With slices of 10m the plan of 833.3m is cut at 500m, and 1204m are planned as 1210m."""
     found = copies(folder, 2)
     trees.group2(found[1] / "batch", 100, "max 100000", 0, usec(12.04), 2)
-    data, _ = audited(ctl, *found, "--interval", "10s", "--cpus", "2", "--slice", "1ms")
+    data, _ = audited(ctl, *found, "--read", "x10s", "--cpus", "2", "--slice", "1ms")
     assert data["host"]["period_usec"] == 100000
     batch = by_group(data)["batch"]
     assert batch["plan_millicpu"] == [1210] and batch["worst"]["off_hundredths"] == -0.6
@@ -138,8 +138,8 @@ def test_slices_that_are_asked_for(ctl, folder):
 
 
 def test_a_great_host_has_the_slices_of_its_source():
-    assert looks.fine(Host(64, 100000, 1000)) == Host(64, SECOND, 1000)
-    assert looks.fine(Host(65, 100000, 1000)) == Host(65, 100000, 1000)
+    assert intervals.fine(Host(64, 100000, 1000)) == Host(64, SECOND, 1000)
+    assert intervals.fine(Host(65, 100000, 1000)) == Host(65, 100000, 1000)
 
 
 # holes
@@ -153,12 +153,12 @@ def test_holes(ctl, folder):
         trees.group2(found[at] / "went", usage=usec(usage))
     for at, usage in ((0, 5), (1, 1), (2, 3)):
         trees.group2(found[at] / "fell", usage=usec(usage))
-    data, err = audited(ctl, *found, "--interval", "10s", "--cpus", "2")
+    data, err = audited(ctl, *found, "--read", "x10s", "--cpus", "2")
     groups = by_group(data)
     assert groups["came"]["used_millicpu"] == [None, 100]
     assert groups["went"]["used_millicpu"] == [100, None]
     assert groups["fell"]["used_millicpu"] == [None, 200]
-    assert groups["fell"]["holes"] == {"0": intervals.FELL} and groups["fell"]["intervals"] == 1
+    assert groups["fell"]["holes"] == {"0": looks.FELL} and groups["fell"]["intervals"] == 1
     assert "groups that came or went, left out there: 2: came (1), went (1)" in err
     assert "groups whose counters fell, left out there: 1: fell (1)" in err
     assert "groups or settings changed in intervals: 2" in err
@@ -168,7 +168,7 @@ def test_settings_that_change(ctl, folder):
     """The plan has those of the end of the interval: batch may have a CPU alone."""
     found = copies(folder)
     (found[2] / "batch/cpu.max").write_text("100000 100000\n")
-    data, err = audited(ctl, *found, "--interval", "10s", "--cpus", "2")
+    data, err = audited(ctl, *found, "--read", "x10s", "--cpus", "2")
     assert by_group(data)["batch"]["plan_millicpu"] == [1200, 1000]
     assert "groups or settings changed in intervals: 1" in err
 
@@ -196,16 +196,21 @@ class World:
             self.put(round(self.now / 5))
 
 
+def looked(world, clock=None, sleep=None, number=4):
+    """Looks at a tree, one each 5 s."""
+    return intervals.collected(looks.looks_at(
+        [str(world.top)], ONE, looks.Times(Fraction(5), number), True,
+        clock or (lambda: world.now), sleep or world.sleep), number)
+
+
 def test_live(folder, engine, monkeypatch):
     """Rounds of 5 s. b waited for 3 of 5 s, so its 800m were 2000m; it has one task, so 1000m.
 
     a is the same, and its task was seen: it ran for 2 s and waited for 3 s of each 5, so it wants
     200m / 0.4 = 500m. The single CPU has 1000 slices: 500 for each.
     """
-    monkeypatch.setattr(awake, "PROC", str(folder / "proc"))
-    world = World(folder)
-    times = watch.Times(Fraction(5), Fraction(15))
-    found = looks.live(str(world.top), ONE, 64, times, lambda: world.now, world.sleep)
+    monkeypatch.setattr(hunger, "PROC", str(folder / "proc"))
+    found = looked(World(folder))
     assert [each.name for each in found] == ["0 s", "5 s", "10 s", "15 s"]
     audit = intervals.audited(engine, found, None, set(), lambda: None)
     cells = audit.intervals[0].cells
@@ -224,10 +229,8 @@ def test_a_group_made_again_is_another(folder, engine):
             (world.top / "a").rename(folder / "old")
             world.put(round(world.now / 5))
 
-    times = watch.Times(Fraction(5), Fraction(15))
-    found = looks.live(str(world.top), ONE, 64, times, lambda: world.now, sleep)
-    audit = intervals.audited(engine, found, None, set(), lambda: None)
-    assert [each.holes for each in audit.intervals] == [{}, {"a": intervals.CAME}, {}]
+    audit = intervals.audited(engine, looked(world, sleep=sleep), None, set(), lambda: None)
+    assert [each.holes for each in audit.intervals] == [{}, {"a": looks.CAME}, {}]
 
 
 def test_a_clock_that_goes_back(folder, engine):
@@ -235,9 +238,8 @@ def test_a_clock_that_goes_back(folder, engine):
     # (each look asks once for each of three groups, and once for itself)
     clock = iter([0, 0, 5, 5, 5, 5, 0, 0, 1, 1, 1, 1])
     with pytest.raises(HostFault, match="the clock went back between two looks"):
-        looks.live(str(world.top), ONE, 64, watch.Times(Fraction(5), Fraction(15)),
-                   lambda: next(clock), lambda _: None)
-    found = looks.of_copies([str(world.top)] * 2, ONE, 64, Fraction(5))
+        looked(world, lambda: next(clock), lambda _: None)
+    found = list(looks.looks_at([str(world.top)] * 2, ONE, looks.Times(Fraction(5))))
     found[1].at = Fraction(0)
     with pytest.raises(HostFault, match="the clock went back"):
         intervals.audited(engine, found, None, set(), lambda: None)
@@ -252,40 +254,38 @@ def test_each_group_has_its_own_time(folder, engine):
         calls.append(None)
         return world.now + len(calls)
 
-    found = [looks.look(str(world.top), ONE, 64, clock)]
+    tree = looks.Tree(str(world.top), ONE, clock)
+    found = [tree.look()]
     world.now, before = 10.0, len(calls)
     world.put(2)
     calls.clear()
-    found.append(looks.look(str(world.top), ONE, 64, clock))
-    assert before == len(calls) == 3
-    found[1].at = Fraction(12)
+    found.append(tree.look())
+    assert before == len(calls) == 4
     cells = intervals.audited(engine, found, None, set(), lambda: None).intervals[0].cells
     assert [found[1].counted[path][key].at for path in ".ab"
-            for key in found[1].counted[path]] == [11, 12, 13]
+            for key in found[1].counted[path]] == [11, 12, 13] and found[1].at == 14
     assert (cells["a"].used, cells["b"].used) == (200, 800)
 
 
 def test_a_look_that_takes_too_long(folder, engine):
-    """With 20 s for a look and 15 s for all there are two looks, and an interval of 20 s."""
+    """One that takes 20 s leaves the times out that went by, and not a look."""
     world = World(folder)
-    ticks = iter(range(0, 1000, 20))
+    ticks = iter(range(0, 1000, 4))
 
     def clock():
         world.now = float(next(ticks))
         world.put(round(world.now / 5))
         return world.now
 
-    found = looks.live(str(world.top), ONE, 64, watch.Times(Fraction(5), Fraction(15)), clock,
-                       lambda _: None)
+    found = looked(world, clock, lambda _: None, 3)
     audit = intervals.audited(engine, found, None, set(), lambda: None)
-    assert len(found) == 2 and audit.intervals[0].seconds >= 20
+    assert len(found) == 3 and all(each.seconds >= 16 for each in audit.intervals)
 
 
 def test_live_by_the_command(ctl, folder):
     """A tree that does not change has no usage, which is told."""
     copies(folder, 1)
-    out, err = ctl.run("audit", folder / "copy-0", "--for", "100ms", "--interval", "20ms",
-                       "--cpus", "2", status=1)
+    out, err = ctl.run("audit", folder / "copy-0", "--read", "5x20ms", "--cpus", "2", status=1)
     assert (out, err.count("\n")) == ("", 1) and "no usage" in err
 
 
@@ -411,7 +411,7 @@ def serve():
 
 USAGE = ranges.USAGE
 PERIODS, THROTTLED = (ranges.METRICS[key] for key in ("periods", "throttled"))
-RANGE = ["--start", "1000", "--end", "1120", "--step", "60s"]
+RANGE = ["--range", "1000/1120", "--step", "60s"]
 HOST = b'[host]\ncpus = 2\n[groups.web]\nmax = "500m"\n[groups.db]\n'
 
 
@@ -431,14 +431,14 @@ def test_a_range_by_hand(ctl, serve):
                       ({"__name__": USAGE, "pod": "db"}, values(0, 60, "NaN"))),
         PERIODS: matrix(({"pod": "web"}, values(0, 600, 1200))),
         THROTTLED: matrix(({"pod": "web"}, values(0, 150, 150)))})
-    out, err = ctl.run("audit", "-", "--prometheus", url, *RANGE, "--json", given=HOST)
+    out, err = ctl.run("audit", "-", "--used", url, *RANGE, "-o", "json", given=HOST)
     found = json.loads(out)
     groups = by_group(found)
     assert groups["web"]["used_millicpu"] == [500, 400]
     assert groups["web"]["demand_millicpu"] == [666.666667, 400]
     assert groups["web"]["plan_millicpu"] == [500, 400]
     assert groups["db"]["used_millicpu"] == [1000, None]
-    assert groups["db"]["holes"] == {"1": intervals.CAME}
+    assert groups["db"]["holes"] == {"1": looks.CAME}
     assert [each["from"] for each in found["intervals"]] == ["1000", "1060"]
     assert {each["query"] for each in asked} == set(ranges.METRICS.values())
     assert all(each["step"] == "60s" for each in asked)
@@ -453,8 +453,8 @@ def test_times_of_samples(ctl, serve):
                                         ({"pod": "db"}, values(0, 0))),
         f'timestamp({USAGE}{{node="n1"}})': matrix(({"pod": "web"}, values(990, 1040)),
                                                    ({"pod": "db"}, values(995, 995)))})
-    out, err = ctl.run("audit", "-", "--prometheus", url, *RANGE, "--query", '{node="n1"}',
-                       "--json", given=HOST)
+    out, err = ctl.run("audit", "-", "--used", url, *RANGE, "--query", '{node="n1"}',
+                       "-o", "json", given=HOST)
     groups = by_group(json.loads(out))
     assert groups["web"]["used_millicpu"] == [200] and "db" not in groups
     assert "groups without a new sample, left out there: 1: db (1)" in err
@@ -469,9 +469,10 @@ def test_limits_and_tasks_of_a_range(serve):
         ranges.METRICS["tasks"]: matrix(({"pod": "web"}, values(3, 3, 4)))})
     model = Model(TWO)
     model.add(Group("web"))
-    found, notes = ranges.looks(ranges.Asked(url, "", "1000", "1120", "60s", "pod"), model)
+    found, notes = ranges.looks(ranges.Server(url, "", prometheus.Range("1000", "1120", 60)), model)
     assert [each.model.groups["web"].quota for each in found] == [50000, 50000, 70000]
     assert [each.tasks for each in found] == [{"web": 3}, {"web": 3}, {"web": 4}]
+    found = intervals.collected(found)
     assert (found[0].model is found[1].model, notes) == (True, [])
 
 
@@ -479,7 +480,7 @@ def test_tasks_of_the_source(engine):
     """Where none were counted the tasks are those of the source: 5 of 2 CPUs are wanted by one."""
     model = Model(TWO)
     model.add(Group("a", tasks=1))
-    seen = [looks.Look("", Fraction(at), model, {"a": {"": looks.Counted(
+    seen = [looks.Look(Fraction(at), model, {"a": {"": looks.Counted(
         Reading(usec(0.5 * at), 0, 0, usec(0.9 * at)))}}) for at in (0, 1)]
     cells = intervals.audited(engine, seen, None, set(), lambda: None).intervals[0].cells
     assert (cells["a"].demand, cells["a"].tasks, cells["a"].planned) == (5000, 1, 1000)
@@ -488,7 +489,7 @@ def test_tasks_of_the_source(engine):
 def test_while_the_server_was_away(ctl, serve):
     """From 1060 to 1240 nothing was measured: that is no interval of a minute."""
     url, _ = serve({USAGE: matrix(({"pod": "web"}, values(0, 6, None, None, 9, 12)))})
-    out, err = ctl.run("audit", "-", "--prometheus", url, *RANGE, "--json", given=HOST)
+    out, err = ctl.run("audit", "-", "--used", url, *RANGE, "-o", "json", given=HOST)
     assert by_group(json.loads(out))["web"]["used_millicpu"] == [100, None, 50]
     assert f"{intervals.AWAY}, left out there: 1: web (1)" in err
 
@@ -507,8 +508,8 @@ def test_containers_of_pods(ctl, serve):
         (labels("", "/kubepods.slice/kubepods-pod1.slice"), values(0, 61, 92, 123)),
         ({"id": "/"}, values(0, 70, 140, 210)),
         (labels("other", "/kubepods.slice/c", "elsewhere-1"), values(0, 1, 2, 3)))})
-    out, err = ctl.run("audit", FIXTURES / "pods.json", FIXTURES / "node.json", "--prometheus", url,
-                       *RANGE, "--json")
+    out, err = ctl.run("audit", FIXTURES / "pods.json", FIXTURES / "node.json", "--used", url,
+                       *RANGE, "-o", "json")
     found, = json.loads(out)["groups"]
     assert found["title"] == "prod/db-0/postgres"
     assert found["used_millicpu"] == [1000, None, 500]
@@ -525,7 +526,7 @@ def test_docker_and_folders(serve):
         ({"id": "/system.slice/docker-1.scope", "name": "db"}, values(0, 6)),
         ({"id": "/docker/2", "name": "db"}, values(0, 12)),
         ({"id": "/cache"}, values(0, 18)))})
-    found, _ = ranges.looks(ranges.Asked(url, "", "1", "2", "60s", "pod"), model)
+    found, _ = ranges.looks(ranges.Server(url, "", prometheus.Range("1", "2", 60)), model)
     risen = {path: next(iter(each.values())).reading.usage
              for path, each in found[1].counted.items()}
     assert risen == {"web": 6 * SECOND, "db": 12 * SECOND, "cache": 18 * SECOND}
@@ -535,8 +536,8 @@ def test_a_recorded_block(ctl, folder):
     """A real Prometheus, where Debian's package is here. web has at most one CPU of two."""
     with test_prometheus.running(folder, test_prometheus.recorded()) as url:
         end = test_prometheus.BEGIN + test_prometheus.STEP * (test_prometheus.COUNT - 1)
-        out, _ = ctl.run("audit", "-", "--prometheus", url, "--start", test_prometheus.BEGIN,
-                         "--end", end, "--step", "5m", "--json", given=HOST)
+        out, _ = ctl.run("audit", "-", "--used", url, "--range", f"{test_prometheus.BEGIN}/{end}",
+                         "--step", "5m", "-o", "json", given=HOST)
     groups = by_group(json.loads(out))
     assert groups["web"]["used_millicpu"] == [500, 500, 2000, 2000, 2000]
     assert groups["web"]["plan_millicpu"] == [500] * 5
@@ -556,7 +557,7 @@ def kept_look(at, model, runs):
         counted[path] = {"": looks.Counted(Reading(usec(sum(had) * span), 0, 0,
                                                    usec(waited * span)))}
     tasks = {path: model.groups[path].tasks for path in counted}
-    return looks.Look(f"{at}", Fraction(at * span), model, counted, tasks)
+    return looks.Look(Fraction(at * span), model, counted, tasks)
 
 
 def kept_audit(engine, name):
@@ -564,7 +565,7 @@ def kept_audit(engine, name):
     found = kept.kept()
     runs = [run for run in found["runs"] if run["host"] == name]
     model = firm.host_of(found["hosts"][name])
-    model = model.with_host(looks.fine(model.host))
+    model = model.with_host(intervals.fine(model.host))
     seen = [kept_look(at, model, runs) for at in range(len(runs) + 1)]
     return intervals.audited(engine, seen, "psi", set(), lambda: None), [
         {path: 100 * (had - share) for path, (share, had) in run["groups"].items()}
@@ -601,7 +602,7 @@ def test_rows_of_the_page(engine, name, least, most):
 def test_likely_cause_of_kept_runs(engine, name):
     """By where tasks run, as the page has it, for all groups that are off by a point or more."""
     audit, _ = kept_audit(engine, name)
-    rows = [row for row in answer.told(audit).rows if abs(row.most.off) >= 10]
+    rows = [row for row in answer.ranked(audit).rows if abs(row.most.off) >= 10]
     assert len(rows) >= 2 and {row.cause for row in rows} == {causes.PLACEMENT}
 
 
@@ -609,8 +610,8 @@ def test_likely_cause_of_kept_runs(engine, name):
 
 def test_page(ctl, folder):
     """One page without an address, with both lines of each group over time."""
-    ctl.run("audit", *copies(folder), "--interval", "10s", "--cpus", "2", "--html",
-            folder / "a.html")
+    ctl.run("audit", *copies(folder), "--read", "x10s", "--cpus", "2", "-o",
+            f"html={folder}/a.html")
     text = (folder / "a.html").read_text()
     assert not re.search(r"(src|href)=|url\(|@import|https?://", text)
     assert text.count("<figure>") == text.count("</figure>") == 2
@@ -635,7 +636,7 @@ def told_of(names, cells=2):
 def test_page_escapes_names(engine):
     names = ["<script>alert(1)<|script>", "\x1b\u202e\"'", "\u6f22" * 60]
     audit = intervals.Audit(told_of(names), intervals.plan(engine, told_of(names)[0].model))
-    text = page.page(answer.told(audit), "<i>")
+    text = page.page(answer.ranked(audit), "<i>")
     assert "<script>alert" not in text and "<i>" not in text
     assert "\x1b" not in text and "\u202e" not in text
 
@@ -648,7 +649,7 @@ def test_page_is_legible_in_a_browser(ctl, folder, width, mode):
     if chromium is None:
         pytest.skip("no chromium here")
     found = copies(folder)
-    ctl.run("audit", *found, "--interval", "10s", "--cpus", "2", "--html", folder / "p.html")
+    ctl.run("audit", *found, "--read", "x10s", "--cpus", "2", "-o", f"html={folder}/p.html")
     prefers = ["--blink-settings=preferredColorScheme=0"] if mode == "dark" else []
     look = test_drawn.LOOK.replace("'p,th,", "'svg text,figcaption,p,th,").replace(
         "getComputedStyle(each).color", "(each.tagName==='text'?getComputedStyle(each).fill:"
@@ -662,122 +663,31 @@ def test_page_is_legible_in_a_browser(ctl, folder, width, mode):
     assert seen == {"wrong": [], "width": width, "isDark": mode == "dark", "heads": 0}
 
 
-# without names
-
-def test_anonymous(ctl, folder):
-    """Numbers alone: no name of the source, no folder, no time of day."""
-    found = []
-    for at, used in enumerate((0, 3, 6)):
-        top = folder / f"secret-copy-{at}"
-        trees.root2(top, usec(used * 2))
-        trees.group2(top / "acme.slice", 250)
-        trees.group2(top / "acme.slice/payroll.service", 30, "50000 100000", 20000, usec(used), 7,
-                     periods=100 * at, throttled=at)
-        trees.group2(top / "aardvark.service", usage=usec(used))
-        found.append(top)
-    (found[2] / "aardvark.service/cpu.weight").write_text("77\n")
-    ctl.run("audit", *found, "--interval", "10s", "--cpus", "2", "--anonymous", folder / "a.json")
-    text = (folder / "a.json").read_text()
-    for word in ("acme", "payroll", "aardvark", "slice\"", "service", "secret", "copy", str(folder),
-                 "/", os.uname().nodename, "202"):
-        assert word not in text, word
-    data = json.loads(text)
-    assert (data["arbiter_audit"], data["processors"], data["period_usec"]) == (1, 2, SECOND)
-    assert [each["at"] for each in data["intervals"]] == [0, 10]
-    assert [(each["group"], each["above"]) for each in data["groups"]] == [
-        ("g1", None), ("g2", None), ("g3", "g2")]
-    one, two, three = data["groups"]
-    assert one["settings"] == [[0, 100, None, 100000, 0], [1, 77, None, 100000, 0]]
-    assert two == {"group": "g2", "above": None, "settings": [[0, 250, None, 100000, 0]]}
-    assert three["settings"] == [[0, 30, 50000, 100000, 20000]]
-    assert three["used_millicpu"] == [300, 300] and three["throttled"] == [1, 1]
-    # Throttled in one of 100 periods it wants 500m * 100/99, and may have 500m.
-    assert three["demand_millicpu"] == [505.050505] * 2 and three["plan_millicpu"] == [500, 500]
-    assert three["tasks"] == [7, 7] and three["periods"] == [100, 100]
-
-
-def test_anonymous_of_a_range(ctl, serve, folder):
-    """Times are those since the first, and titles of pods are left out."""
-    labels = {"namespace": "prod", "pod": "db-0", "container": "postgres"}
-    url, _ = serve({USAGE: matrix((labels, values(0, 60, 90)))})
-    ctl.run("audit", FIXTURES / "pods.json", FIXTURES / "node.json", "--prometheus", url, *RANGE,
-            "--anonymous", folder / "a.json")
-    text = (folder / "a.json").read_text()
-    pods = json.loads((FIXTURES / "pods.json").read_text())["items"]
-    words = {each["metadata"][key] for each in pods for key in ("name", "namespace")}
-    words |= {part["name"] for each in pods for part in each["spec"]["containers"]}
-    words |= {"kubepods", "pause", "1060", url, json.loads(
-        (FIXTURES / "node.json").read_text())["metadata"]["name"]}
-    assert len(words) > 8
-    # (g1 and so on are numbers of groups)
-    assert [word for word in words if word in text and word not in ("app",)] == []
-    assert [each["at"] for each in json.loads(text)["intervals"]] == [0, 60]
-
-
-# files
-
-def put(path, text="{\"arbiter_audit\" new"):
-    """Writes a file as --anonymous does."""
-    written.put([written.Document(str(path), text, answer.MARK)])
-
-
-def test_files_are_whole_and_of_no_other(folder, monkeypatch):
-    """No link is followed, a file of another is not replaced, and a fault leaves what was there."""
-    os.mkdir(folder / "d", 0o755)
-    (folder / "mine").write_text("mine")
-    path = folder / "d/a.json"
-    for make in (lambda: path.symlink_to(folder / "mine"), lambda: path.write_text("mine"),
-                 lambda: os.mkfifo(path), path.mkdir):
-        make()
-        with pytest.raises(HostFault, match="nothing is written|not written"):
-            put(path)
-        assert (folder / "mine").read_text() == "mine" and os.listdir(folder / "d") == ["a.json"]
-        path.rmdir() if path.is_dir() and not path.is_symlink() else path.unlink()
-    put(path, answer.MARK + " old")
-    put(path, answer.MARK + " new")
-    assert path.read_text() == answer.MARK + " new" and path.stat().st_mode & 0o777 == 0o600
-
-    def full(*_, **__):
-        raise OSError(28, "No space left on device")
-
-    monkeypatch.setattr(os, "fsync", full)
-    with pytest.raises(HostFault, match="No space left"):
-        put(path, answer.MARK + " third")
-    assert path.read_text() == answer.MARK + " new" and os.listdir(folder / "d") == ["a.json"]
-    monkeypatch.undo()
-    os.chmod(folder / "d", 0o777)
-    with pytest.raises(HostFault, match="other users may change this folder"):
-        put(path)
-
-
-def test_both_files_or_none(ctl, folder):
-    """The page is whole when the other file is refused, and gets no name."""
-    (folder / "a.json").write_text("mine")
-    out, err = ctl.run("audit", *copies(folder), "--interval", "10s", "--cpus", "2", "--html",
-                       folder / "a.html", "--anonymous", folder / "a.json", status=1)
-    assert out == "" and "not written by audit" in err and not (folder / "a.html").exists()
-    assert not [name for name in os.listdir(folder) if name.endswith(".part")]
+def test_an_answer_in_several_forms(ctl, folder):
+    """The page in a file, and the same as JSON on standard output."""
+    out, _ = ctl.run("audit", *copies(folder), "--read", "x10s", "--cpus", "2", "-o", "json", "-o",
+                     f"html={folder}/a.html")
+    assert json.loads(out)["check"] == "accepted" and (folder / "a.html").stat().st_size > 1000
 
 
 # what is refused
 
 @pytest.mark.parametrize("words, status, told", [
-    (["C0"], 2, "one copy alone: name two or more"),
-    (["C0", "C1"], 2, "--interval: the time from one copy to the next"),
-    (["C1", "C0", "--interval", "10s"], 1, "copy-0: all its counters are below"),
-    (["C0", "C0", "--interval", "10s"], 1, "no usage"),
-    (["C0", "NONE", "--interval", "10s"], 1, "none: No such file or directory"),
-    (["C0", __file__, "--interval", "10s"], 2, "no folder"),
-    (["C0", "EMPTY", "--interval", "10s"], 1, "no cgroup tree"),
-    (["C0", "C1", "--interval", "0"], 2, "--interval: above 0"),
-    (["C0", "C1", "--for", "1s"], 2, "name one"),
-    (["C0", "C1", "--interval", "10s", "--own"], 2, "--own: audit takes what was measured"),
-    (["C0", "C1", "--interval", "10s", "--scale", "web=2"], 2, "--scale: audit takes"),
-    (["C0", "--for", "10ms", "--interval", "1s"], 1, "one look alone"),
-    (["C0", "C1", "--interval", "10s", "--want", "request"], 1, "--want request: nothing was read"),
-    (["C0", "--prometheus", "http://127.0.0.1:1"], 2, "--prometheus takes SOURCE, --start and"),
-    (["C0", "--prometheus", "ftp://x", "--start", "1", "--end", "2"], 2, "not http:// or https://"),
-    (["C0", "--prometheus", "http://127.0.0.1:1", "--start", "1", "--end", "2", "--query", "sum("],
+    (["C0"], 2, "--read: how often and how long this tree is read"),
+    (["C0", "C1"], 2, "--read: the time from one copy to the next"),
+    (["C1", "C0", "--read", "x10s"], 1, "copy-0: all its counters are below"),
+    (["C0", "C0", "--read", "x10s"], 1, "no usage"),
+    (["C0", "NONE", "--read", "x10s"], 1, "none: No such file or directory"),
+    (["C0", __file__, "--read", "x10s"], 2, "no folder"),
+    (["C0", "EMPTY", "--read", "x10s"], 1, "no cgroup tree"),
+    (["C0", "C1", "--read", "x0"], 2, "--read: a time above 0"),
+    (["C0", "--read", "x1s"], 2, "2 or more"), (["C0", "--read", "1x1s"], 2, "2 or more"),
+    (["C0", "C1", "--read", "x10s", "--node", "n"], 2, "--node: it has no effect"),
+    (["C0", "C1", "--read", "x10s", "--range", "1d"], 2, "--range: it needs --used"),
+    (["C0", "C1", "--read", "x10s", "--want", "request"], 1, "--want request: nothing was read"),
+    (["--used", "http://127.0.0.1:1"], 2, "--used: it belongs to a SOURCE"),
+    (["C0", "--used", "ftp://x"], 2, "not http:// or https://"),
+    (["C0", "--used", "http://127.0.0.1:1", "--range", "1/2", "--query", "sum("],
      2, "--query: a selector of series"),
 ])
 def test_what_is_refused(ctl, folder, words, status, told):
@@ -787,9 +697,9 @@ def test_what_is_refused(ctl, folder, words, status, told):
     places = {"C0": folder / "copy-0", "C1": folder / "copy-1", "NONE": folder / "none",
               "EMPTY": folder / "empty"}
     out, err = ctl.run("audit", *(places.get(word, word) for word in words), "--cpus", "2",
-                       "--anonymous", folder / "a.json", status=status)
+                       "-o", f"html={folder}/a.html", status=status)
     assert out == "" and told in err and err.count("\n") == 1
-    assert not (folder / "a.json").exists()
+    assert not (folder / "a.html").exists()
 
 
 @pytest.mark.parametrize("answers, told", [
@@ -810,18 +720,18 @@ def test_what_is_refused(ctl, folder, words, status, told):
 ])
 def test_ranges_that_are_refused(ctl, serve, folder, answers, told):
     url, _ = serve(answers)
-    out, err = ctl.run("audit", "-", "--prometheus", url, *RANGE, "--anonymous", folder / "a.json",
+    out, err = ctl.run("audit", "-", "--used", url, *RANGE, "-o", f"html={folder}/a.html",
                        given=HOST, status=1)
     assert out == "" and told in err and "\x1b" not in err and err.count("\n") == 1
-    assert not (folder / "a.json").exists()
+    assert not (folder / "a.html").exists()
 
 
 def test_too_many_looks(folder, monkeypatch):
-    copies(folder)
-    monkeypatch.setattr(looks, "MOST_COUNTED", 5)
+    world = World(folder)
+    monkeypatch.setattr(intervals, "MOST_COUNTED", 5)
     with pytest.raises(HostFault, match="3 looks at 2 groups are too many"):
-        looks.of_copies([str(folder / f"copy-{at}") for at in range(3)], TWO, 64, Fraction(1))
+        intervals.collected(looks.looks_at([str(world.top)] * 3, TWO, looks.Times()))
     # Before the first interval is waited for.
     with pytest.raises(HostFault, match="61 looks at 2 groups are too many"):
-        looks.live(str(folder / "copy-0"), TWO, 64, watch.Times(Fraction(1), Fraction(60)),
-                   lambda: 0.0, lambda _: None)
+        looked(world, number=61)
+    assert world.now == 0

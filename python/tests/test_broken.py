@@ -5,13 +5,13 @@ from pathlib import Path
 import reading
 import trees
 from arbiter import Host
-from arbiter_host import names
+from arbiter_host import looks, names
 from arbiter_host.faults import HostFault
 from arbiter_host.fleet import hosts
 from arbiter_host.model import Model
 from arbiter_host.owned import Setting
 from arbiter_host.plan import plan
-from arbiter_host.sources import cgroup2, cgroups, hostfile, samples, script
+from arbiter_host.sources import cgroups, hostfile, samples, script
 from hypothesis import HealthCheck, example, given, settings
 from hypothesis import strategies as st
 
@@ -167,23 +167,18 @@ def test_samples(engine, data):
 
 
 FILES = ["cpu.weight", "cpu.max", "cpu.max.burst", "cpu.stat", "cpu.pressure", "cgroup.threads",
-         "cgroup.subtree_control", "cgroup.controllers", "cpu.shares", "cpu.cfs_quota_us",
-         "cpu.cfs_period_us", "cpuacct.usage", "tasks"]
+         "cgroup.subtree_control", "cgroup.controllers"]
 
 
 @settings(max_examples=80, deadline=None, suppress_health_check=list(HealthCheck))
 @given(texts=st.dictionaries(st.sampled_from(FILES), st.one_of(
     st.binary(max_size=40), broken(b"50000 100000\n"), broken(b"usage_usec 500\nnr_periods 3\n")),
-    max_size=8), one=st.booleans())
-def test_cgroups(tmp_path_factory, engine, texts, one):
+    max_size=8))
+def test_cgroups(tmp_path_factory, engine, texts):
     folder = tmp_path_factory.mktemp("tree")
-    if one:
-        trees.group1(folder)
-        trees.group1(folder / "a")
-    else:
-        trees.root2(folder)
-        trees.group2(folder / "a")
+    trees.root2(folder)
+    trees.group2(folder / "a")
     for name, data in texts.items():
         (folder / "a" / name).write_bytes(data)
-    wish = cgroups.Wish(Fraction(1), later=(str(folder),), want="psi")
-    planned(engine, holds(engine, lambda: cgroup2.read(str(folder), HOST, wish)))
+    planned(engine, holds(engine, lambda: cgroups.read([str(folder)] * 2, HOST,
+                                                       looks.Times(Fraction(1)), "psi")))

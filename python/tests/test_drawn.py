@@ -12,7 +12,7 @@ from fractions import Fraction
 import pytest
 import trees
 from arbiter import Host
-from arbiter_host import explain, picture, report, top
+from arbiter_host import explain, live, picture, report
 from arbiter_host.explain import View
 from arbiter_host.model import Group, Model
 from arbiter_host.plan import plan
@@ -252,7 +252,7 @@ def test_top_folds_what_has_no_room(engine, rows, first, folds):
     pod5 lacks most: it has the greatest want, 2.46, of those that get little.
     """
     found = plan(engine, wide_host(111))
-    lines = [line for line, _ in top.screen(found, explain.View(width=80), rows)]
+    lines = [line for line, _ in live.screen(found, explain.View(width=80), rows)]
     assert len(lines) <= rows and lines[7].endswith(f"  {first}")
     assert any("below)" in line for line in lines) == folds
     assert ("no room here" in lines[-1]) == (rows == 24)
@@ -263,7 +263,7 @@ def test_top_folds_what_has_no_room(engine, rows, first, folds):
 def test_top_without_a_terminal(ctl, folder):
     trees.root2(folder)
     trees.group2(folder / "web", usage=5)
-    out, _ = ctl.run("top", folder, "--count", "2", "--interval", "10ms", "--cpus", "2", "--all")
+    out, _ = ctl.run("top", folder, "-o", "text", "--read", "3x10ms", "--cpus", "2", "--all")
     assert out.count("2 CPUs, period 100 ms") == 2 and out.count("  web") == 2
 
 
@@ -314,7 +314,7 @@ def test_top_on_a_terminal(ctl, folder, columns, lines, ending):
 
 def test_history_of_top(engine):
     """The bars of what a group got, as parts of its most; the rows stay those of their groups."""
-    history = top.History()
+    history = live.History()
     for demand in (0, 100, 250, 1000):
         model = Model(Host(1, 100000, 5000))
         model.add(Group("web", demand=Fraction(demand)))
@@ -339,7 +339,7 @@ def test_history_of_top(engine):
     ("++++", {"depth": 4}), ("++++-", {"depth": 2}),
 ])
 def test_keys_of_top(letters, view):
-    keys = top.Keys()
+    keys = live.Keys()
     for letter in letters:
         keys.take(letter, 3)
     assert keys.view(explain.View()) == explain.View()._replace(**view)
@@ -352,23 +352,13 @@ def test_top_folds_from_what_is_shown(engine):
     """Where 40 rows have room for the pods alone, one `-` leaves the host. Idle groups count not.
     """
     found = plan(engine, wide_host(111))
-    assert top.folded(found, explain.View(), 200, explain.table)[0] == 2
-    depth, lines = top.folded(found, explain.View(), 40, explain.table)
-    keys = top.Keys()
+    assert live.folded(found, explain.View(), 200, explain.table)[0] == 2
+    depth, lines = live.folded(found, explain.View(), 40, explain.table)
+    keys = live.Keys()
     keys.take("-", depth)
     assert (depth, keys.view(explain.View()).depth) == (1, 0)
     found.model.groups |= {"pod0/idle": Group("pod0/idle"), "pod0/idle/x": Group("pod0/idle/x")}
-    assert top.folded(plan(engine, found.model), explain.View(), 200, explain.table)[0] == 2
-
-
-def test_top_once_as_json(ctl, folder):
-    trees.root2(folder)
-    trees.group2(folder / "web", usage=5)
-    words = ["top", folder, "--once", "--interval", "10ms", "--cpus", "2", "--want", "busy"]
-    found = json.loads(ctl.run(*words, "--json")[0])
-    assert [(each["group"], each["gets"]["slices"]) for each in found["groups"]] == [
-        (".", 100), ("web", 100)]
-    assert ctl.run(*words)[0].count("2 CPUs, period 100 ms") == 1
+    assert live.folded(plan(engine, found.model), explain.View(), 200, explain.table)[0] == 2
 
 
 class Tmux:
@@ -403,7 +393,7 @@ def test_top_in_tmux(ctl, folder):
     ctl.environment.pop("COLUMNS")
     tmux = Tmux(folder, ctl.environment)
     command = (f"/usr/bin/python3 {PACKAGE}/arbiterctl top {folder}/t --want busy --cpus 2"
-               " --interval 100ms; echo ended $?; cat")
+               " --read x100ms; echo ended $?; cat")
     tmux.run("new-session", "-d", "-s", "top", "-x", "100", "-y", "30", command)
     try:
         text = tmux.seen("q quit", "\u2588" * 10, "batch", "x")
@@ -428,7 +418,7 @@ def test_top_ends_before_its_first_picture(ctl, folder):
     trees.root2(folder / "t")
     ctl.environment.pop("COLUMNS")
     tmux = Tmux(folder, ctl.environment)
-    command = (f"/usr/bin/python3 {PACKAGE}/arbiterctl top {folder}/t --cpus 2 --interval 10min"
+    command = (f"/usr/bin/python3 {PACKAGE}/arbiterctl top {folder}/t --cpus 2 --read x10min"
                "; echo ended $?; cat")
     tmux.run("new-session", "-d", "-s", "top", "-x", "100", "-y", "30", command)
     try:

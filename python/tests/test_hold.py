@@ -242,7 +242,7 @@ def test_own_group_is_left_alone(world, engine, folder, capsys, monkeypatch):
     (line, stood), _ = world.run(loop, lambda: None, lambda: None)
     assert sorted(line["groups"]) == ["b", "c"] and stood["a"] == FREE
     assert capsys.readouterr().err.count("a: this loop runs there") == 1
-    monkeypatch.setattr(hold.cgroups, "file_text", lambda *_: "1:cpu:/x\n0::/a.slice/b c.scope\n")
+    monkeypatch.setattr(hold.cgroup2, "file_text", lambda *_: "1:cpu:/x\n0::/a.slice/b c.scope\n")
     assert hold.own_folder() == "/sys/fs/cgroup/a.slice/b c.scope"
 
 
@@ -266,13 +266,14 @@ def test_a_writing_that_fails_puts_back(world, engine, folder):
 
 def test_kubelet_and_other_trees_are_refused(ctl, world, engine, folder):
     world.add("kubepods.slice")
-    words = ["hold", world.tree, "--root", world.tree, "--undo", folder / "u", "--once"]
-    _, err = ctl.run(*words, status=1)
+    words = ["hold", world.tree, "--root", world.tree, "--undo", folder / "u", "--read", "2x1s"]
+    _, err = ctl.run(*words, "--yes", status=1)
     assert "kubelet owns the limits there" in err and not (folder / "u").exists()
-    ctl.run(*words, "--force", "--dry-run")
+    ctl.run(*words, "--force")
     _, err = ctl.run("hold", folder, "--root", world.tree, "--undo", folder / "u", status=1)
-    assert "no tree of cgroup v2" in err
-    for option, value in (("--period", "50ms"), ("--interval", "10ms")):
+    assert "so no cgroup tree" in err
+    for option, value in (("--period", "50ms"), ("--read", "x10ms"), ("--read", "1x1s"),
+                          ("-o", "openmetrics")):
         ctl.run(*words, option, value, status=2)
 
 
@@ -313,7 +314,7 @@ def test_two_loops(ctl, world, folder):
     """The second is refused while the first runs, and writes nothing."""
     before = content(world.tree)
     loop = started(ctl, world, folder / "u")
-    words = ["hold", world.tree, "--root", world.tree, "--undo", folder / "u2", "--once"]
+    words = ["hold", world.tree, "--root", world.tree, "--undo", folder / "u2", "--yes"]
     _, err = ctl.run(*words, status=1)
     assert "another loop holds this host" in err and not (folder / "u2").exists()
     loop.send_signal(signal.SIGTERM)
@@ -322,9 +323,9 @@ def test_two_loops(ctl, world, folder):
 
 
 def test_other_ends_put_back(ctl, world, folder):
-    """The end of the time, of the one round, and of who reads the lines."""
+    """The last of the rounds, the only one, and the end of who reads the lines."""
     before = content(world.tree)
-    for words in (["--for", "300ms"], ["--once"]):
+    for words in (["--read", "4x100ms"], ["--read", "2x100ms"]):
         loop = started(ctl, world, folder / "u", *words)
         assert (said(loop), loop.returncode) == ([], 0)
         assert content(world.tree) == before and not (folder / "u").exists()
@@ -334,19 +335,20 @@ def test_other_ends_put_back(ctl, world, folder):
     loop.stderr.close()
 
 
-def test_dry_run_writes_nothing(ctl, world, folder):
+def test_nothing_is_written_without_yes(ctl, world, folder):
     before = content(folder)
-    for more, limits in ((["--interval", "100ms", "--period", "100ms"], [50, 50, 100]),
-                         ([], [500, 500, 1000]), (["--slice", "10ms"], [50, 50, 100])):
-        out, _ = ctl.run("hold", world.tree, "--root", world.tree, "--cpus", "2", "--once",
-                         "--dry-run", "--undo", folder / "u", *more)
+    for more, limits in ((["--read", "2x100ms", "--period", "100ms"], [50, 50, 100]),
+                         (["--read", "2x1s"], [500, 500, 1000]),
+                         (["--read", "2x1s", "--slice", "10ms"], [50, 50, 100])):
+        out, _ = ctl.run("hold", world.tree, "--root", world.tree, "--cpus", "2",
+                         "--undo", folder / "u", *more)
         line = json.loads(out)
         assert [each["limit"] for each in line["groups"].values()] == limits
         assert (line["written"], content(folder)) == (0, before)
     # 96 CPUs by weights 100, 100 and 200: in slices of 10 ms of 1 s, and of 1 ms of 100 ms
     for more in ([], ["--period", "100ms"]):
-        out, _ = ctl.run("hold", world.tree, "--root", world.tree, "--cpus", "96", "--once",
-                         "--dry-run", *more)
+        out, _ = ctl.run("hold", world.tree, "--root", world.tree, "--cpus", "96", "--read",
+                         "2x1s", *more)
         assert [each["limit"] for each in json.loads(out)["groups"].values()] == [2400, 2400, 4800]
 
 

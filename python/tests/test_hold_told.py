@@ -1,4 +1,4 @@
-"""Hold: weights, bursts, what Linux did not serve, gauges, systemd's messages, and the unit."""
+"""Hold: weights, what Linux did not serve, metrics, systemd's messages, and the unit."""
 import json
 import os
 import re
@@ -14,8 +14,7 @@ from pathlib import Path
 import killed_loop
 import pytest
 from arbiter import Host
-from arbiter_host import apply, awake, gauges, hold, notify, safe_files, weights
-from arbiter_host.apply import Settings
+from arbiter_host import apply, hold, hunger, metrics, notify, safe_files, weights
 from arbiter_host.faults import HostFault
 from arbiter_host.model import Group, Model
 from arbiter_host.subcommands.hold import Signals, Waits
@@ -24,7 +23,6 @@ from places import PACKAGE
 
 UNIT = PACKAGE.parent / "share/systemd/arbiter-hold.service"
 WEIGHTS = hold.Ways(has_weights=True)
-BURST = hold.Ways(has_burst=True)
 
 
 @pytest.mark.parametrize("limit, most, weight", [
@@ -167,10 +165,10 @@ A_SECOND = 10**9
 ])
 def test_hunger_by_hand(before, now, used, waited, hungry):
     """Milliseconds of a second: tasks ran and waited, the group used, some task waited."""
-    one, two = ({number: awake.Task(*(each * 10**6 for each in task))
+    one, two = ({number: hunger.Task(*(each * 10**6 for each in task))
                  for number, task in found.items()} for found in (before, now))
-    found = awake.Round(A_SECOND, used * 1000, waited * 1000)
-    assert awake.is_hungry(one, two, found) is hungry
+    found = hunger.Round(A_SECOND, used * 1000, waited * 1000)
+    assert hunger.is_hungry(one, two, found) is hungry
 
 
 @pytest.mark.parametrize("before, now, used, throttled, most", [
@@ -191,21 +189,21 @@ def test_hunger_by_hand(before, now, used, waited, hungry):
 ])
 def test_most_wanted_by_hand(before, now, used, throttled, most):
     """Milliseconds of a second: tasks ran and waited, the group used, and could have used."""
-    one, two = ({number: awake.Task(*(each * 10**6 for each in task))
+    one, two = ({number: hunger.Task(*(each * 10**6 for each in task))
                  for number, task in found.items()} for found in (before, now))
-    found = awake.Round(A_SECOND, used * 1000, 10**6, throttled)
-    assert awake.most_wanted(one, two, found) == (None if most is None else most * 10**6)
+    found = hunger.Round(A_SECOND, used * 1000, 10**6, throttled)
+    assert hunger.most_wanted(one, two, found) == (None if most is None else most * 10**6)
 
 
 def test_tasks_are_read(folder, monkeypatch):
     """Of a list those that are there; a list of a group may have no number, and many."""
-    monkeypatch.setattr(awake, "PROC", str(folder))
+    monkeypatch.setattr(hunger, "PROC", str(folder))
     for number, text in ((12, "5 6 7\n"), (13, "nonsense\n"), (15, "8 9 1\n")):
         (folder / str(number)).mkdir()
         (folder / str(number) / "schedstat").write_text(text)
-    assert awake.tasks("12\n13\n14\n0\nx\n15\n") == {12: (5, 6), 15: (8, 9)}
-    monkeypatch.setattr(awake, "MOST_TASKS", 2)
-    assert awake.tasks("12\n13\n15\n") == {12: (5, 6)}
+    assert hunger.tasks("12\n13\n14\n0\nx\n15\n") == {12: (5, 6), 15: (8, 9)}
+    monkeypatch.setattr(hunger, "MOST_TASKS", 2)
+    assert hunger.tasks("12\n13\n15\n") == {12: (5, 6)}
 
 
 @pytest.fixture
@@ -259,7 +257,7 @@ def test_many_tasks_are_read_whole(folder):
     (folder / "g").mkdir()
     (folder / "g/cgroup.threads").write_text("".join(f"{number}\n" for number in range(5000)))
     root = safe_files.Root(str(folder))
-    assert len(root.read("g", "cgroup.threads", awake.MOST_TEXT).split()) == 5000
+    assert len(root.read("g", "cgroup.threads", hunger.MOST_TEXT).split()) == 5000
     root.close()
 
 
@@ -297,19 +295,6 @@ def test_a_group_that_becomes_idle(world, engine, folder, ways):
     assert len(back.left) == 1 and "idle (cpu.idle)" in back.left[0]
 
 
-def test_bursts(world, engine, folder):
-    """A tenth of each limit; what stood comes back, its burst too."""
-    (world.tree / "a/cpu.max").write_text("190000 100000\n")
-    (world.tree / "a/cpu.max.burst").write_text("30000\n")
-    loop, seen = world.loop(engine, folder / "undo", ways=BURST), []
-    world.run(loop, lambda: None, lambda: seen.append([apply.current(loop.root, path)
-                                                       for path in "abc"]))
-    # a 128th above 50, 50 and 100
-    assert seen == [[Settings(100, 50390, 100000, 5039), Settings(100, 50390, 100000, 5039),
-                     Settings(200, 100781, 100000, 10078)]]
-    assert apply.current(loop.root, "a") == Settings(100, 190000, 100000, 30000)
-
-
 def test_unserved(world, engine, folder):
     """What a hungry group was not given of the plan that stood in the round."""
     loop = world.loop(engine, folder / "undo")
@@ -335,64 +320,68 @@ LINE = {"round": 7, "missed": 1, "written": 2, "unserved": 3, "groups": {
     "b": {"want": 1000000, "plan": 60, "used": 57, "limit": 60, "hungry": True, "unserved": 3}}}
 
 
-def test_gauges_by_hand():
-    """CPUs of slices of 1 ms in 100 ms; a hungry group wants everything."""
-    lines = gauges.text(LINE, Host(2, 100000, 1000)).split("\n")
+def held(line=None):
+    """The metrics of a round on a host of two CPUs with slices of 1 ms in 100 ms."""
+    return metrics.Held(line or LINE, Host(2, 100000, 1000))
+
+
+def test_metrics_by_hand():
+    """CPUs of slices; a hungry group wants everything."""
+    lines = metrics.text_of(held()).decode().split("\n")
     assert lines[-2:] == ["# EOF", ""]
     assert "# TYPE arbiter_hold_plan_cpus gauge" in lines
     found = dict(line.rsplit(" ", 1) for line in lines if line and not line.startswith("#"))
     odd = 'group="a\\"b\\\\c\\\\x0a"'
-    assert found == {
-        f"arbiter_hold_want_cpus{{{odd}}}": "0.2", 'arbiter_hold_want_cpus{group="b"}': "+Inf",
-        f"arbiter_hold_plan_cpus{{{odd}}}": "0.2", 'arbiter_hold_plan_cpus{group="b"}': "0.6",
-        f"arbiter_hold_used_cpus{{{odd}}}": "0.19", 'arbiter_hold_used_cpus{group="b"}': "0.57",
-        f"arbiter_hold_limit_cpus{{{odd}}}": "0.5", 'arbiter_hold_limit_cpus{group="b"}': "0.6",
-        f"arbiter_hold_unserved_cpus{{{odd}}}": "0",
-        'arbiter_hold_unserved_cpus{group="b"}': "0.03",
-        f"arbiter_hold_hungry{{{odd}}}": "0", 'arbiter_hold_hungry{group="b"}': "1",
-        "arbiter_hold_rounds": "7", "arbiter_hold_missed_rounds": "1"}
+    assert {key: float(value) for key, value in found.items()} == {
+        f"arbiter_hold_want_cpus{{{odd}}}": 0.2,
+        'arbiter_hold_want_cpus{group="b"}': float("inf"),
+        f"arbiter_hold_plan_cpus{{{odd}}}": 0.2, 'arbiter_hold_plan_cpus{group="b"}': 0.6,
+        f"arbiter_hold_used_cpus{{{odd}}}": 0.19, 'arbiter_hold_used_cpus{group="b"}': 0.57,
+        f"arbiter_hold_limit_cpus{{{odd}}}": 0.5, 'arbiter_hold_limit_cpus{group="b"}': 0.6,
+        f"arbiter_hold_unserved_cpus{{{odd}}}": 0, 'arbiter_hold_unserved_cpus{group="b"}': 0.03,
+        f"arbiter_hold_hungry{{{odd}}}": 0, 'arbiter_hold_hungry{group="b"}': 1,
+        "arbiter_hold_rounds": 7, "arbiter_hold_missed_rounds": 1}
 
 
 @pytest.mark.skipif(shutil.which("promtool") is None, reason="no promtool")
-def test_gauges_are_what_prometheus_reads():
-    text = gauges.text(LINE, Host(2, 100000, 1000))
-    ended = subprocess.run(["promtool", "check", "metrics"], input=text.encode(), timeout=30,
-                           capture_output=True, check=False)
+def test_metrics_are_what_prometheus_reads():
+    ended = subprocess.run(["promtool", "check", "metrics"], input=metrics.text_of(held()),
+                           timeout=30, capture_output=True, check=False)
     assert b"error" not in ended.stderr.lower(), ended.stderr
 
 
-def test_gauges_are_written_whole(folder):
+def test_metrics_are_written_whole(folder):
     """An earlier file is replaced; a part stays unseen; other users change nothing."""
-    (folder / "hold.prom").write_text(gauges.text(LINE, Host(2, 100000, 1000)))
+    (folder / "hold.prom").write_bytes(metrics.text_of(held()))
     (folder / "hold.prom").chmod(0o600)
-    file = gauges.File(str(folder / "hold.prom"))
-    file.put("new\n")
-    assert (folder / "hold.prom").read_text() == "new\n"
+    file, new = metrics.File(str(folder / "hold.prom")), held(LINE | {"round": 8})
+    file.put(new)
+    assert (folder / "hold.prom").read_bytes() == metrics.text_of(new)
     assert (folder / "hold.prom").stat().st_mode & 0o777 == 0o644
     (folder / ".hold.prom.part").symlink_to(folder / "elsewhere")
     with pytest.raises(HostFault):
-        file.put("newer\n")
-    assert (folder / "hold.prom").read_text() == "new\n" and not (folder / "elsewhere").exists()
+        file.put(held())
+    assert (folder / "hold.prom").read_bytes() == metrics.text_of(new)
+    assert not (folder / "elsewhere").exists()
     file.remove()
     file.remove()
-    file.close()
     assert not (folder / "hold.prom").exists()
     (folder / "open").mkdir()
     (folder / "open").chmod(0o777)
     with pytest.raises(HostFault, match="other users may change"):
-        gauges.File(str(folder / "open/hold.prom"))
+        metrics.File(str(folder / "open/hold.prom"))
     with pytest.raises(HostFault):
-        gauges.File(str(folder / "none/hold.prom"))
+        metrics.File(str(folder / "none/hold.prom"))
     assert not (folder / "none").exists()
 
 
-def test_gauges_of_a_loop(ctl, world, folder):
+def test_metrics_of_a_loop(ctl, world, folder):
     """They are there while it runs, and gone at its end."""
     path = folder / "hold.prom"
-    loop = started(ctl, world, folder / "u", "--openmetrics", str(path))
+    loop = started(ctl, world, folder / "u", "-o", f"openmetrics={path}")
     loop.stdout.readline()
     text = path.read_text()
-    assert text.endswith("# EOF\n") and 'arbiter_hold_limit_cpus{group="a"} 0.5' in text
+    assert text.endswith("# EOF\n") and 'arbiter_hold_limit_cpus{group="a"} 0.5\n' in text
     loop.send_signal(signal.SIGTERM)
     assert (said(loop), loop.returncode, path.exists()) == ([], 0, False)
 
@@ -448,13 +437,13 @@ def test_watchdog_in_a_long_wait(folder):
 def test_more_cpus_than_there_are(ctl, folder):
     """The real tree is not held for more CPUs than the machine has."""
     _, err = ctl.run("hold", "/sys/fs/cgroup", "--cpus", "60000", "--slice", "1s", "--undo",
-                     folder / "u", "--once", status=2)
+                     folder / "u", status=2)
     assert f"this machine has {os.cpu_count()}" in err and not (folder / "u").exists()
 
 
 @pytest.mark.parametrize("depth", ["0", "65"])
 def test_depths_that_are_none(ctl, world, folder, depth):
-    ctl.run("hold", world.tree, "--root", world.tree, "--undo", folder / "u", "--depth-read",
+    ctl.run("hold", world.tree, "--root", world.tree, "--undo", folder / "u", "--depth",
             depth, status=2)
 
 
@@ -463,7 +452,7 @@ def test_a_tree_elsewhere_than_the_root(ctl, world, folder):
     (folder / "other").mkdir()
     before = content(world.tree)
     _, err = ctl.run("hold", world.tree, "--root", folder / "other", "--undo", folder / "u",
-                     "--once", status=1)
+                     "--yes", status=1)
     assert "not below --root" in err and content(world.tree) == before
     assert not (folder / "u").exists()
 
@@ -476,8 +465,8 @@ def option(name):
 def test_unit_says_how_it_runs():
     """It is ready when told, watched, undone after each end, and nothing enables it."""
     assert option("Type") == ["notify"] and int(option("WatchdogSec")[0]) >= 10
-    assert option("ExecStart") == ["/usr/bin/arbiterctl hold --undo /run/arbiter/hold-undo.json"
-                                   " $OPTIONS ${TREE}"]
+    assert option("ExecStart") == ["/usr/bin/arbiterctl hold --yes --undo"
+                                   " /run/arbiter/hold-undo.json $OPTIONS ${TREE}"]
     assert option("EnvironmentFile") == ["/etc/default/arbiter-hold"]
     assert "/etc/default/arbiter-hold" in option("ConditionPathExists")
     # its rounds are not wanted there, its faults are
@@ -502,7 +491,7 @@ def test_unit_undoes_after_a_kill(ctl, world, folder):
         "/usr/bin/arbiterctl", f"{sys.executable} {PACKAGE / 'arbiterctl'}")
     (folder / "run").mkdir(mode=0o700)
     before, undo = content(world.tree), folder / "run/hold-undo.json"
-    loop = started(ctl, world, undo, "--weights", "--burst")
+    loop = started(ctl, world, undo, "--weights")
     loop.kill()
     loop.communicate(timeout=30)
     assert content(world.tree) != before and undo.exists()

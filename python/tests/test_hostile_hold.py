@@ -12,7 +12,7 @@ import time
 
 import pytest
 import trees
-from arbiter_host import apply, hold, output, record, safe_files
+from arbiter_host import apply, hold, looks, output, record, safe_files
 from arbiter_host.apply import By, Change, Settings
 from arbiter_host.faults import HostFault
 from arbiter_host.subcommands import apply as applying
@@ -93,8 +93,8 @@ def test_a_tenant_names_a_group_as_kubelets(world, engine, folder, capsys):
 def test_own_group_by_another_path(world, engine, folder, monkeypatch):
     """It is known by what it is, so also in a tree that is mounted elsewhere."""
     (folder / "cgroup").symlink_to(world.tree)
-    monkeypatch.setattr(hold, "HOST_TREE", str(folder / "cgroup"))
-    monkeypatch.setattr(hold.cgroups, "file_text", lambda *_: "0::/a\n")
+    monkeypatch.setattr(looks, "HOST_TREE", str(folder / "cgroup"))
+    monkeypatch.setattr(hold.cgroup2, "file_text", lambda *_: "0::/a\n")
     own = hold.own_group()
     monkeypatch.undo()
     loop = world.loop(engine, folder / "undo")
@@ -280,8 +280,8 @@ def test_a_signal_while_nobody_reads(ctl, world, folder):
 
 def test_a_hangup_that_is_ignored(ctl, world, folder):
     """As nohup has it: the loop goes on."""
-    words = ["hold", world.tree, "--root", world.tree, "--cpus", "2", "--interval", "100ms",
-             "--period", "100ms", "--undo", folder / "u"]
+    words = ["hold", world.tree, "--root", world.tree, "--cpus", "2", "--yes", "--read",
+             "x100ms", "--period", "100ms", "--undo", folder / "u"]
     loop = subprocess.Popen(
         [sys.executable, str(PACKAGE / "arbiterctl"), *map(str, words)], env=ctl.environment,
         stdout=subprocess.PIPE, stderr=subprocess.PIPE,
@@ -331,12 +331,12 @@ def test_who_asks_for_the_lock_stops_no_loop(folder):
 def test_a_real_tree_by_another_path(folder, monkeypatch):
     """A tree is the host's if its device is: there is one lock for all paths to it."""
     root = safe_files.Root(str(folder))
-    for place, is_real in ((hold.HOST_TREE, False), ("/proc", False), (folder / "none", False),
+    for place, is_real in ((looks.HOST_TREE, False), ("/proc", False), (folder / "none", False),
                            (folder, True), (folder.parent, True)):
-        monkeypatch.setattr(holding.hold, "HOST_TREE", str(place))
+        monkeypatch.setattr(looks, "HOST_TREE", str(place))
         assert holding.is_real(root) == is_real, place
     (folder / "other").mkdir()
-    monkeypatch.setattr(holding.hold, "HOST_TREE", str(folder / "other"))
+    monkeypatch.setattr(looks, "HOST_TREE", str(folder / "other"))
     assert holding.is_real(root)
 
 

@@ -2,7 +2,6 @@
 import json
 import os
 import resource
-from fractions import Fraction
 
 import pytest
 import reading
@@ -12,7 +11,7 @@ from arbiter_host import apply, names, safe_files
 from arbiter_host.apply import By, Change, Settings
 from arbiter_host.faults import HostFault
 from arbiter_host.model import Group, Model
-from arbiter_host.sources import cgroup2, cgroups, hostfile, script
+from arbiter_host.sources import cgroups, hostfile, script
 from hypothesis import HealthCheck, example, given, settings
 from hypothesis import strategies as st
 
@@ -37,8 +36,7 @@ def tree(folder):
 
 def read(top):
     """The model of a tree, which nothing is waited for."""
-    wish = cgroups.Wish(Fraction(1, 1000), want="busy")
-    return cgroup2.read(str(top), Host(2, 100000, 1000), wish)
+    return cgroups.read([str(top)], Host(2, 100000, 1000), want="busy")
 
 
 # Names

@@ -166,14 +166,12 @@ def busy(command, folder):
 def example_command(command, folder):
     """An example that reads a small tree for a moment, in place of this machine for seconds."""
     command = command.replace("/sys/fs/cgroup", f"{folder}/cgroup").replace("10s", "10ms")
+    tree = f" {folder}/cgroup" if "cgroup" not in command else ""
     if command.startswith("arbiterctl top"):
-        command += " --once" if "--once" not in command else ""
-        command += f" {folder}/cgroup" if "cgroup" not in command else ""
-    if command.startswith("arbiterctl watch"):
-        command = command.replace(":9101", ":0") + " --once --interval 10ms"
-    if command.startswith("arbiterctl audit") and "--for" in command:
-        tree = f" {folder}/cgroup" if "cgroup" not in command else ""
-        command = busy(command.replace("60s", "1s --interval 500ms") + tree, folder)
+        command = command.replace(":9101", ":0").replace("2x5s", "2x10ms")
+        command += tree + (" --read 2x10ms" if "--read" not in command else "")
+    if command.startswith("arbiterctl audit") and "13x5s" in command:
+        command = busy(command.replace("13x5s", "3x500ms") + tree, folder)
     if "apply" in command or "hold" in command:
         command += f" --root {folder}/cgroup"
     return command

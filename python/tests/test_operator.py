@@ -66,7 +66,7 @@ def test_control_characters_from_a_tree(ctl, folder):
     said = [made[1], *ctl.run("explain", *words), *ctl.run("explain", folder / "s"),
             *(each for form in ("json", "html", "svg", "csv")
               for each in ctl.run("explain", "-o", form, *words)),
-            *ctl.run("top", *words[:-2], "--interval", "1ms", "--count", "1"),
+            *ctl.run("top", *words, "-o", "text"),
             *ctl.run("diff", folder / "s", "--set", "*.weight=7"),
             *ctl.run("apply", folder / "s", "--set", "*.weight=7", "--root", folder / "t")]
     for each in said:

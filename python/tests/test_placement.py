@@ -10,7 +10,8 @@ from arbiter_host import explain, placement
 from arbiter_host.balancer import Run
 from arbiter_host.model import Group, Model
 from arbiter_host.plan import plan
-from kernel import firm, kept, scenario
+from kernel import scenario
+from laboratory import firm, kept
 
 # How far a firm group may be from its exact share, in CPUs.
 FIRM_WITHIN = 0.03
@@ -70,30 +71,6 @@ def test_saved_runs_are_kept(tmp_path, monkeypatch):
          "demand": 1000.0, "tasks": 1},
         {"path": "b", "weight": 300, "quota": None, "period": 100000, "burst": 0,
          "demand": 300.0, "tasks": 1}]
-
-
-def test_audits_are_kept(tmp_path, monkeypatch):
-    """Each interval in which all groups were measured is a run of a host of its own."""
-    monkeypatch.setattr(kept, "KEPT", tmp_path / "kept.json.xz")
-    (tmp_path / "sent.json").write_text(json.dumps({
-        "arbiter_audit": 1, "processors": 2, "period_usec": 10**6, "slice_usec": 1000,
-        "intervals": [{}, {}, {}], "groups": [
-            {"group": "g1", "above": None, "settings": [[0, 300, None, 100000, 0],
-                                                        [2, 200, 90000, 100000, 0]]},
-            {"group": "g2", "above": "g1", "settings": [[0, 100, None, 100000, 0]],
-             "demand_millicpu": [700.5, None, 0], "tasks": [3, 3, None],
-             "plan_millicpu": [650, None, 0], "used_millicpu": [600, None, 0]}]}))
-    kept.main(["sent", str(tmp_path / "sent.json")])
-    found = kept.kept()
-    assert [(run["set"], run["host"], run["groups"]) for run in found["runs"]] == [
-        ("sent", "sent-0", {"g1/g2": [0.65, 0.6]}), ("sent", "sent-2", {"g1/g2": [0, 0]})]
-    assert found["hosts"]["sent-0"]["groups"] == [
-        {"path": "g1", "weight": 300, "quota": None, "period": 100000, "burst": 0, "demand": 0.0,
-         "tasks": None},
-        {"path": "g1/g2", "weight": 100, "quota": None, "period": 100000, "burst": 0,
-         "demand": 700.5, "tasks": 3}]
-    assert found["hosts"]["sent-2"]["groups"][0]["quota"] == 90000
-    assert placement.shape_of(firm.host_of(found["hosts"]["sent-0"])).period == 0.1
 
 
 def test_hosts_drawn_by_a_seed(tmp_path):

@@ -13,11 +13,11 @@ import pytest
 import reading
 import trees
 from arbiter import Host
-from arbiter_host import demands, load, units
+from arbiter_host import demands, load, looks, units
 from arbiter_host.faults import HostFault
 from arbiter_host.model import Group, Model
 from arbiter_host.plan import plan
-from arbiter_host.sources import cgroup2, cgroups, hostfile, kubernetes, script
+from arbiter_host.sources import cgroups, hostfile, kubernetes, script
 from hypothesis import HealthCheck, given, settings
 from hypothesis import strategies as st
 from places import PACKAGE
@@ -304,6 +304,10 @@ def test_faults_of_json_name_the_line():
 
 # cgroups
 
+# A thousandth of a second from one reading to the next.
+QUICK = looks.Times(Fraction(1, 1000))
+
+
 def copies(folder, **groups):
     """Two copies of a tree: each group has the usage in 10 seconds and its settings."""
     for copy, factor in (("a", 0), ("b", 1)):
@@ -312,15 +316,15 @@ def copies(folder, **groups):
             counters = {key: entry[key] * factor for key in ("usage", "periods", "throttled",
                                                              "waited") if key in entry}
             trees.group2(folder / copy / name.replace("__", "/"), **{**entry, **counters})
-    return str(folder / "a"), cgroups.Wish(Fraction(10), later=(str(folder / "b"),))
+    return [str(folder / "a"), str(folder / "b")], looks.Times(Fraction(10))
 
 
 def test_cgroup2(folder):
     """Settings as they stand; the demand is what was used: 5 of 10 seconds are 500m."""
-    top, wish = copies(folder, web={"weight": 200, "maximum": "50000 200000", "burst": 7000,
+    tops, times = copies(folder, web={"weight": 200, "maximum": "50000 200000", "burst": 7000,
                                     "usage": 5 * 10**6, "threads": 4},
                        idle={"weight": 0}, box={}, box__in={"usage": 10**6})
-    model = cgroup2.read(top, EIGHT, wish)
+    model = cgroups.read(tops, EIGHT, times)
     assert list(model.groups) == ["box", "box/in", "idle", "web"]
     web = model.groups["web"]
     assert (of(web), web.burst, web.demand, web.tasks) == ((200, 50000, 200000), 7000, 500, 4)
@@ -333,10 +337,9 @@ def test_cgroup2(folder):
     ("usage", 400), ("peak", 400), ("p95", 400), ("psi", 1000), ("limit", 500), ("busy", 8000),
 ])
 def test_wants(folder, want, demand):
-    top, wish = copies(folder, web={"maximum": "50000 100000", "usage": 4 * 10**6, "threads": 9,
+    tops, times = copies(folder, web={"maximum": "50000 100000", "usage": 4 * 10**6, "threads": 9,
                                     "periods": 100, "throttled": 50, "waited": 5 * 10**6})
-    wish = cgroups.Wish(wish.seconds, later=wish.later, want=want)
-    assert cgroup2.read(top, EIGHT, wish).groups["web"].demand == demand
+    assert cgroups.read(tops, EIGHT, times, want).groups["web"].demand == demand
 
 
 def test_busy_without_tasks(folder, engine):
@@ -346,7 +349,7 @@ def test_busy_without_tasks(folder, engine):
         trees.group2(folder / path, threads=threads)
     for want, wanted in (("limit", []), ("busy", ["groups without a task, which ask for nothing:"
                                                   " 2 of 3 (--want busy)"])):
-        model = cgroup2.read(str(folder), EIGHT, cgroups.Wish(Fraction(1, 1000), want=want))
+        model = cgroups.read([str(folder)], EIGHT, QUICK, want)
         assert [note for note in model.notes if "without a task" in note] == wanted
     assert [each.demand for each in model.groups.values()] == [8000, 0, 0, 0]
     assert not any("without a task" in note for note in pods(engine, want="busy").notes)
@@ -354,9 +357,8 @@ def test_busy_without_tasks(folder, engine):
 
 def test_pressure_alone(folder):
     """400m used with pressure in half of the time is a demand of 800m."""
-    top, wish = copies(folder, web={"usage": 4 * 10**6, "waited": 5 * 10**6})
-    wish = cgroups.Wish(wish.seconds, later=wish.later, want="psi")
-    assert cgroup2.read(top, EIGHT, wish).groups["web"].demand == 800
+    tops, times = copies(folder, web={"usage": 4 * 10**6, "waited": 5 * 10**6})
+    assert cgroups.read(tops, EIGHT, times, "psi").groups["web"].demand == 800
 
 
 def test_samples():
@@ -391,7 +393,7 @@ def test_groups_come_and_go(folder):
     beside.start()
     try:
         for _ in range(25):
-            model = cgroup2.read(str(folder), EIGHT, cgroups.Wish(Fraction(1, 1000)))
+            model = cgroups.read([str(folder)], EIGHT, QUICK)
             assert "stay" in model.groups
     finally:
         stop.set()
@@ -399,10 +401,10 @@ def test_groups_come_and_go(folder):
 
 
 def test_gone_at_the_second_reading(folder):
-    top, wish = copies(folder, web={"usage": 10**6})
+    tops, times = copies(folder, web={"usage": 10**6})
     for name in os.listdir(folder / "b/web"):
         (folder / "b/web" / name).unlink()
-    model = cgroup2.read(top, EIGHT, wish)
+    model = cgroups.read(tops, EIGHT, times)
     assert model.groups["web"].demand == 0
     assert "web: gone at a later reading" in model.notes
 
@@ -410,57 +412,35 @@ def test_gone_at_the_second_reading(folder):
 def test_controller_that_is_not_enabled(folder):
     trees.root2(folder, enabled="memory")
     trees.put(folder / "a", cpu_stat="usage_usec 5")
-    notes = cgroup2.read(str(folder), EIGHT, cgroups.Wish(Fraction(1, 1000))).notes
+    notes = cgroups.read([str(folder)], EIGHT, QUICK).notes
     assert any("the cpu controller is not enabled here" in note for note in notes)
     assert any("no cpu.weight" in note for note in notes)
 
 
 def test_folders_that_are_no_tree(folder):
     with pytest.raises(HostFault, match="No such file"):
-        cgroup2.read(str(folder / "no"), EIGHT)
+        cgroups.read([str(folder / "no")], EIGHT)
     with pytest.raises(HostFault, match="so no cgroup tree$"):
-        cgroup2.read(str(folder), EIGHT)
+        cgroups.read([str(folder)], EIGHT)
     trees.root2(folder / "unified")
     with pytest.raises(HostFault, match="/unified is one"):
-        cgroup2.read(str(folder), EIGHT)
+        cgroups.read([str(folder)], EIGHT)
     # A host with both has the controller in one of them.
-    trees.group1(folder / "cpu")
+    trees.put(folder / "cpu", cpu_shares="1024")
     with pytest.raises(HostFault, match="/unified is one"):
-        cgroup2.read(str(folder), EIGHT)
+        cgroups.read([str(folder)], EIGHT)
     trees.put(folder / "unified", cgroup_controllers="hugetlb")
-    with pytest.raises(HostFault, match="/cpu is one of v1"):
-        cgroup2.read(str(folder), EIGHT)
+    with pytest.raises(HostFault, match="cgroup v1 is not read"):
+        cgroups.read([str(folder)], EIGHT)
 
 
 def test_names_of_a_tree(folder, engine):
     trees.root2(folder)
     for raw in (b"a b", b"x\xff", b"\x1b[31m", "\u00fc".encode()):
         trees.group2(os.path.join(os.fsencode(folder), raw).decode(errors="surrogateescape"))
-    model = cgroup2.read(str(folder), EIGHT, cgroups.Wish(Fraction(1, 1000)))
+    model = cgroups.read([str(folder)], EIGHT, QUICK)
     assert sorted(model.groups) == ["%1B[31m", "a%20b", "x%FF", "\u00fc"]
     assert "\x1b" not in script.write(model, engine.library).split("mkdir")[0]
-
-
-def test_cgroup1(folder):
-    """Shares are weights, so that parts are exact; usage is in nanoseconds."""
-    for copy, factor in (("a", 0), ("b", 1)):
-        trees.group1(folder / copy)
-        trees.group1(folder / copy / "web", 2048, 50000, usage_nsec=5 * 10**9 * factor, tasks=2)
-        trees.group1(folder / copy / "db", 1024)
-    wish = cgroups.Wish(Fraction(10), later=(str(folder / "b"),))
-    model = cgroup2.read(str(folder / "a"), EIGHT, wish)
-    assert {path: of(each) for path, each in model.groups.items()} == {
-        "db": (1024, None, 100000), "web": (2048, 50000, 100000)}
-    assert (model.groups["web"].demand, model.groups["web"].tasks) == (500, 2)
-
-
-def test_cgroup1_great_shares(folder):
-    trees.group1(folder)
-    trees.group1(folder / "a", 262144)
-    trees.group1(folder / "b", 131072)
-    model = cgroup2.read(str(folder), EIGHT, cgroups.Wish(Fraction(1, 1000)))
-    assert [each.weight for each in model.groups.values()] == [10000, 5000]
-    assert any("kept as 5000" in note for note in model.notes)
 
 
 @pytest.mark.parametrize("name, text", [
@@ -489,7 +469,7 @@ def test_groups_with_cpus_of_their_own_are_told(engine, folder):
         trees.group2(folder / name)
         trees.put(folder / name, cpuset_cpus=cpus)
     told = "bound to CPUs: {}: each keeps to its own CPUs, so what others leave idle does not"
-    tree = cgroup2.read(str(folder), EIGHT, cgroups.Wish(Fraction(1, 1000))).notes
+    tree = cgroups.read([str(folder)], EIGHT, QUICK).notes
     assert sum(each.startswith(told.format("a, c")) for each in tree) == 1
     units_ = b"Id=a.service\nControlGroup=/a.service\nAllowedCPUs=0-1\n\nId=b.service\n" \
         b"ControlGroup=/b.service\nAllowedCPUs=\n"
@@ -551,7 +531,7 @@ def node_files(folder):
 def test_pods_and_files_agree(engine, folder):
     """The same weights and limits from the pods' JSON and from the node's files."""
     node_files(folder)
-    by_files = cgroup2.read(str(folder), Host(4, 100000, 1000), cgroups.Wish(Fraction(1, 1000)))
+    by_files = cgroups.read([str(folder)], Host(4, 100000, 1000), QUICK)
     files = {os.path.relpath(each.place, folder): of(each) for each in by_files.groups.values()}
     by_pods = {each.place: of(each) for each in pods(engine).groups.values()
                if each.place != "."}

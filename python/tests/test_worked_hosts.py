@@ -198,7 +198,7 @@ def test_a_folder_of_another_user(ctl, folder):
     shut.mkdir(mode=0o700)
     ended = subprocess.run([sys.executable, "-c", "import os,sys;os.setuid(65534);"
                             "sys.path.insert(0,sys.argv.pop(1));"
-                            "from arbiter_host.sources import cgroup2;"
+                            "from arbiter_host import cgroup2;"
                             "from arbiter_host.model import Host;"
                             "from arbiter_host.faults import HostFault\n"
                             "try: cgroup2.check_folder(sys.argv[1])\n"

@@ -1,4 +1,4 @@
-"""Makes trees of cgroups of both versions in a folder, in the kernel's format."""
+"""Makes trees of cgroups in a folder, in the kernel's format."""
 import os
 
 STAT = ("usage_usec {usage}\nuser_usec {usage}\nsystem_usec 0\nnr_periods {periods}\n"
@@ -16,7 +16,7 @@ def put(folder, **files):
 
 
 def root2(folder, usage=0, enabled="cpu io memory"):
-    """The top of a tree of version 2."""
+    """The top of a tree."""
     put(folder, cgroup_controllers="cpuset cpu io memory pids", cpu_stat=f"usage_usec {usage}")
     with open(f"{folder}/cgroup.subtree_control", "w", encoding="utf-8") as file:
         file.write(enabled + "\n")
@@ -24,17 +24,8 @@ def root2(folder, usage=0, enabled="cpu io memory"):
 
 def group2(folder, weight=100, maximum="max 100000", burst=0, usage=0, threads=1, periods=0,
            throttled=0, waited=0):
-    """A group of version 2."""
+    """A group."""
     put(folder, cpu_weight=str(weight), cpu_max=maximum, cpu_max_burst=str(burst),
         cpu_stat=STAT.format(usage=usage, periods=periods, throttled=throttled),
         cpu_pressure=PRESSURE.format(waited=waited),
         cgroup_threads="".join(f"{number}\n" for number in range(100, 100 + threads)))
-
-
-def group1(folder, shares=1024, quota=-1, period=100000, usage_nsec=0, tasks=1):
-    """A group of version 1."""
-    put(folder, cpu_shares=str(shares), cpu_stat="nr_periods 0\nnr_throttled 0\nthrottled_time 0",
-        cpuacct_usage=str(usage_nsec), tasks="".join(f"{n}\n" for n in range(tasks)))
-    for name, value in (("quota", quota), ("period", period)):
-        with open(f"{folder}/cpu.cfs_{name}_us", "w", encoding="utf-8") as file:
-            file.write(f"{value}\n")

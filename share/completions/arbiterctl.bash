@@ -15,7 +15,7 @@ _arbiterctl() {
         given=$before
     fi
     if ((COMP_CWORD == 1)); then
-        mapfile -t COMPREPLY < <(compgen -W "explain diff tune recommend replay top watch export audit place apply undo hold -h --help -V --version" -- "$word")
+        mapfile -t COMPREPLY < <(compgen -W "explain diff tune recommend replay top export audit place apply undo hold -h --help -V --version" -- "$word")
         return
     fi
     case ${COMP_WORDS[1]} in
@@ -194,13 +194,6 @@ _arbiterctl() {
                 --library) ;;
                 *)
                     [[ $word == -* ]] && mapfile -t COMPREPLY < <(compgen -W "-g --group -n --namespace -l --selector -o --output --state --sort --depth --unit --all -v --verbose --alert --command --listen --from --want --scale --read --used --range --step --query --node --node-weights --strict --cpus --period --slice --library -h --help" -- "$word")
-                    ;;
-            esac
-            ;;
-        watch)
-            case $given in
-                *)
-                    [[ $word == -* ]] && mapfile -t COMPREPLY < <(compgen -W "-h --help" -- "$word")
                     ;;
             esac
             ;;

@@ -5,8 +5,7 @@ complete -c arbiterctl -n __fish_use_subcommand -f -a diff -d 'what a change doe
 complete -c arbiterctl -n __fish_use_subcommand -f -a tune -d 'settings with which groups get their goals at once'
 complete -c arbiterctl -n __fish_use_subcommand -f -a recommend -d 'propose requests and limits from what was used'
 complete -c arbiterctl -n __fish_use_subcommand -f -a replay -d 'plan many samples of what was used'
-complete -c arbiterctl -n __fish_use_subcommand -f -a top -d 'live view over a host\'s cgroups and their plan'
-complete -c arbiterctl -n __fish_use_subcommand -f -a watch -d 'tell when a host gets bad: alerts and metrics'
+complete -c arbiterctl -n __fish_use_subcommand -f -a top -d 'plan a host again and again: live, alerts, metrics'
 complete -c arbiterctl -n __fish_use_subcommand -f -a export -d 'write what a source holds as a script or a host file'
 complete -c arbiterctl -n __fish_use_subcommand -f -a audit -d 'the plan beside what groups used: how far off, and why'
 complete -c arbiterctl -n __fish_use_subcommand -f -a place -d 'where a pod would go among many hosts'
@@ -181,8 +180,6 @@ complete -c arbiterctl -n '__fish_seen_subcommand_from top' -l period -x -d 'per
 complete -c arbiterctl -n '__fish_seen_subcommand_from top' -l slice -x -d 'slice, such as 1ms (default: what the source says, else 1ms, or 5ms for scripts)'
 complete -c arbiterctl -n '__fish_seen_subcommand_from top' -l library -r -F -d 'the C library (default: the first that is found)'
 complete -c arbiterctl -n '__fish_seen_subcommand_from top' -s h -l help -d 'print help'
-
-complete -c arbiterctl -n '__fish_seen_subcommand_from watch' -s h -l help -d 'print help'
 
 complete -c arbiterctl -n '__fish_seen_subcommand_from export' -s o -l output -x -a 'script toml json' -d 'the form, and the file that is written: script, toml, json (default: the first of them on standard output); may be said again'
 complete -c arbiterctl -n '__fish_seen_subcommand_from export' -s v -l verbose -d 'say on standard error how long it took'

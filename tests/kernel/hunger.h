@@ -1,5 +1,5 @@
 /* Whether the tasks of a group would have used more in a round, and the most that they could have
-   used: the rule of python/arbiter_host/awake.py. test_hunger.py sets the two beside each other. */
+   used: the rule of python/arbiter_host/hunger.py. test_hunger.py sets the two beside each other. */
 
 /* A round of a group: its nanoseconds, and the microseconds used and waited in. */
 struct span {

@@ -106,18 +106,31 @@ def unpacked() -> list[str]:
             if any(cache_folder().glob(f"linux-image-{name}.*"))]
 
 
+def any_kernel() -> Kernel:
+    """A kernel that is unpacked, else the first of `KERNELS`."""
+    for name in unpacked():
+        folders = sorted(cache_folder().glob(f"linux-image-{name}.*-amd64"))
+        if folders:
+            return in_folder(name, folders[-1])
+    return kernel(next(iter(KERNELS)))
+
+
 def kernel(name: str) -> Kernel:
-    """A kernel of `KERNELS`."""
+    """A kernel of `KERNELS`, the newest that apt knows."""
     if name not in KERNELS:
         raise KernelFault(f"kernel {name}: one of {', '.join(KERNELS)}")
     found = re.search(r"Depends: (linux-image-\S+)", said(["apt-cache", "depends", KERNELS[name]]))
     if not found:
         raise KernelFault(f"apt knows no {KERNELS[name]}: apt-get update")
-    package = found[1]
-    folder = cache_folder() / package
+    folder = cache_folder() / found[1]
     with alone():
-        fetch([package], folder)
-    release = package.removeprefix("linux-image-")
+        fetch([found[1]], folder)
+    return in_folder(name, folder)
+
+
+def in_folder(name: str, folder: Path) -> Kernel:
+    """A kernel that is unpacked in a folder."""
+    release = folder.name.removeprefix("linux-image-")
     config = (folder / "boot" / f"config-{release}").read_text(encoding="utf-8")
     ticks = re.search(r"^CONFIG_HZ=(\d+)$", config, re.MULTILINE)
     image = folder / "boot" / f"vmlinuz-{release}"

@@ -31,8 +31,8 @@ LOAD = (f"(echo 0 > {layout.HOME}/a/cgroup.procs;"
 
 def held(undo: str, *words: str) -> list[str]:
     """The words of `hold`."""
-    return ["hold", layout.HOME, "--root", layout.HOME, "--undo", f"/tmp/{undo}", "--interval",
-            "2s", "--period", "100ms", *words]
+    return ["hold", layout.HOME, "--root", layout.HOME, "--undo", f"/tmp/{undo}", "--period",
+            "100ms", *words]
 
 
 def undone(undo: str) -> list[str]:
@@ -42,17 +42,17 @@ def undone(undo: str) -> list[str]:
 
 def steps() -> Iterator[dict[str, Any]]:
     """The steps in order. A command with `kill` is killed when a file holds a text."""
-    yield {"name": "audit", "words": ["audit", layout.HOME, "--for", "8s", "--interval", "4s",
-                                      "--json"]}
-    yield {"name": "dry run", "words": held("none", "--once", "--dry-run")}
-    yield {"name": "hold", "words": held("one", "--for", "9s")}
-    for name, group, more in (("first", "b", []), ("last", "pod/y", ["--weights", "--burst"])):
+    yield {"name": "audit", "words": ["audit", layout.HOME, "--read", "3x4s", "-o", "json"]}
+    yield {"name": "dry run", "words": held("none", "--read", "2x2s")}
+    yield {"name": "hold", "words": held("one", "--yes", "--read", "5x2s")}
+    for name, group, more in (("first", "b", []), ("last", "pod/y", ["--weights"])):
         # (the loop writes a 128th above the limit of the rule)
         text = f"{GUARANTEES[group] * 1000 * 129 // 128} 100000"
-        yield {"name": f"killed {name}", "words": held(name, *more),
+        yield {"name": f"killed {name}", "words": held(name, "--yes", "--read", "x2s", *more),
                "kill": [layout.place(group, "cpu.max"), text]}
         yield {"name": f"undone {name}", "words": undone(name)}
-    yield {"name": "churn", "words": held("churn", "--for", "9s", "--weights"), "churn": "both"}
+    yield {"name": "churn", "words": held("churn", "--yes", "--read", "5x2s", "--weights"), "churn":
+           "both"}
 
 
 def work() -> str:

@@ -1,61 +1,25 @@
-"""Ways of holding a plan: what a guest is given, what the loop told, and the table; a short loop.
-
-The guests are skipped where the packages or a kernel are not there. `kernel.held` runs all ways.
-"""
+"""The loop of limits in a guest, on the kernel that is there: who is stopped, and in what order."""
 import itertools
 
 import pytest
 
-from arbiter import Library
-from kernel import __main__, held, held_page, held_rule, machine, packages, planned, scenario
-from kernel.real_files import effective
-from support import ROOT
+from kernel import held, layout, machine
+from kernel.scenario import parse
 
-PODS = scenario.read(__main__.SCENARIOS / "four-pods.script")
-# Weights 200 and 100 and 100 of 400 slices; x and y of p have a task each, those of q share 1 to 3.
-PODS_PLAN = {".": 400, "p": 200, "p/x": 100, "p/y": 100, "q": 100, "q/x": 75, "q/y": 25, "r": 100}
 SETTING = machine.Setting(shift=4, seconds=900)
-
-
-def test_plan_of_a_scenario(program):
-    """Demands are cut at the tasks: p has two tasks, and so two processors."""
-    planned.use(program.path)
-    assert held.plan(PODS) == PODS_PLAN
-
-
-def test_what_a_guest_is_given(program):
-    """Limits of 100 ms and 1 s, their bursts, and weights: 25 / 0.76 for r, q the sum 59 + 33."""
-    planned.use(program.path)
-    assert held.held_by(PODS, held.WAYS["weights"]) is PODS
-    limits = held.held_by(PODS, held.WAYS["limits-1s"]).files("cpu.max")
-    assert limits == {"p/x": "1000000 1000000", "p/y": "1000000 1000000",
-                      "q/x": "750000 1000000", "q/y": "250000 1000000", "r": "1000000 1000000"}
-    bursts = held.held_by(PODS, held.WAYS["limits-burst"]).files("cpu.max.burst")
-    assert bursts["q/x"] == "7500" and set(bursts) == set(limits)
-    weights = held.held_by(PODS, held.WAYS["limits-weights"]).files("cpu.weight")
-    assert weights == {"p": "10000", "p/x": "10000", "p/y": "10000", "q": "92", "q/x": "59",
-                       "q/y": "33", "r": "33"}
-
-
-def test_own_limits_stay(program):
-    """A limit of the scenario that is no greater than the plan is not written over."""
-    planned.use(program.path)
-    found = scenario.read(__main__.SCENARIOS / "four-limits.script")
-    given = effective(held.held_by(found, held.WAYS["limits-1s"]))
-    assert given["a"][1] == "150000 100000" and given["b"][1] == "60000 100000"
-    assert given["c"][1] in ("630000 1000000", "640000 1000000")
-
-
-def test_loop_is_begun_before_the_tasks():
-    """With the groups in order, and the words of the way."""
-    options = held.arguments(["four-pods"])
-    way = held.WAYS["loop-weights-1s"]
-    lines = held.Job(PODS, way, 0, held.span_of(way, options, 0)).script().split("\n")
-    at = next(number for number, line in enumerate(lines) if line.startswith("/hold "))
-    assert lines[at] == ("/hold $first $last 1000000000 1000000 4 w /sys/fs/cgroup/host"
-                         " p p/x p/y q q/x q/y r &")
-    assert all("/guest load" not in line for line in lines[:at])
-    assert not any("/guest grid" in line for line in lines)
+# One processor; the demands of a period of 100 slices, and weights.
+HOSTS = {
+    "four tasks against one": "#: --tasks a=4\nmkdir a\nmkdir b\ndemand a 100\ndemand b 100\n",
+    "small demands": "mkdir a\nwrite a cpu.weight 50\nmkdir b\nmkdir c\nwrite c cpu.weight 200\n"
+                     "mkdir d\nwrite d cpu.weight 400\nmkdir e\ndemand a 100\ndemand b 30\n"
+                     "demand c 5\ndemand d 45\ndemand e 12\n"}
+# Who wants more than the plan gives, and orders of what groups get: 100 are 50 and 50 for the first
+# host. On the second c, d and e get the 5, 45 and 12 that they want, and a and b share the other 38
+# by 50 to 100.
+HUNGRY = {"four tasks against one": {"a", "b"}, "small demands": {"a", "b"}}
+ORDERS = {"four tasks against one": [], "small demands": ["cabd", "cebd"]}
+# Rounds until the plan stands.
+BEFORE = 3
 
 
 def test_rounds_are_read_by_run():
@@ -68,105 +32,69 @@ def test_rounds_are_read_by_run():
                  "plan": 60, "limit": 60}]}
 
 
-def saved(way, had, repeat=0):
-    """A run of two groups whose shares are 150 and 50."""
-    lines = [{"path": ".", "plan": 200, "share": 200.0, "had": float(sum(had))},
-             {"path": "a", "plan": 150, "share": 150.0, "had": float(had[0])},
-             {"path": "b", "plan": 50, "share": 50.0, "had": float(had[1])}]
-    return {"release": "6.1.0-1", "way": way, "repeat": repeat, "scenario": "s", "key": way,
-            "refusal": "", "others": 0.001, "leaves": ["a", "b"], "lines": lines, "rounds": []}
+def watched(host, way):
+    """A line that begins the loop, and prints each group's cpu.max at its end."""
+    line = held.loop_line(host, held.WAYS[way]).removesuffix(" &")
+    files = " ".join(f"echo max {path} $(cat {layout.place(path, 'cpu.max')});"
+                     for path in host.paths)
+    return f"({line}; {files}) &"
 
 
-def test_table_by_hand(tmp_path):
-    """b is 10 of 50 off by weights. By limits b is 3 of 50 off and then a 1 of 150; 98.5 and 99.5 %
-    are served. Refused runs are left out."""
-    runs = [saved("weights", (140, 60)), saved("limits", (150, 47)), saved("limits", (149, 50), 1),
-            {**saved("limits", (0, 0)), "refusal": "late"}]
-    path = tmp_path / "runs.jsonl.gz"
-    for each in runs:
-        held.add(str(path), each)
-    found = held_page.read([str(path)])
-    assert len(found) == 3
-    rows = list(held_page.rows(found, "6.1", ["weights", "limits"]))
-    assert rows[2] == "| `s` | 10.0, 1 | 2.0 (1.0 to 3.0), 99.0 %, 2 |"
-    assert list(held_page.sums(found, "6.1", ["weights", "limits"]))[2:] == [
-        "| weights | 1, 1 | 0 | 0 | 10.0 | 20 % | 100.0 % |",
-        "| limits | 1, 2 | 1 | 0 | 3.0 | 6 % | 99.0 % |"]
+@pytest.fixture(scope="module", name="told")
+def told_by_a_guest(library, guests_kernel):
+    """What the guest printed of each host, in the loop and in one that writes nothing."""
+    scripts = []
+    for name, text in HOSTS.items():
+        for way in ("loop", "watched"):
+            host = parse(name, text)
+            script = layout.script(host, layout.Span(3, 3, has_grid=False), watched(host, way))
+            scripts.append(held.begun(script, f"{name} {way}"))
+    return held.lines_of(guests_kernel, machine.Board(), SETTING, scripts,
+                         library.with_suffix(".a"))
 
 
-def test_tables_are_written_into_a_page():
-    """Each in the place of the one that begins as it does, and nothing else is changed."""
-    page = "one\n\n| Scenario | old |\n|---|---|\n| x | y |\n\ntwo\n\n| Way | old |\n|---|\n\nend\n"
-    found = [saved("weights", (140, 60))]
-    one, two = "\n".join(held_page.of_page(found)).split("\n\n")
-    assert held_page.written(page, found) == f"one\n\n{one}\n\ntwo\n\n{two}\n\nend\n"
+def rounds(told, name, way):
+    """The lines of the rounds in which the plan stands, by group."""
+    found = {}
+    for each in held.rounds_in(told)[f"{name} {way}"]:
+        if each["round"] >= BEFORE:
+            found.setdefault(each["path"], []).append(each)
+    return found
 
 
-def test_page_has_the_tables_of_the_runs():
-    """docs/HOLD.md has both tables, and says how many runs there are."""
-    found = held_page.read([str(held_page.RUNS)])
-    text = (ROOT / "docs/HOLD.md").read_text(encoding="utf-8")
-    assert "\n".join(held_page.of_page(found)) in text
-    assert f"{len(found)} runs" in text
+def written(told, name, way):
+    """What each group's cpu.max held at the end: quota, and period."""
+    at = told.index(f"run {name} {way}")
+    lines = itertools.takewhile(lambda line: not line.startswith("run "), told[at + 1:])
+    return {words[1]: tuple(words[2:]) for words in map(str.split, lines) if words[0] == "max"}
 
 
-def test_rounds_of_the_runs_are_by_the_rule(library):
-    """The library gives the plan and the limits of each round that the runs have."""
-    calls, count = Library(library), 0
-    for run in held_page.read([str(held_page.RUNS)]):
-        found = scenario.read(__main__.SCENARIOS / f"{run['scenario']}.script")
-        for _, each in itertools.groupby(run["rounds"], key=lambda line: line["round"]):
-            lines = list(each)
-            wanted = held_rule.by_the_rule(calls, found, held.WAYS[run["way"]], lines)
-            for line in lines:
-                assert wanted[line["path"]] == (line["plan"], line["limit"]), (run["key"], line)
-            count += 1
-    assert count > 1000
+def test_kernel_takes_all_limits(told):
+    """No writing is refused."""
+    assert [line for line in told if line.startswith("refused")] == []
 
 
-def kernel_of_guests():
-    """An unpacked kernel; a skip where something is missing."""
-    lacks = packages.missing() or ("" if packages.unpacked() else "no kernel is unpacked:"
-                                   " ./test --kernel one-weights gets one")
-    lacks = lacks or ("" if held.LIBRARY.joinpath("libarbiter.a").exists() else
-                      f"no {held.LIBRARY}/libarbiter.a: ./build --install makes it")
-    if lacks:
-        pytest.skip(lacks)
-    return packages.kernel(packages.unpacked()[0])
+@pytest.mark.parametrize("name", HOSTS)
+def test_loop_in_a_guest(told, name):
+    """Whoever wants more is hungry and stopped at the limit, and nobody else is. Groups get more in
+    the order of their plans. How near they come is for bench/kernel to measure."""
+    found = rounds(told, name, "loop")
+    assert all(len(lines) >= 3 for lines in found.values())
+    for path, lines in found.items():
+        assert {each["hungry"] for each in lines} == {path in HUNGRY[name]}
+        for each in lines:
+            assert each["plan"] <= each["limit"] and each["used"] <= each["limit"] + 1, each
+    used = {path: sum(each["used"] for each in lines) for path, lines in found.items()}
+    for order in ORDERS[name]:
+        assert sorted(order, key=used.get) == list(order), used
 
 
-@pytest.fixture(scope="module", name="loops")
-def loops_in_a_guest(program):
-    """Three seconds of two scenarios in the loop, and in one that writes nothing."""
-    kernel = kernel_of_guests()
-    planned.use(program.path)
-    options = held.arguments(["one-tasks", "--seconds", "3"])
-    found = [scenario.read(__main__.SCENARIOS / f"{name}.script")
-             for name in ("one-tasks", "one-demands")]
-    jobs = [held.Job(each, held.WAYS[way], 0, held.span_of(held.WAYS[way], options, 0))
-            for each in found for way in ("loop", "watched")]
-    return {run["key"].split()[0] + " " + run["way"]: run
-            for run in held.ran(kernel, jobs, SETTING)}
-
-
-@pytest.mark.parametrize("name", ["one-tasks", "one-demands"])
-def test_loop_in_a_guest(loops, name):
-    """On one processor Linux serves what fits: all of the plan but 1 %, each group within 1.5."""
-    run = loops[f"{name} loop"]
-    assert run["refusal"] == "" and len({each["round"] for each in run["rounds"]}) >= 5
-    assert held_page.worst([run]) < 1.5
-    assert held_page.served([run]) > 0.985
-
-
-@pytest.mark.parametrize("name", ["one-tasks", "one-demands"])
-def test_rounds_in_a_guest(loops, name):
-    """Limits are never below a guarantee, and from the third round on they stop who wants more."""
-    run = loops[f"{name} loop"]
-    late = [each for each in run["rounds"] if each["round"] >= 3]
-    assert any(each["hungry"] for each in late)
-    assert all(each["limit"] >= each["plan"] for each in late)
-    for each in late:
-        assert each["used"] <= each["limit"] + 1, each
-    idle = loops[f"{name} watched"]
-    assert idle["rounds"] and not any(each["hungry"] and each["round"] > 90
-                                      for each in idle["rounds"])
+@pytest.mark.parametrize("name", HOSTS)
+def test_limits_that_stand(told, name):
+    """The last limits of the loop, 0 to 1/64 above the rule's; none where nothing is written."""
+    found, last = written(told, name, "loop"), rounds(told, name, "loop")
+    assert found.keys() == last.keys()
+    for path, (quota, period) in found.items():
+        least = 1000 * last[path][-1]["limit"]
+        assert least <= int(quota) <= least + least // 64 and period == "100000", path
+    assert set(written(told, name, "watched").values()) == {("max", "100000")}

@@ -1,4 +1,4 @@
-"""hunger.h, the rule of the loop in guests, beside awake.py, that of `arbiterctl hold`."""
+"""hunger.h, the rule of the loop in guests, beside hunger.py, that of `arbiterctl hold`."""
 import ctypes
 import random
 import shutil
@@ -6,7 +6,7 @@ from pathlib import Path
 
 import pytest
 
-from arbiter_host import awake
+from arbiter_host import hunger
 from kernel import packages
 
 ROUNDS = 20000
@@ -63,16 +63,16 @@ def drawn(numbers):
     for number in range(1, numbers.randint(1, 5)):
         waited = near(numbers, passed // numbers.choice((100, 40, 20, 3)))
         ran = max(0, passed - waited - near(numbers, min(waited, passed // 20)))
-        start = awake.Task(numbers.randint(0, 5) * SECOND, numbers.randint(0, 5) * SECOND)
-        now[number] = awake.Task(start.ran + ran, start.waited + waited)
+        start = hunger.Task(numbers.randint(0, 5) * SECOND, numbers.randint(0, 5) * SECOND)
+        now[number] = hunger.Task(start.ran + ran, start.waited + waited)
         if numbers.random() < 0.8:
             before[number] = start
         if numbers.random() < 0.1:
-            now[number] = awake.Task(ran, start.waited)
-    ran = sum(each.ran for each in awake.rises(before, now))
+            now[number] = hunger.Task(ran, start.waited)
+    ran = sum(each.ran for each in hunger.rises(before, now))
     used = near(numbers, ran * numbers.choice((20, 38, 19)) // 19 // 1000)
     waited = near(numbers, passed // numbers.choice((100, 2, 1)) // 1000)
-    return before, now, awake.Round(passed, used, waited, numbers.random() < 0.2)
+    return before, now, hunger.Round(passed, used, waited, numbers.random() < 0.2)
 
 
 def test_both_rules_are_one(answer):
@@ -80,7 +80,7 @@ def test_both_rules_are_one(answer):
     numbers, seen = random.Random(70), set()
     for _ in range(ROUNDS):
         before, now, found = drawn(numbers)
-        rule = (awake.is_hungry(before, now, found), awake.most_wanted(before, now, found))
+        rule = (hunger.is_hungry(before, now, found), hunger.most_wanted(before, now, found))
         assert by_header(answer, before, now, found) == rule, (before, now, found)
         seen.add((rule[0], rule[1] is None, found.is_throttled))
     assert len(seen) == 6

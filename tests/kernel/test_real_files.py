@@ -1,12 +1,12 @@
 """The real files in a guest: texts that are written, what they show, import, apply and undo.
 
-Skipped where the packages or a kernel are not there; apply and undo also without KVM.
+Apply and undo are skipped without KVM.
 """
 import os
 
 import pytest
 
-from kernel import machine, packages, planned, real_apply, real_files
+from kernel import machine, planned, real_apply, real_files
 from kernel.scenario import parse
 
 SETTING = machine.Setting(shift=5, seconds=1800)
@@ -15,30 +15,20 @@ ONLY_HERE = {("cpu.max", f"{real_files.GREATEST + 1} 100000"),
              ("cpu.max", "1000000000000000 1000000")}
 
 
-def kernel_of_guests():
-    """An unpacked kernel; a skip where the packages or all kernels are missing."""
-    lacks = packages.missing() or ("" if packages.unpacked() else "no kernel is unpacked:"
-                                   " ./test --kernel one-weights gets one")
-    if lacks:
-        pytest.skip(lacks)
-    return packages.kernel(packages.unpacked()[0])
-
-
 @pytest.fixture(scope="module", name="found")
-def found_in_a_guest(program):
+def found_in_a_guest(program, guests_kernel):
     """What the real files of a guest showed."""
-    kernel = kernel_of_guests()
     planned.use(program.path)
-    return real_files.shown_by(kernel, SETTING)
+    return real_files.shown_by(guests_kernel, SETTING)
 
 
 @pytest.fixture(scope="module", name="phases")
-def phases_in_a_guest():
+def phases_in_a_guest(guests_kernel):
     """What `apply` and `undo` did to the real files of a guest."""
     if not machine.is_quick() and machine.ALL not in os.environ:
         pytest.skip("no KVM that boots a guest, so it takes minutes: ./test --kernel --files")
     setting = machine.Setting(is_kvm=True, seconds=900) if machine.is_quick() else SETTING
-    return real_apply.shown_by(kernel_of_guests(), setting)
+    return real_apply.shown_by(guests_kernel, setting)
 
 
 def test_kernel_takes_what_the_program_takes(found):

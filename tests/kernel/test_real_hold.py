@@ -1,14 +1,14 @@
 """`arbiterctl hold` in a guest: what it writes, a kill, `undo`, and groups that come and go. And
 what `audit` says.
 
-Skipped where the packages, a kernel or the library are not there; also without KVM.
+Skipped without the library, or without KVM.
 """
 import json
 import os
 
 import pytest
 
-from kernel import interpreter, machine, packages, real_hold
+from kernel import interpreter, machine, real_hold
 from kernel.real_files import effective
 from kernel.scenario import parse
 
@@ -18,18 +18,14 @@ KILLED = -9
 
 
 @pytest.fixture(scope="module", name="phases")
-def phases_in_a_guest():
+def phases_in_a_guest(guests_kernel):
     """What `hold` and `undo` did to the real files of a guest."""
-    lacks = packages.missing() or ("" if packages.unpacked() else "no kernel is unpacked:"
-                                   " ./test --kernel one-weights gets one")
-    if not lacks and not interpreter.LIBRARY.exists():
-        lacks = f"no {interpreter.LIBRARY}: ./build --install makes it"
-    if not lacks and not machine.is_quick() and machine.ALL not in os.environ:
-        lacks = "no KVM that boots a guest, so it takes minutes: ./test --kernel --files"
-    if lacks:
-        pytest.skip(lacks)
+    if not machine.is_quick() and machine.ALL not in os.environ:
+        pytest.skip("no KVM that boots a guest, so it takes minutes: ./test --kernel --files")
+    if not interpreter.LIBRARY.exists():
+        pytest.skip(f"no {interpreter.LIBRARY}: ./build --install makes it")
     setting = machine.Setting(is_kvm=True, seconds=900) if machine.is_quick() else SETTING
-    return real_hold.shown_by(packages.kernel(packages.unpacked()[0]), setting)
+    return real_hold.shown_by(guests_kernel, setting)
 
 
 def settings_of(phase):
@@ -81,7 +77,7 @@ def test_killed_loop_has_written(phases, name):
         own = OLD[path]
         assert limit == own[1] or limit.endswith(" 100000")
         assert weight == own[0] or name == "last"
-        assert burst in (own[2], "0") or name == "last"
+        assert burst in (own[2], "0")
     changed = {path for path in found if found[path] != OLD[path]}
     assert changed <= {*real_hold.GUARANTEES, *(["pod"] if name == "last" else [])}
 

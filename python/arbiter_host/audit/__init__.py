@@ -1,1 +1,1 @@
-"""The plan beside what groups used: readings, intervals, likely causes, and how they are told."""
+"""The plan beside what groups used: readings, intervals, likely causes, and how they are shown."""

@@ -1,7 +1,6 @@
 """The answer of an audit: a row for each group, the worst first, as text and as data."""
 from __future__ import annotations
 
-import json
 from collections.abc import Iterator, Sequence
 from dataclasses import dataclass
 from fractions import Fraction
@@ -12,13 +11,10 @@ from arbiter_host.audit.causes import Outlooks, cause_of
 from arbiter_host.audit.intervals import Audit, Cell, Interval, Off
 from arbiter_host.demands import mean
 from arbiter_host.model import Group
-from arbiter_host.names import parent_path, short, shown
+from arbiter_host.names import short, shown
 
 HEADS = ("used", "plan", "mean off", "of plan", "worst off", "of plan then", "intervals",
          "likely cause", "group")
-# What a file without names begins with.
-FORM = "arbiter_audit"
-MARK = f'{{"{FORM}"'
 # Thousandths of a CPU of a hundredth.
 HUNDREDTH = 10
 
@@ -54,7 +50,7 @@ class Row:
 
 
 @dataclass(frozen=True)
-class Told:
+class Ranked:
     """An audit with its rows, the worst first, and why placement is not known."""
 
     audit: Audit
@@ -67,7 +63,7 @@ def worst_of(cells: Sequence[Cell | None]) -> int:
     return -max((abs(cell.off), -place) for place, cell in enumerate(cells) if cell)[1]
 
 
-def told(audit: Audit) -> Told:
+def ranked(audit: Audit) -> Ranked:
     """The rows of all groups that were measured, by how far off they were at worst."""
     intervals = audit.intervals
     groups = {path: interval.model.groups[path] for interval in intervals
@@ -78,7 +74,7 @@ def told(audit: Audit) -> Told:
     outlooks = Outlooks(intervals)
     rows = [Row(path, groups[path], cells[path], worst[path],
                 cause_of(intervals, worst[path], path, outlooks)) for path in order]
-    return Told(audit, rows, list(outlooks.why_not))
+    return Ranked(audit, rows, list(outlooks.why_not))
 
 
 def cpus(thousandths: Fraction) -> str:
@@ -108,7 +104,7 @@ def length_words(intervals: Sequence[Interval]) -> str:
     return f"intervals: {len(intervals)}, each of {span} s"
 
 
-def head(found: Told) -> Iterator[str]:
+def head(found: Ranked) -> Iterator[str]:
     """The lines above the table."""
     intervals = found.audit.intervals
     yield text.host_words(found.audit.plan)
@@ -127,12 +123,12 @@ def cells_of(row: Row) -> list[str]:
             short(shown(row.path))]
 
 
-def busy(found: Told) -> list[Row]:
+def busy(found: Ranked) -> list[Row]:
     """The rows of groups that used something, or were planned something."""
     return [row for row in found.rows if row.average.used or row.average.planned]
 
 
-def foot(found: Told) -> Iterator[str]:
+def foot(found: Ranked) -> Iterator[str]:
     """The lines below the table."""
     idle = len(found.rows) - len(busy(found))
     if idle:
@@ -177,14 +173,14 @@ def row_data(row: Row, intervals: Sequence[Interval]) -> dict[str, Any]:
             "cause": row.cause, **cells_data(row.cells)}
 
 
-def host_data(found: Told) -> dict[str, int]:
+def host_data(found: Ranked) -> dict[str, int]:
     """The host of the plans."""
     host = found.audit.plan.model.host
     return {"processors": host.processors, "period_usec": host.period_us,
             "slice_usec": host.slice_us}
 
 
-def as_data(found: Told) -> dict[str, Any]:
+def as_data(found: Ranked) -> dict[str, Any]:
     """An audit as data."""
     audit = found.audit
     intervals = [{"from": each.name, "seconds": number(each.seconds),
@@ -193,59 +189,3 @@ def as_data(found: Told) -> dict[str, Any]:
             "intervals": intervals, "notes": audit.notes,
             "placement": {"not_known": found.why_not or None},
             "groups": [row_data(row, audit.intervals) for row in found.rows]}
-
-
-def tree_order(intervals: Sequence[Interval]) -> list[str]:
-    """All groups of all intervals, each right before those below it."""
-    below: dict[str, dict[str, None]] = {".": {}}
-    for interval in intervals:
-        for path in interval.model.groups:
-            below.setdefault(path, {})
-            below[parent_path(path)][path] = None
-    found, waiting = [], list(reversed(below["."]))
-    while waiting:
-        path = waiting.pop()
-        found.append(path)
-        waiting += reversed(below[path])
-    return found
-
-
-def settings_data(path: str, intervals: Sequence[Interval]) -> list[list[int | None]]:
-    """The settings of a group, each with the interval from which on they held: weight, quota,
-    period, burst."""
-    found: list[list[int | None]] = []
-    for place, interval in enumerate(intervals):
-        group = interval.model.groups.get(path)
-        if group is None:
-            continue
-        now = [group.weight, group.quota, group.period, group.burst]
-        if not found or found[-1][1:] != now:
-            found.append([place, *now])
-    return found
-
-
-def anonymous(found: Told) -> dict[str, Any]:
-    """An audit without a name or a date: groups are numbered, and times are those since the first.
-    """
-    intervals = found.audit.intervals
-    order = tree_order(intervals)
-    name = {path: f"g{number}" for number, path in enumerate(order, 1)}
-    rows = {row.path: row for row in found.rows}
-    groups = []
-    for path in order:
-        data = {"group": name[path], "above": name.get(parent_path(path)),
-                "settings": settings_data(path, intervals)}
-        groups.append(data | (cells_data(rows[path].cells) if path in rows else {}))
-    return {FORM: 1, **host_data(found),
-            "intervals": [{"at": number(each.at - intervals[0].at),
-                           "seconds": number(each.seconds),
-                           "unplanned_millicpu": number(each.unplanned)} for each in intervals],
-            "groups": groups}
-
-
-def anonymous_text(found: Told) -> str:
-    """The same as JSON, with a line for each group."""
-    *heads, (last, groups) = anonymous(found).items()
-    lines = [f"{json.dumps(key)}: {json.dumps(value)}," for key, value in heads]
-    rows = ",\n".join(map(json.dumps, groups))
-    return "{" + "\n".join([*lines, f"{json.dumps(last)}: [", rows]) + "\n]}\n"

@@ -2,22 +2,57 @@
 from __future__ import annotations
 
 import math
-from collections.abc import Callable, Sequence
+from collections.abc import Callable, Iterable, Sequence
 from dataclasses import dataclass, field
 from fractions import Fraction
-from typing import NamedTuple
 
-from arbiter_host import awake, demands, units
-from arbiter_host.audit.looks import Counted, Look
-from arbiter_host.demands import Measured, Reading, rise
+from arbiter import Host
+from arbiter_host import demands, units
 from arbiter_host.faults import HostFault
+from arbiter_host.looks import CAME, MICROSECONDS, Look, Span, between
 from arbiter_host.model import Group, Model
 from arbiter_host.names import shown
 from arbiter_host.plan import Engine, Plan, plan
 from arbiter_host.sources.usage import some
 
-CAME, FELL, STILL, AWAY = ("groups that came or went", "groups whose counters fell",
-                           "groups without a new sample", "groups while nothing was measured")
+AWAY = "groups while nothing was measured"
+# Groups times looks. A look at a group takes about a kilobyte.
+MOST_COUNTED = 400_000
+
+
+def fine(host: Host) -> Host:
+    """A host of as many CPUs, with a period of 1 s and slices of 1 ms where a plan can be so fine.
+
+    Use is in microseconds. A slice of 10m would hide what is below it.
+    """
+    return Host(host.processors, MICROSECONDS, 1000) if host.processors <= 64 else host
+
+
+def settings_of(model: Model) -> list[tuple[object, ...]]:
+    """What a plan depends on but demands."""
+    return [(path, each.weight, each.quota, each.period, each.burst)
+            for path, each in model.groups.items()]
+
+
+def collected(seen: Iterable[Look], count: int = 0) -> list[Look]:
+    """Looks as a list, of which so many are to come. Equal settings are kept once, and looks at
+    a tree are named by the seconds since the first."""
+    found: list[Look] = []
+    for each in seen:
+        if not each.model.groups:
+            raise HostFault("no groups with the cpu controller are below this folder")
+        if found and each.at <= found[-1].at:
+            raise HostFault("the clock went back between two looks: begin again")
+        if found and settings_of(found[-1].model) == settings_of(each.model):
+            notes = dict.fromkeys([*found[-1].model.notes, *each.model.notes])
+            each.model, each.model.notes = found[-1].model, list(notes)
+        found.append(each)
+        many = max(count, len(found))
+        if many * len(each.model.groups) > MOST_COUNTED:
+            raise HostFault(f"{many} looks at {len(each.model.groups)} groups are too many: take"
+                            " fewer readings, or a longer --step")
+        each.name = each.name or f"{units.decimal(each.at - found[0].at, 1)} s"
+    return found
 
 
 @dataclass(frozen=True)
@@ -67,30 +102,6 @@ class Interval:
     unplanned: Fraction | None
 
 
-class Span(NamedTuple):
-    """By how much the counters of a leaf rose in so many seconds, and what its tasks did."""
-
-    risen: Reading
-    seconds: Fraction
-    one: awake.Tasks
-    two: awake.Tasks
-
-    @property
-    def used(self) -> Fraction:
-        """What it used, in thousandths of a CPU."""
-        return units.thousandths_of_usage(self.risen.usage or 0, self.seconds)
-
-    @property
-    def waits(self) -> bool:
-        """Whether its tasks waited for as long as hungry ones do at least: a tenth of the time."""
-        return (self.risen.pressure or 0) * 10 >= self.seconds * 10**6
-
-    def measured(self, tasks: int | None) -> Measured:
-        """The same as two readings."""
-        first = Reading(*(None if each is None else 0 for each in self.risen))
-        return Measured([first, self.risen], tasks=tasks)
-
-
 @dataclass
 class Asking:
     """What is known of a leaf before the plan: its span and its demand."""
@@ -103,60 +114,18 @@ class Asking:
     def cell(self, planned: Fraction, want: str | None) -> Cell:
         """The cell of a leaf with its plan."""
         span, risen = self.span, self.span.risen
-        waited = want is None and not self.hungry and span.waits and not span.two
+        # (hungry ones waited for a tenth of the time at least)
+        waits = (risen.pressure or 0) * 10 >= span.seconds * MICROSECONDS
+        waited = want is None and not self.hungry and waits and not span.after
         return Cell(span.used, planned, self.demand, risen.periods or 0, risen.throttled or 0,
                     self.hungry, self.tasks, waited)
-
-
-def span_of(one: Counted, two: Counted, seconds: Fraction) -> Span | str:
-    """What was counted from one look to the next, or why that says nothing."""
-    if one.at is not None and two.at is not None:
-        seconds = two.at - one.at
-    if seconds <= 0:
-        return STILL
-    pairs = list(zip(one.reading, two.reading))
-    if any(before is not None and after is not None and after < before for before, after in pairs):
-        return FELL
-    return Span(Reading(*(rise(*pair) for pair in pairs)), seconds, one.tasks, two.tasks)
-
-
-def sum_of(spans: Sequence[Span]) -> Span:
-    """The spans of all series of a leaf as one. Each is taken to last as long as the first."""
-    if len(spans) == 1:
-        return spans[0]
-    seconds = spans[0].seconds
-    found = []
-    for key in Reading._fields:
-        values = [(getattr(each.risen, key), each.seconds) for each in spans]
-        known = [round(value * seconds / passed) for value, passed in values if value is not None]
-        found.append(sum(known) if known else None)
-    return Span(Reading(*found), seconds, {}, {})
-
-
-def between(one: Look, two: Look, path: str) -> Span | str:
-    """What was counted of a leaf from one look to the next, or why that says nothing."""
-    before, after = one.counted.get(path, {}), two.counted.get(path, {})
-    if before.keys() != after.keys():
-        return CAME
-    found = [span_of(before[key], after[key], two.at - one.at) for key in before]
-    reasons = [each for each in found if isinstance(each, str)]
-    return reasons[0] if reasons else sum_of([each for each in found if isinstance(each, Span)])
-
-
-def is_hungry(group: Group, span: Span) -> bool:
-    """Whether a leaf would have used more, as `hold` decides it: it was throttled, or a task of it
-    waited and hardly slept."""
-    risen = span.risen
-    found = awake.Round(int(span.seconds * 10**9), risen.usage or 0, risen.pressure or 0,
-                        group.quota is not None and bool(risen.throttled))
-    return awake.is_hungry(span.one, span.two, found)
 
 
 def asking_of(group: Group, span: Span, tasks: int | None, model: Model,
               want: str | None) -> Asking:
     """What a leaf wanted: what it used; of a hungry one that, raised by the time in which it
-    waited or was throttled, as `watch` does. Its tasks bound it. `want` is another rule for all."""
-    hungry, measured = is_hungry(group, span), span.measured(tasks)
+    waited or was throttled, as `top` does. Its tasks bound it. `want` is another rule for all."""
+    hungry, measured = span.is_hungry(group.quota is not None), span.measured(tasks)
     rule = want or ("psi" if hungry else "usage")
     demand = demands.wanted(rule, group, measured, model.host, span.seconds)
     if demand is None:
@@ -243,10 +212,10 @@ def told_holes(intervals: Sequence[Interval]) -> list[str]:
             for why, counts in reasons.items()]
 
 
-def notes_of(looks: Sequence[Look], intervals: Sequence[Interval]) -> list[str]:
+def notes_of(seen: Sequence[Look], intervals: Sequence[Interval]) -> list[str]:
     """What is told of all looks and intervals."""
     found = told_holes(intervals)
-    if all(each.reading.pressure is None for look in looks for of_path in look.counted.values()
+    if all(each.reading.pressure is None for look in seen for of_path in look.counted.values()
            for each in of_path.values()):
         found.append("pressure is not measured: a group that waited is taken to have had what it"
                      " wanted")
@@ -255,23 +224,23 @@ def notes_of(looks: Sequence[Look], intervals: Sequence[Interval]) -> list[str]:
     if waited:
         found.append("groups that waited, and may have wanted more than they used (--want psi),"
                      f" {some([shown(path) for path in waited])}")
-    changed = sum(one.model is not two.model for one, two in zip(looks, looks[1:]))
+    changed = sum(one.model is not two.model for one, two in zip(seen, seen[1:]))
     if changed:
         found.append(f"groups or settings changed in intervals: {changed}; those of their ends are"
                      " taken")
     return found
 
 
-def audited(engine: Engine, looks: Sequence[Look], want: str | None, away: set[int],
+def audited(engine: Engine, seen: Sequence[Look], want: str | None, away: set[int],
             tick: Callable[[], None]) -> Audit:
     """The plan beside what was used, from each look to the next. `away` has the places of looks
     before which nothing was measured."""
-    if len(looks) < 2:
-        raise HostFault("one look alone: an interval is from one to the next. Take a longer time,"
-                        " or a shorter --step or --interval")
+    if len(seen) < 2:
+        raise HostFault("one look alone: an interval is from one to the next. Take more readings,"
+                        " or a shorter --step")
     found = Audit()
-    for place in range(1, len(looks)):
-        one, two = looks[place - 1], looks[place]
+    for place in range(1, len(seen)):
+        one, two = seen[place - 1], seen[place]
         if two.at <= one.at:
             raise HostFault(f"the clock went back at {two.name}: ask for a range after that")
         interval, plan_ = interval_of(engine, one, two, want, place in away)
@@ -281,5 +250,5 @@ def audited(engine: Engine, looks: Sequence[Look], want: str | None, away: set[i
     if not any(cell.used for interval in found.intervals for cell in interval.cells.values()):
         raise HostFault("no usage: no counter of a group rises from one look to the next. Take"
                         " later copies, or a longer range")
-    found.notes += notes_of(looks, found.intervals)
+    found.notes += notes_of(seen, found.intervals)
     return found

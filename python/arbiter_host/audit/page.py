@@ -6,7 +6,7 @@ from typing import Any
 
 from arbiter_host import svg
 from arbiter_host.audit import answer, causes
-from arbiter_host.audit.answer import Row, Told
+from arbiter_host.audit.answer import Ranked, Row
 from arbiter_host.audit.intervals import Interval
 from arbiter_host.html import rendered
 from arbiter_host.names import cut, short, shown
@@ -65,7 +65,7 @@ def row_of(row: Row) -> dict[str, Any]:
             "is_bad": row.cause == causes.NOTHING}
 
 
-def page(found: Told, title: str) -> str:
+def page(found: Ranked, title: str) -> str:
     """The whole page."""
     intervals, rows = found.audit.intervals, answer.busy(found)
     drawn = [{"name": short(shown(row.path)), "cause": row.cause,

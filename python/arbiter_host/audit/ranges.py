@@ -3,15 +3,15 @@ from __future__ import annotations
 
 import math
 import re
-from collections.abc import Hashable, Iterator, Mapping, Sequence
+from collections.abc import Iterator, Mapping, Sequence
 from dataclasses import dataclass, field, replace
 from fractions import Fraction
 from typing import Any
 
 from arbiter_host import units
-from arbiter_host.audit.looks import Counted, Look, added
 from arbiter_host.demands import Reading
 from arbiter_host.faults import HostFault, UsageFault
+from arbiter_host.looks import Counted, Look
 from arbiter_host.model import Group, Model
 from arbiter_host.names import cut, shown
 from arbiter_host.sources import prometheus
@@ -43,20 +43,18 @@ Values = dict[int, float]
 
 
 @dataclass(frozen=True)
-class Asked:
-    """A server, the selector of its series, the range, and the label that names groups."""
+class Server:
+    """A server, the selector of its series, and the time that is asked of it."""
 
     url: str
     selector: str
-    start: str
-    end: str
-    step: str
-    label: str
+    range: prometheus.Range
 
     def check(self) -> None:
         """A fault where words of it are refused."""
         if not prometheus.is_address(self.url):
-            raise UsageFault(f"{shown(self.url)}: not http:// or https://")
+            raise UsageFault(f"--used {shown(self.url)}: audit reads a Prometheus: not http:// or"
+                             " https://")
         if self.selector and not SELECTOR.fullmatch(self.selector):
             raise UsageFault("--query: a selector of series, such as '{node=\"n1\"}'")
 
@@ -64,8 +62,7 @@ class Asked:
         """The values of each series of a metric in the range."""
         query = metric.replace(USAGE, USAGE + self.selector)
         query = query if USAGE in metric else metric + self.selector
-        step = float(self.step) if self.step.isdigit() else units.parse_time(self.step) / 10**6
-        return prometheus.of_range(self.url, query, prometheus.Range(self.start, self.end, step),
+        return prometheus.of_range(self.url, query, self.range,
                                    lambda answer: dict(self.parsed(answer)))
 
     def parsed(self, answer: Any) -> Iterator[tuple[Labels, Values]]:
@@ -95,7 +92,6 @@ class Places:
     """Finds the leaf that a series speaks of."""
 
     model: Model
-    label: str
     # The leaves by what measurements call them; a name of several has None.
     names: dict[str, str | None] = field(default_factory=dict)
     lasts: dict[str, str | None] = field(default_factory=dict)
@@ -119,7 +115,7 @@ class Places:
 
     def of(self, labels: Mapping[str, str]) -> str | None:
         """The path of a series: of its container, its folder, or a name; None where none is."""
-        container, named = labels.get("container"), labels.get(self.label, "")
+        container, named = labels.get("container"), labels.get("pod", "")
         if container:
             whole = "/".join(labels.get(key, "") for key in ("namespace", "pod", "container"))
             return self.names.get(whole) or self.names.get(named)
@@ -135,10 +131,10 @@ class Places:
                 or not labels.get("container") and "pod" in labels and "id" in labels)
 
 
-def title_of(labels: Mapping[str, str], label: str) -> str:
+def title_of(labels: Mapping[str, str]) -> str:
     """A series in words."""
     parts = [labels.get(key, "") for key in ("namespace", "pod", "container")]
-    word = "/".join(filter(None, parts)) or labels.get("id") or labels.get(label, "")
+    word = "/".join(filter(None, parts)) or labels.get("id")
     return shown(cut(word or "without a name", 60))
 
 
@@ -176,24 +172,24 @@ class Found:
         return found
 
 
-def fetched(asked: Asked, model: Model) -> tuple[Found, list[str]]:
+def fetched(server: Server, model: Model) -> tuple[Found, list[str]]:
     """All series, and what is told of those of no group."""
-    asked.check()
-    usage = asked.series(METRICS["usage"])
+    server.check()
+    usage = server.series(METRICS["usage"])
     if not any(usage.values()):
-        raise HostFault(f"{shown(asked.url)}: no {USAGE} from {shown(asked.start)} to"
-                        f" {shown(asked.end)}: ask for another range, or --query")
-    places, leaves, missing = Places(model, asked.label), {}, []
+        raise HostFault(f"{shown(server.url)}: no {USAGE} from {shown(server.range.start)} to"
+                        f" {shown(server.range.end)}: ask for another range, or --query")
+    places, leaves, missing = Places(model), {}, []
     for labels in usage:
         path = places.of(dict(labels))
         if path is not None and path not in places.inner:
             leaves[labels] = path
         elif path is None and not places.is_known(dict(labels)):
-            missing.append(title_of(dict(labels), asked.label))
+            missing.append(title_of(dict(labels)))
     if not leaves:
-        raise HostFault(f"{shown(asked.url)}: series of no group here, {some(sorted(missing))}:"
-                        " --label and --query name others")
-    series = {key: usage if key == "usage" else asked.series(metric)
+        raise HostFault(f"{shown(server.url)}: series of no group here, {some(sorted(missing))}:"
+                        " --query names others")
+    series = {key: usage if key == "usage" else server.series(metric)
               for key, metric in METRICS.items()}
     notes = [f"series of no group here, {some(sorted(missing))}"] if missing else []
     unseen = [shown(path) for path in places.leaves if path not in leaves.values()]
@@ -210,26 +206,24 @@ def with_limits(model: Model, limits: Mapping[str, tuple[int, int]]) -> Model:
     return replace(model, groups=groups)
 
 
-def looks(asked: Asked, model: Model) -> tuple[list[Look], list[str]]:
+def looks(server: Server, model: Model) -> tuple[list[Look], list[str]]:
     """The looks at the groups of a model, and what is told of the series."""
-    found, notes = fetched(asked, model)
+    found, notes = fetched(server, model)
     times = sorted({at for labels in found.leaves for at in found.series["usage"][labels]})
-    made: list[Look] = []
     models: dict[tuple[object, ...], Model] = {}
+    made = []
     for at in times:
-        counted: dict[str, dict[Hashable, Counted]] = {}
-        tasks: dict[str, int] = {}
+        limits = found.limits(at)
+        models.setdefault(tuple(sorted(limits.items())), with_limits(model, limits))
+        look = Look(Fraction(at, 1000), models[tuple(sorted(limits.items()))],
+                    name=time_name(str(at // 1000)))
         for labels, path in found.leaves.items():
             if found.value("usage", labels, at) is not None:
-                counted.setdefault(path, {})[labels] = found.counted(labels, at)
+                look.counted.setdefault(path, {})[labels] = found.counted(labels, at)
                 count = found.count("tasks", labels, at)
                 if count:
-                    tasks[path] = tasks.get(path, 0) + count
-        limits = found.limits(at)
-        key = tuple(sorted(limits.items()))
-        models.setdefault(key, with_limits(model, limits))
-        added(made, Look(time_name(str(at // 1000)), Fraction(at, 1000), models[key],
-                         counted, tasks))
+                    look.tasks[path] = look.tasks.get(path, 0) + count
+        made.append(look)
     return made, notes
 
 

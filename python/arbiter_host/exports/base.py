@@ -11,7 +11,7 @@ from arbiter_host.faults import HostFault
 from arbiter_host.model import Group, Model, check_settings
 from arbiter_host.names import shown
 from arbiter_host.safe_files import Root
-from arbiter_host.sources.pods import is_of_kubelet
+from arbiter_host.sources.pods import kubelets
 
 # What the first line of each file that is written holds.
 MARK = "Written by arbiterctl apply -o "
@@ -111,6 +111,6 @@ def head(form: str, comment: str = "#") -> str:
 def of_kubelet(draft: Draft) -> list[str]:
     """The groups that change and that kubelet writes again, in words."""
     paths = [each.path for each in draft.groups()
-             if is_of_kubelet(each.path) or is_of_kubelet(each.before.place)]
+             if kubelets(each.path) or kubelets(each.before.place)]
     return [f"{shown(path)}: kubelet owns this group, and writes its own settings again"
             " (-o kubectl changes what it writes)" for path in paths]

@@ -300,6 +300,9 @@ def scope_of(folder: str, container: Container, driver: str) -> str:
     return f"{folder}/{container.identifier}.scope"
 
 
-def is_of_kubelet(folder: str) -> bool:
-    """Whether kubelet writes the settings of a folder's group, by the names on its path."""
-    return any(KUBELET.fullmatch(part) for part in folder.split("/"))
+def kubelets(path: str) -> str:
+    """The part of a path down to a group that has a name as kubelet's, which writes the settings of
+    its groups itself; empty without one."""
+    parts = path.split("/")
+    return next(("/".join(parts[:place + 1]) for place, part in enumerate(parts)
+                 if KUBELET.fullmatch(part)), "")

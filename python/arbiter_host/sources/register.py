@@ -88,7 +88,7 @@ READERS = {
     "systemd": SourceKind(
         "systemd", lambda _, data: bool(UNITS.search(data)),
         "What `systemctl show '*.slice' '*.service' '*.scope'` prints.", is_here=True),
-    "cgroup": SourceKind("cgroup2", lambda _, __: False,
+    "cgroup": SourceKind("cgroups", lambda _, __: False,
                          "A tree of cgroup v2, such as /sys/fs/cgroup, or a copy of its files.",
                          is_here=True),
     "script": SourceKind(

@@ -11,7 +11,7 @@ import os
 from collections.abc import Callable, Sequence
 from fractions import Fraction
 
-from arbiter_host import demands, load, options as table, units
+from arbiter_host import demands, load, looks, options as table, units
 from arbiter_host.faults import HostFault, UsageFault
 from arbiter_host.names import shown
 from arbiter_host.owned import Owned
@@ -176,12 +176,8 @@ def measured_by(options: argparse.Namespace) -> Callable[[Measurable], Owned] | 
     def measured(source: Measurable) -> Owned:
         if not is_tree(options):
             return source.with_usage(entries(options), name(options))
-        # (what reads pods alone reads no tree)
-        from arbiter_host.sources import beside
-        first, *later = words_of(options)
-        wish = load.readings_of(argparse.Namespace(**{**vars(options), "later": later}),
-                                options.want or "usage")
-        return source.with_readings(*beside.measured(first, source.folders(), wish))
+        return source.with_readings(*looks.measured_at(words_of(options), load.times_of(options),
+                                                       source.folders()))
 
     return measured
 

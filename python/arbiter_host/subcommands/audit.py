@@ -3,160 +3,116 @@ from __future__ import annotations
 
 import argparse
 import os
-import time
-from collections.abc import Callable, Sequence
-from fractions import Fraction
+from collections.abc import Callable
 
 from arbiter import Host
-from arbiter_host import load, progress, text, watch
-from arbiter_host.audit import answer, intervals, looks, ranges, written
-from arbiter_host.audit.answer import Told
+from arbiter_host import load, looks, options, progress, text
+from arbiter_host.audit import answer, intervals, ranges
+from arbiter_host.audit.answer import Ranked
 from arbiter_host.audit.causes import NOTHING
-from arbiter_host.audit.looks import Look
 from arbiter_host.faults import HostFault, UsageFault
-from arbiter_host.hold import HOST_TREE
+from arbiter_host.looks import Look, Times
 from arbiter_host.model import Model
 from arbiter_host.names import shown
-from arbiter_host.output import emit_json, emit_styled
-from arbiter_host.subcommands.base import (Subcommand, add_reading_options, found_engine,
-                                           source_name)
-
-LIVE_INTERVAL, STEP = "5s", "1m"
-# Options of sources that say nothing of what was used over time, with their defaults.
-OTHERS = {"own": False, "scale": [], "usage": None, "cgroup": None, "samples": 2}
+from arbiter_host.output import json_text, write_forms
+from arbiter_host.sources import prometheus, used
+from arbiter_host.subcommands.base import Subcommand, found_engine, source_name
 
 
-def host_of(options: argparse.Namespace) -> Callable[[Host], Host]:
+def host_of(asked: argparse.Namespace) -> Callable[[Host], Host]:
     """What makes the host of the plans: as fine as can be, unless an option names it."""
-    is_named = options.period is not None or options.slice is not None
-    return (lambda host: host) if is_named else looks.fine
+    is_named = asked.period is not None or asked.slice is not None
+    return (lambda host: host) if is_named else intervals.fine
 
 
-def of_range(options: argparse.Namespace) -> tuple[list[Look], list[str], set[int]]:
+def of_range(asked: argparse.Namespace) -> tuple[list[Look], list[str], set[int]]:
     """The looks of a range of Prometheus, what is told of them, and those after a gap."""
-    if options.time is not None or not options.start or not options.end or not options.source:
-        raise UsageFault("--prometheus takes SOURCE, --start and --end, and no --for")
-    asked = ranges.Asked(options.prometheus, options.query or "", options.start, options.end,
-                         options.step or STEP, options.label)
-    asked.check()
-    model = load.load(options, options.source, found_engine(options))
-    load.warn(model, source_name(options.source))
-    model = model.with_host(host_of(options)(model.host))
-    found, notes = ranges.looks(asked, model)
-    return found, notes, ranges.gaps(found)
+    if not asked.source:
+        raise UsageFault("--used: it belongs to a SOURCE whose groups were measured")
+    server = ranges.Server(asked.used[0], asked.query or "",
+                           prometheus.range_of(asked.range, asked.step))
+    server.check()
+    files = load.opened(asked, asked.source)
+    kind = asked.kind or load.kind_of(*files[0])
+    model = load.model_of(used.without(asked, kind), files, found_engine(asked))
+    load.warn(model, source_name(asked.source))
+    model = model.with_host(host_of(asked)(model.host))
+    found, notes = ranges.looks(server, model)
+    return intervals.collected(found), notes, ranges.gaps(found)
 
 
-def of_trees(options: argparse.Namespace) -> list[Look]:
+def times_of(asked: argparse.Namespace, is_live: bool) -> Times:
+    """How often a tree is read, or how long after one copy the next was made."""
+    if asked.read is None:
+        raise UsageFault("--read: how often and how long this tree is read, such as --read 13x5s"
+                         if is_live else "--read: the time from one copy to the next, such as"
+                         " --read x10s")
+    times = looks.times_of(asked.read)
+    if is_live and (times.number or 0) < 2:
+        raise UsageFault("--read: an interval is from one reading to the next: 2 or more")
+    return times
+
+
+def of_trees(asked: argparse.Namespace) -> list[Look]:
     """The looks at copies of a tree, or at one tree again and again."""
-    folders = [*(options.source or [HOST_TREE]), *options.later]
+    folders = asked.source or [looks.HOST_TREE]
     for folder in folders:
         if not os.path.exists(folder):
             raise HostFault(f"{shown(folder)}: No such file or directory")
         if not os.path.isdir(folder):
-            raise UsageFault(f"{shown(folder)}: no folder: a source that is no tree takes"
-                             " --prometheus")
-    host = host_of(options)(load.machine(options))
-    if options.time is not None:
-        if len(folders) > 1:
-            raise UsageFault("--for reads one tree again and again: name one")
-        times = watch.Times(load.interval_of(options.interval),
-                            Fraction(load.time_option(options.time, "--for"), 10**6))
-        return looks.live(folders[0], host, options.depth_read, times, time.monotonic, time.sleep)
-    if len(folders) < 2:
-        raise UsageFault("one copy alone: name two or more in the order in which they were made, or"
-                         " read this tree by --for 60s")
-    if not options.has_interval:
-        raise UsageFault("--interval: the time from one copy to the next, such as --interval 10s")
-    return looks.of_copies(folders, host, options.depth_read, load.interval_of(options.interval))
+            raise UsageFault(f"{shown(folder)}: no folder: a source that is no tree takes --used")
+    options.check(asked, "cgroup")
+    times = times_of(asked, len(folders) == 1)
+    seen = looks.looks_at(folders, host_of(asked)(load.machine(asked)), times, has_threads=True)
+    return intervals.collected(seen, times.number or 0 if len(folders) == 1 else len(folders))
 
 
-def audited(options: argparse.Namespace) -> Told:
-    """The audit that the options ask for, after its notes were told."""
-    for key, default in OTHERS.items():
-        if getattr(options, key) != default:
-            raise UsageFault(f"--{key}: audit takes what was measured over time alone")
-    options.has_interval = options.interval is not None
-    options.interval = options.interval or LIVE_INTERVAL
-    load.check_options(options)
-    by, notes, away = found_engine(options), list[str](), set[int]()
-    if options.prometheus:
-        found, notes, away = of_range(options)
+def audited(asked: argparse.Namespace) -> Ranked:
+    """The audit that the options ask for."""
+    by, away = found_engine(asked), set[int]()
+    if asked.used:
+        seen, notes, away = of_range(asked)
     else:
-        found = of_trees(options)
-    with progress.bar("intervals", len(found) - 1) as tick:
-        audit = intervals.audited(by, found, options.want, away, tick)
-    told = dict.fromkeys([*notes, *(note for each in found for note in each.notes)])
-    audit.notes = [*told, *audit.notes]
-    return answer.told(audit)
+        seen = of_trees(asked)
+        notes = [note for each in seen for note in each.model.notes]
+    with progress.bar("intervals", len(seen) - 1) as tick:
+        audit = intervals.audited(by, seen, asked.want, away, tick)
+    audit.notes = list(dict.fromkeys([*notes, *audit.notes]))
+    return answer.ranked(audit)
 
 
-def documents(options: argparse.Namespace, found: Told) -> list[written.Document]:
-    """The files that the options ask for."""
-    made = []
-    if options.html:
-        from arbiter_host.audit import page
-        title = f"Audit of {source_name(options.source or [HOST_TREE])}"
-        made.append(written.Document(options.html, page.page(found, title), page.MARK))
-    if options.anonymous:
-        text = answer.anonymous_text(found)
-        made.append(written.Document(options.anonymous, text, answer.MARK))
-    return made
-
-
-def lines_of(found: Told) -> list[tuple[str, str]]:
+def lines_of(found: Ranked) -> list[tuple[str, str]]:
     """The lines of an audit. What is not explained is red."""
     rows = answer.busy(found)
     table = [list(answer.HEADS), *(answer.cells_of(row) for row in rows)]
     styles = ["bold", *("red" if row.cause == NOTHING else "" for row in rows)]
-    return [*((line, "") for line in answer.head(found)), ("", ""),
-            *zip(text.table(table, (len(table[0]) - 1,)), styles),
+    lines = text.table(table, [len(answer.HEADS) - 1])
+    return [*((line, "") for line in answer.head(found)), ("", ""), *zip(lines, styles),
             *((line, "") for line in answer.foot(found))]
 
 
-def warn(notes: Sequence[str], source: str) -> None:
-    """Tells what could not be measured."""
-    load.warn(Model(notes=list(notes)), source)
+def page_of(found: Ranked, title: str) -> str:
+    """The same as a page."""
+    from arbiter_host.audit import page
+    return page.page(found, title)
 
 
-def run(options: argparse.Namespace) -> None:
+def run(asked: argparse.Namespace) -> None:
     """Measures how far off the plan is, and writes the answers."""
-    found = audited(options)
-    files = documents(options, found)
-    warn(found.audit.notes, source_name(options.source or [HOST_TREE]))
-    written.put(files)
-    if options.json:
-        emit_json(answer.as_data(found))
-    else:
-        emit_styled(lines_of(found))
+    outputs, name = options.outputs(asked), source_name(asked.source or [looks.HOST_TREE])
+    found = audited(asked)
+    load.warn(Model(notes=found.audit.notes), name)
+    write_forms(outputs, {"text": lambda: lines_of(found),
+                          "json": lambda: json_text(answer.as_data(found)),
+                          "html": lambda: page_of(found, f"Audit of {name}")})
 
 
 def add_words(parser: argparse.ArgumentParser) -> None:
     """The words of `audit`."""
-    parser.add_argument("source", nargs="*", metavar="SOURCE", help="copies of a tree of cgroups in"
-                        " the order in which they were made; with --for one tree, which is read"
-                        f" again and again (default {HOST_TREE}); with --prometheus a source as of"
-                        " explain")
-    parser.add_argument("--for", dest="time", metavar="TIME", help="read a tree for this time, such"
-                        " as 60s")
-    parser.add_argument("--json", action="store_true", help="print the same as JSON, with each"
-                        " interval")
-    parser.add_argument("--html", metavar="FILE", help="write one HTML page too, with plan and use"
-                        " over time")
-    parser.add_argument("--anonymous", metavar="FILE", help="write the numbers without a name of a"
-                        " group, a host or a date, to be sent to somebody")
-    add_prometheus_options(parser)
-    add_reading_options(parser)
-    parser.set_defaults(interval=None)
-
-
-def add_prometheus_options(parser: argparse.ArgumentParser) -> None:
-    """The options that name a query of Prometheus."""
-    group = parser.add_argument_group("prometheus")
-    group.add_argument("--prometheus", metavar="URL", help="ask this server for the demands")
-    for name, words in (("query", "the query"), ("start", "its start: epoch or RFC 3339"),
-                        ("end", "its end"), ("step", "its step, such as 5m")):
-        group.add_argument(f"--{name}", metavar=name.upper(), help=words)
-    group.add_argument("--label", default="pod", help="the label that names groups (default pod)")
+    parser.add_argument("source", nargs="*", metavar="SOURCE", help="a tree of cgroups, which is"
+                        f" read again and again (default {looks.HOST_TREE}), or copies of one in"
+                        " the order in which they were made; with --used a source as of explain")
+    options.add(parser, "audit")
 
 
 DETAILS = (
@@ -175,23 +131,18 @@ DETAILS = (
     " after. Else it is `not explained`.",
     "A group is left out of an interval in which it came or went, or its counters fell. So it is"
     " where there is no new sample. Both are told.",
-    "--prometheus reads the counters of cAdvisor: container_cpu_usage_seconds_total, and those of"
-    " throttled periods, pressure, threads and limits. --query is a selector of their series, such"
-    " as '{node=\"n1\"}'. They belong to a group by namespace, pod and container, by id, or by the"
-    " label of --label. --step is 1m without one.",
-    "A tree is read each 5 s unless --interval says else. Of copies --interval has to say how long"
-    " after one the next was made. To make one: `find . -name 'cpu.*' -exec cp --parents -t COPY"
-    " {} +` in /sys/fs/cgroup. With cgroup.threads in it placement is tried too.",
+    "--used reads the counters of cAdvisor: container_cpu_usage_seconds_total, and those of"
+    " throttled periods, pressure, threads and limits. They belong to a group by namespace, pod and"
+    " container, or by id.",
+    "To make a copy of a tree: `find . -name 'cpu.*' -exec cp --parents -t COPY {} +` in"
+    " /sys/fs/cgroup. With cgroup.threads in it placement is tried too.",
 )
 EXAMPLES = (
-    ("this machine for a minute", "arbiterctl audit --for 60s"),
-    ("two copies of its tree, as a page too", "arbiterctl audit copy-1 copy-2 --interval 10s"
-     " --html audit.html"),
-    ("a node, from Prometheus", "arbiterctl audit pods.json node.json --prometheus"
-     " http://127.0.0.1:9090 --query '{node=\"n1\"}' --start 2026-01-05T10:00:00Z --end"
-     " 2026-01-05T11:00:00Z"),
-    ("numbers without names, for a report", "arbiterctl audit /sys/fs/cgroup --for 60s --anonymous"
-     " audit.json"),
+    ("this machine for a minute", "arbiterctl audit --read 13x5s"),
+    ("two copies of its tree, as a page", "arbiterctl audit copy-1 copy-2 --read x10s"
+     " -o html=audit.html"),
+    ("a node, from Prometheus", "arbiterctl audit pods.json node.json --used http://127.0.0.1:9090"
+     " --query '{node=\"n1\"}' --range 2026-01-05T10:00:00Z/2026-01-05T11:00:00Z"),
 )
 AUDIT = Subcommand("audit",
                    "Measures how far off the plan is: sets it beside what each group used, interval"

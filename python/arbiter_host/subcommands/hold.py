@@ -9,13 +9,17 @@ import time
 from collections.abc import Iterator
 from contextlib import ExitStack, contextmanager
 from dataclasses import replace
+from typing import TYPE_CHECKING
 
 from arbiter import Host
-from arbiter_host import gauges, hold, load, output, record, safe_files
+from arbiter_host import hold, load, looks, options, output, record, safe_files
 from arbiter_host.faults import HostFault, UsageFault
 from arbiter_host.model import MAX_CAPACITY, MAX_DEPTH
 from arbiter_host.notify import Notifier
 from arbiter_host.subcommands.base import Subcommand, found_engine
+
+if TYPE_CHECKING:
+    from arbiter_host.metrics import File
 
 SIGNALS = (signal.SIGTERM, signal.SIGINT, signal.SIGHUP)
 PERIOD, SLICE = 1000000, 1000
@@ -78,17 +82,17 @@ class Waits:
                 return False
 
 
-class Tells:
-    """Tells rounds: as lines of JSON, in the file of --openmetrics, and to systemd."""
+class Rounds:
+    """Where rounds are shown: as lines of JSON, in a file of metrics, and to systemd."""
 
-    def __init__(self, host: Host, notifier: Notifier, file: gauges.File | None,
+    def __init__(self, host: Host, notifier: Notifier, file: File | None,
                  signals: Signals) -> None:
         self.host, self.notifier, self.file, self.signals = host, notifier, file, signals
-        self.has_failed = False
+        self.warn = output.Remarks().tell
 
     def __call__(self, line: hold.Line) -> None:
-        """Tells a round. A file that cannot be written ends no loop. A signal ends the telling, for
-        who reads the lines may have stopped."""
+        """Shows a round. A file that cannot be written ends no loop. A signal ends the printing,
+        for who reads the lines may have stopped."""
         try:
             with self.signals.let_in():
                 output.emit(json.dumps(line) + "\n")
@@ -98,57 +102,48 @@ class Tells:
             raise
         self.notifier.send("WATCHDOG=1", f"STATUS=round {line['round']}: {len(line['groups'])}"
                            f" groups, {line['unserved']} slices unserved")
-        if self.file is None:
-            return
-        try:
-            self.file.put(gauges.text(line, self.host))
-        except HostFault as fault:
-            if not self.has_failed:
-                output.warn(fault.message)
-            self.has_failed = True
+        if self.file is not None:
+            from arbiter_host import metrics
+            try:
+                self.file.put(metrics.Held(line, self.host))
+            except HostFault as fault:
+                self.warn([fault.message])
 
 
-def times_of(options: argparse.Namespace, period: int) -> hold.Times:
-    """The times that the options ask for."""
-    interval = int(load.interval_of(options.interval) * 10**9)
+def times_of(asked: argparse.Namespace, period: int) -> looks.Times:
+    """How long a round is, and how many readings there are."""
+    times = looks.times_of(asked.read)
     if period not in PERIODS:
         raise UsageFault("--period: 100ms or 1s")
-    if interval < period * 1000:
-        raise UsageFault("--interval: at least the period")
-    whole = None if options.time is None else load.time_option(options.time, "--for") * 1000
-    return hold.Times(interval, whole, options.once)
+    if times.interval * looks.MICROSECONDS < period:
+        raise UsageFault("--read: a round lasts at least the period")
+    if times.number == 1:
+        raise UsageFault("--read: a round is from one reading to the next: 2 or more")
+    return times
 
 
-def locked(root: safe_files.Root, options: argparse.Namespace, stack: ExitStack) -> record.Record:
+def locked(root: safe_files.Root, asked: argparse.Namespace, stack: ExitStack) -> record.Record:
     """The undo file, after no second loop was found."""
-    undo = options.undo
+    undo = asked.undo or f"{record.FOLDER}/hold-undo.json"
     where = record.FOLDER if is_real(root) else os.path.dirname(os.path.abspath(undo))
-    for descriptor in record.lock(where, os.path.realpath(options.source)):
+    for descriptor in record.lock(where, os.path.realpath(asked.source)):
         stack.callback(os.close, descriptor)
-    found = record.Record(undo)
-    stack.callback(found.close)
-    return found
+    kept = record.Record(undo)
+    stack.callback(kept.close)
+    return kept
 
 
-def depth_of(options: argparse.Namespace) -> int:
-    """The depth that the options ask for."""
-    depth: int = options.depth_read
-    if not 1 <= depth <= MAX_DEPTH:
-        raise UsageFault(f"--depth-read: 1 to {MAX_DEPTH}")
-    return depth
-
-
-def machine(options: argparse.Namespace, root: safe_files.Root) -> Host:
+def machine(asked: argparse.Namespace, root: safe_files.Root) -> Host:
     """The host. That of a real tree has no more CPUs than this machine.
 
     Without --slice a host that has too many slices of 1 ms for the planner has slices of 10 ms.
     """
     there = os.cpu_count()
-    period = PERIOD if options.period is None else load.time_option(options.period, "--period")
-    told = Host(there or 1, PERIOD, SLICE)
-    if (options.cpus or told.processors) * period > MAX_CAPACITY * SLICE:
-        told = replace(told, slice_us=10 * SLICE)
-    host = load.chosen_host(options, told)
+    period = PERIOD if asked.period is None else load.time_option(asked.period, "--period")
+    fine = Host(there or 1, PERIOD, SLICE)
+    if (asked.cpus or fine.processors) * period > MAX_CAPACITY * SLICE:
+        fine = replace(fine, slice_us=10 * SLICE)
+    host = load.chosen_host(asked, fine)
     if is_real(root) and there is not None and host.processors > there:
         raise UsageFault(f"--cpus {host.processors}: this machine has {there}")
     return host
@@ -163,34 +158,42 @@ def is_real(root: safe_files.Root) -> bool:
             return None
 
     there = device(root.path)
-    return (f"{root.path}/".startswith(f"{hold.HOST_TREE}/")
-            or there is not None and there == device(hold.HOST_TREE))
+    return (f"{root.path}/".startswith(f"{looks.HOST_TREE}/")
+            or there is not None and there == device(looks.HOST_TREE))
 
 
-def metrics(options: argparse.Namespace, stack: ExitStack) -> gauges.File | None:
-    """The file of --openmetrics, which is removed at the end."""
-    if options.openmetrics is None:
+def metrics_file(asked: argparse.Namespace, stack: ExitStack) -> File | None:
+    """The file of metrics, which is removed at the end."""
+    path = ""
+    for form, given in options.outputs(asked):
+        if (form == "json") != (given == "-"):
+            raise UsageFault("-o: rounds are printed as json, and -o openmetrics=FILE keeps the"
+                             " last one")
+        path = path if form == "json" else given
+    if not path:
         return None
-    found = gauges.File(options.openmetrics)
-    stack.callback(found.close)
-    stack.callback(found.remove)
-    return found
+    from arbiter_host import metrics
+    file = metrics.File(path)
+    stack.callback(file.remove)
+    return file
 
 
-def run(options: argparse.Namespace) -> None:
-    """Holds the plan on a tree until an end, a signal, or two failed readings."""
-    root = safe_files.Root(options.root)
-    host = machine(options, root)
-    times, engine = times_of(options, host.period_us), found_engine(options)
-    ways = hold.Ways(options.force, options.weights, options.burst, depth_of(options))
-    notifier = Notifier()
+def run(asked: argparse.Namespace) -> None:
+    """Holds the plan on a tree until an end, a signal, or two failed readings; without --yes it
+    only shows the rounds."""
+    if not 1 <= asked.depth <= MAX_DEPTH:
+        raise UsageFault(f"--depth: 1 to {MAX_DEPTH}")
+    root = safe_files.Root(asked.root)
+    host = machine(asked, root)
+    times, engine = times_of(asked, host.period_us), found_engine(asked)
+    ways, notifier = hold.Ways(asked.force, asked.weights, asked.depth), Notifier()
     with ExitStack() as stack:
-        kept = None if options.dry_run else locked(root, options, stack)
+        kept = locked(root, asked, stack) if asked.yes else None
         stack.callback(root.close)
-        file, signals = metrics(options, stack), Signals()
+        file, signals = metrics_file(asked, stack), Signals()
         stack.enter_context(signals.blocked())
-        loop = hold.Loop(engine, root, options.source, host, kept, ways)
-        hold.run(loop, times, Waits(notifier, signals), Tells(host, notifier, file, signals),
+        loop = hold.Loop(engine, root, asked.source, host, kept, ways)
+        hold.run(loop, times, Waits(notifier, signals), Rounds(host, notifier, file, signals),
                  lambda: notifier.send("READY=1"))
 
 
@@ -198,29 +201,7 @@ def add_words(parser: argparse.ArgumentParser) -> None:
     """The words of `hold`."""
     parser.add_argument("source", metavar="DIR", help="the tree, or a part of it, whose groups"
                         " share the CPUs")
-    parser.add_argument("--root", default=hold.HOST_TREE, metavar="DIR",
-                        help=f"the top of the tree (default {hold.HOST_TREE}); nothing outside it"
-                        " is opened for writing")
-    parser.add_argument("--interval", metavar="TIME", default="1s",
-                        help="time of a round, at least the period (default 1s)")
-    parser.add_argument("--for", dest="time", metavar="TIME", help="end after this time")
-    parser.add_argument("--once", action="store_true",
-                        help="one round: its limits stand for an interval")
-    parser.add_argument("--dry-run", action="store_true", help="print the rounds, change no group")
-    parser.add_argument("--undo", metavar="FILE", default=f"{record.FOLDER}/hold-undo.json",
-                        help="the undo file, which must be new, in a folder that only this user"
-                        f" may change (default {record.FOLDER}/hold-undo.json)")
-    parser.add_argument("--weights", action="store_true", help="also write weights from the limits,"
-                        " which tell Linux how near each task is to a whole CPU")
-    parser.add_argument("--burst", action="store_true",
-                        help="give each limit a burst of a tenth of it")
-    parser.add_argument("--openmetrics", metavar="FILE", help="keep the last round in a file for a"
-                        " textfile collector, in a folder that only this user may change")
-    parser.add_argument("--depth-read", type=int, default=MAX_DEPTH, metavar="N",
-                        help="hold groups N below DIR as one, 1 to 64 (default 64): who owns the"
-                        " groups below can set their limits")
-    parser.add_argument("--force", action="store_true", help="also groups of kubelet (kubepods)")
-    load.add_host_options(parser, "period of the limits, 100ms or 1s (default 1s)")
+    options.add(parser, "hold")
 
 
 DETAILS = (
@@ -234,9 +215,10 @@ DETAILS = (
     " check accepts the plan. Then cpu.max is written, where it is not 0 to 1/64 above the limit."
     " With --period 100ms a group is stopped for a tenth of a second at most, and with few tasks in"
     " each group more is lost.",
-    "With --weights it writes cpu.weight too: 100 d / (1.01 - d) where the limit lets each task of"
-    " a group use the part d of a CPU. A group with children has the sum of theirs. The plan is"
-    " that of the operator's own weights. A weight that somebody sets meanwhile is such a one.",
+    "Without --yes nothing is written: each round is shown as it would be. With --weights it writes"
+    " cpu.weight too: 100 d / (1.01 - d) where the limit lets each task of a group use the part d"
+    " of a CPU. A group with children has the sum of theirs. The plan is that of the operator's own"
+    " weights. A weight that somebody sets meanwhile is such a one.",
     "What stood is in the undo file, synced, before a group is first written. It is put back at the"
     " end, at SIGTERM, SIGINT and SIGHUP (not under nohup), after two failed readings in a row and"
     " after a failed writing. Then the undo file is removed. A loop that was killed is undone by"
@@ -244,9 +226,9 @@ DETAILS = (
     " is a failed reading. A writing that fails in a group of another user ends no loop.",
     "Each round is a line of JSON: want, plan, used and limit of each group in slices, whether it"
     " is hungry, and what a hungry group lacked of the plan that stood (unserved). `missed` is the"
-    " number of rounds missed before it. --openmetrics has the same in CPUs. Groups that come are"
-    " held from their second reading on. Without --burst a burst is 0 while a limit below the"
-    " group's own stands. A limit below 1 ms is rounded up. A group whose limit somebody else sets"
+    " number of rounds missed before it. -o openmetrics=FILE has the same in CPUs. Groups that come"
+    " are held from their second reading on. A burst is 0 while a limit below the group's own"
+    " stands. A limit below 1 ms is rounded up. A group whose limit somebody else sets"
     " meanwhile is left alone from then on, and so is the group in which the loop runs. A burst"
     " that somebody sets is the group's own from then on.",
     "One loop runs on a host: it locks hold.lock in /run/arbiter, or beside the undo file if --root"
@@ -257,11 +239,11 @@ DETAILS = (
 )
 EXAMPLES = (
     ("one round of a part of the tree, nothing written",
-     "arbiterctl hold /sys/fs/cgroup/system.slice --once --dry-run"),
+     "arbiterctl hold /sys/fs/cgroup/system.slice --read 2x1s"),
     ("the same with weights, and limits of a tenth of a second",
-     "arbiterctl hold /sys/fs/cgroup/system.slice --once --dry-run --weights --period 100ms"),
+     "arbiterctl hold /sys/fs/cgroup/system.slice --read 2x1s --weights --period 100ms"),
 )
 HOLD = Subcommand("hold",
                   "Holds the plan on a host with cgroup v2: each round it reads what each group"
-                  " used, and writes limits for the next one. docs/HOLD.md says when it helps.",
-                  add_words, run, DETAILS, EXAMPLES)
+                  " used, and with --yes writes limits for the next one. docs/HOLD.md says when it"
+                  " helps.", add_words, run, DETAILS, EXAMPLES)

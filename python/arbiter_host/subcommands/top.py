@@ -2,56 +2,210 @@
 from __future__ import annotations
 
 import argparse
+import json
+import os
+import re
+import shlex
+import subprocess
 import sys
+import time
+from collections.abc import Callable, Sequence
+from typing import TYPE_CHECKING
 
-from arbiter_host import load, progress, top
-from arbiter_host.faults import UsageFault
-from arbiter_host.output import emit, emit_json
+from arbiter_host import choosing, live, load, looks, options, output, progress, top
+from arbiter_host.explain import View
+from arbiter_host.faults import Alerted, HostFault, UsageFault, strerror
+from arbiter_host.names import shown
 from arbiter_host.plan import Plan, plan
-from arbiter_host.subcommands.base import Subcommand, add_answer_options, found_engine, view_of
+from arbiter_host.subcommands.base import Subcommand, found_engine, view_of
+
+if TYPE_CHECKING:
+    from arbiter_host.metrics import Figured, File
+
+# Seconds that the command of an alert has.
+SECONDS = 60
+# A remark that is new in each round: the figures have it.
+THROTTLED = re.compile(r": throttled in [0-9]+ of [0-9]+ periods: ")
+MEASURED = ("throttled", "off")
 
 
-def run(options: argparse.Namespace) -> None:
-    """Shows a host and its plan again and again."""
-    view_of(options)
-    if options.count < 0:
-        raise UsageFault("--count: 0 or more")
-    count = 1 if options.once else options.count
-    by = found_engine(options)
+def reader(asked: argparse.Namespace,
+           wanted: Sequence[top.Condition]) -> tuple[Callable[[], top.Round], int]:
+    """What reads a round, and the readings that it takes before the first one."""
+    by, paths = found_engine(asked), asked.source or [looks.HOST_TREE]
+    if len(paths) == 1 and os.path.isdir(paths[0]) and asked.kind in (None, "cgroup"):
+        options.check(asked, "cgroup")
+        tree = looks.Tree(paths[0], load.machine(asked), time.monotonic)
+        return top.Watched(by, tree, asked.want or "psi").round, 1
+    if "-" in paths:
+        raise UsageFault("standard input is read once: top takes files or a folder")
+    measured = [each.words for each in wanted if each.key in MEASURED]
+    if measured:
+        raise UsageFault(f"--alert {shown(measured[0])}: trees of cgroups alone are measured")
+    return lambda: top.Round(plan(by, load.load(asked, paths, by))), 0
 
-    def read() -> Plan:
-        return plan(by, load.load(options, [options.source], by))
 
-    if options.json:
-        top.data(read, view_of(options), count, emit_json)
-    elif sys.stdout is not None and sys.stdout.isatty() and not options.once:
+def run_command(words: Sequence[str], raised: Sequence[top.Alert]) -> None:
+    """Runs the command of an alert, with the alerts as JSON on its standard input."""
+    given = json.dumps([each._asdict() for each in raised]) + "\n"
+    try:
+        ended = subprocess.run(words, input=given.encode(), timeout=SECONDS, check=False)
+        why = f"status {ended.returncode}" if ended.returncode else ""
+    except OSError as error:
+        why = strerror(error)
+    except subprocess.TimeoutExpired:
+        why = f"no end in {SECONDS} seconds"
+    if why:
+        output.warn(f"--command {words[0]}: {why}")
+
+
+class Watch:
+    """What is done after each round: metrics, its line or lines, and its alerts."""
+
+    def __init__(self, asked: argparse.Namespace, form: str, file: str) -> None:
+        self.asked, self.form = asked, form
+        self.state, self.is_raised = top.State(top.conditions(asked.alert)), False
+        self.command = shlex.split(asked.command_of_alert) if asked.command_of_alert else []
+        self.remarks = output.Remarks()
+        self.figured: Figured | None = None
+        self.file: File | None = None
+        if asked.listen or file:
+            from arbiter_host import metrics
+            self.figured = metrics.Figured()
+            self.file = metrics.File(file) if file else None
+
+    @property
+    def is_lasting(self) -> bool:
+        """Whether it goes on after an alert."""
+        return bool(self.command or self.figured)
+
+    def listen(self) -> None:
+        """Begins to answer, and says where."""
+        if self.asked.listen and self.figured:
+            from arbiter_host import metrics
+            address, port = metrics.serve(self.asked.listen, self.figured)
+            where = f"[{address}]" if ":" in address else address
+            output.say(f"http://{where}:{port}/metrics")
+
+    def warn(self, note: str) -> None:
+        """Warns of a round that failed; not over a live view."""
+        if self.form != "live":
+            output.warn(note)
+
+    def remark(self, notes: Sequence[str]) -> None:
+        """Warns of what the source could not say, once."""
+        if self.form != "live":
+            self.remarks.tell(note for note in notes if not THROTTLED.search(note))
+
+    def take(self, found: top.Round) -> None:
+        """Takes a round. A file that cannot be written ends nothing."""
+        figures, state = found.figures(), self.state
+        self.remark([*found.plan.model.refused, *found.plan.model.notes,
+                     *top.missing(figures, state.wanted)])
+        raised = state.take(figures)
+        self.is_raised = self.is_raised or bool(raised)
+        if self.figured:
+            self.figured.put(figures, state.held)
+        if self.file and self.figured:
+            try:
+                self.file.put(self.figured)
+            except HostFault as fault:
+                self.remark([fault.message])
+        self.emit(found)
+        if raised and self.command:
+            run_command(self.command, raised)
+        if raised and not self.is_lasting:
+            raise Alerted(state.held)
+
+    def emit(self, found: top.Round) -> None:
+        """Prints a round as its form has it."""
+        if self.form == "json":
+            output.emit(json.dumps(top.line_of(self.state, found)) + "\n")
+        elif self.form == "text":
+            lines = live.screen(found.plan, shown_view(self.asked, found.plan), 10**6)
+            output.emit("".join(f"{line}\n" for line, _ in lines) + "\n")
+
+
+def shown_view(asked: argparse.Namespace, plan: Plan) -> View:
+    """What is shown of a plan."""
+    return view_of(asked, choosing.chosen(plan.model, asked))
+
+
+def form_of(asked: argparse.Namespace) -> tuple[str, str]:
+    """The form on standard output, `live` at a terminal; and the file of metrics."""
+    is_terminal = sys.stdout is not None and sys.stdout.isatty()
+    forms = {each.form: each.path for each in options.outputs(asked)} if asked.output else {}
+    if forms.get("openmetrics") == "-":
+        raise UsageFault("-o openmetrics: it is kept in a file: -o openmetrics=FILE")
+    for form in ("text", "json"):
+        if forms.get(form, "-") != "-":
+            raise UsageFault(f"-o {form}=FILE: rounds are printed on standard output")
+    form = next((each for each in ("text", "json") if each in forms),
+                "text" if is_terminal else "json")
+    return "live" if form == "text" and is_terminal else form, forms.get("openmetrics", "")
+
+
+def run(asked: argparse.Namespace) -> None:
+    """Plans a source in each round until an alert or an end."""
+    for name, value in (("--command", asked.command_of_alert), ("--listen", asked.listen)):
+        # (as of a variable of a script that is not set)
+        if value is not None and not value.strip():
+            raise UsageFault(f"{name}: it is empty")
+    form, file = form_of(asked)
+    times = looks.times_of(asked.read or ("x1s" if form == "live" else "x15s"))
+    view_of(asked)
+    try:
+        watch = Watch(asked, form, file)
+    except ValueError as error:
+        raise UsageFault(f"--command: {error}") from error
+    read, first = reader(asked, watch.state.wanted)
+    if times.number is not None and times.number <= first:
+        raise UsageFault("--read: a tree is measured from one reading to the next: 2 or more")
+    watch.listen()
+    rounds = top.rounds_of(read, times, first, watch.warn)
+    if form == "live":
         progress.is_allowed = False
-        top.live(read, lambda: view_of(options), count)
+        live.show(rounds, lambda plan: shown_view(asked, plan), watch.take)
     else:
-        top.plain(read, view_of(options), count, emit)
+        for each in rounds:
+            watch.take(each)
+    if watch.is_raised:
+        raise Alerted(watch.state.held)
 
 
 def add_words(parser: argparse.ArgumentParser) -> None:
     """The words of `top`."""
-    parser.add_argument("source", nargs="?", default="/sys/fs/cgroup", metavar="DIR",
-                        help="the tree (default /sys/fs/cgroup)")
-    parser.add_argument("--count", type=int, default=0, metavar="N",
-                        help="end after N pictures (default 0: never on a terminal, else after 1)")
-    parser.add_argument("--once", action="store_true", help="print one picture, and end")
-    add_answer_options(parser)
+    parser.add_argument("source", nargs="*", metavar="SOURCE", help="a tree of cgroups, which is"
+                        f" measured (default {looks.HOST_TREE}), or files as of explain, which are"
+                        " read again in each round")
+    options.add(parser, "top")
 
 
 DETAILS = (
-    "Keys: q ends, s goes to the next order, f to the next filter, - and + fold and unfold the"
-    " tree by a level, a shows groups that ask for nothing. The bars before a group are what the"
-    " plan gave it in the last ten pictures, as parts of its own most.",
+    "At a terminal it is a live table. Keys: q ends, s goes to the next order, f to the next"
+    " filter, - and + fold and unfold the tree by a level, a shows groups that ask for nothing."
+    " The bars before a group are what the plan gave it in the last ten rounds, as parts of its own"
+    " most. Behind a pipe each round is a line of JSON.",
+    "Of a tree a round has what each group used since the last reading, and how many of its periods"
+    " were throttled. Its demands are taken by --want (default psi), and planned. Of files there is"
+    " the plan alone.",
+    "GROUP of an alert is a path, its end, a title or a pattern with `*`. Groups with children are"
+    " compared where GROUP names them without `*`, and by throttled. A GROUP that is not there is"
+    " told. An alert ends the command with status 5. With --command, --listen or -o openmetrics it"
+    " goes on, and status 5 stands at the end. A command is run when an alert begins, and again"
+    " after it was away for a round. It has 60 seconds.",
+    "The metrics are arbiter_plan_gets_cpus, arbiter_plan_wants_cpus, arbiter_got_cpus,"
+    " arbiter_off_cpus, arbiter_throttled_ratio and arbiter_starved by group, arbiter_alert, and"
+    " arbiter_round_timestamp_seconds. share/arbiter/grafana.json is a dashboard of Grafana for"
+    " them. Every user of the machine can read the port.",
 )
 EXAMPLES = (
-    ("this machine, with the time that tasks waited counted as demand",
-     "arbiterctl top --want psi --interval 2s"),
-    ("one picture of a part of the tree",
-     "arbiterctl top /sys/fs/cgroup/system.slice --once"),
-    ("the same as JSON", "arbiterctl top --once --json"),
+    ("this machine, live", "arbiterctl top"),
+    ("one look, for a script",
+     "arbiterctl top /sys/fs/cgroup --read 2x5s --alert 'starved,throttled>5%'"),
+    ("metrics for Prometheus", "arbiterctl top --listen 127.0.0.1:9101"),
+    ("a command at an alert that holds for four rounds",
+     "arbiterctl top --alert 'web*:lack>250m for 4' --command 'logger -t arbiter'"),
 )
-TOP = Subcommand("top", "Shows a host's cgroups and their plan again and again, until q or"
-                 " Ctrl-C.", add_words, run, DETAILS, EXAMPLES)
+TOP = Subcommand("top", "Plans a source again and again, compares the plan with what the groups"
+                 " got, and says when it gets bad.", add_words, run, DETAILS, EXAMPLES)

@@ -5,10 +5,11 @@ from fractions import Fraction
 
 import pytest
 
-from kernel import __main__ as main
-from kernel import (compare, deliberate, exact, kept, kinds, layout, machine, packages, page,
-                    planned, readings, real_apply, scenario, table)
-from kernel.__main__ import SCENARIOS, batches, sources
+from laboratory import __main__ as main
+from kernel import layout, machine, packages, real_apply, scenario
+from kernel import planned as chosen
+from laboratory import compare, deliberate, exact, kept, kinds, page, planned, readings, table
+from laboratory.__main__ import SCENARIOS, batches, sources
 from kernel.faults import KernelFault
 from support import ROOT
 
@@ -56,7 +57,7 @@ def test_series_by_hand():
 @pytest.mark.parametrize("name", [name for name in ALL if not name.startswith("series")])
 def test_shares_are_fine_plans(program, name):
     """The program's plan in small slices is near to the exact shares where no task cuts them."""
-    planned.use(program.path)
+    chosen.use(program.path)
     found = scenario.read(SCENARIOS / f"{name}.script")
     if found.is_series:
         pytest.skip("a series has no plan of one period")
@@ -191,7 +192,7 @@ def test_program_is_asked_before_a_guest(monkeypatch, tmp_path):
     broken.write_text("#!/bin/sh\nexit 2\n")
     broken.chmod(0o755)
     begun = []
-    monkeypatch.setattr(planned, "chosen", [broken])
+    monkeypatch.setattr(chosen, "chosen", [broken])
     monkeypatch.setattr(packages, "missing", lambda: "")
     monkeypatch.setattr(packages, "kernel", begun.append)
     with pytest.raises(KernelFault, match="arbiter run: status 2"):
@@ -363,7 +364,7 @@ def test_guest_lines_are_read():
     (0, 0, 7000000, "tasks were started 7 ms late")])
 def test_run_is_refused(program, late, others, ready, why):
     """A run that was begun or read late, or in which others ran, says nothing."""
-    planned.use(program.path)
+    chosen.use(program.path)
     found = of("mkdir a\ndemand a 100\n")
     groups = [{path: dict.fromkeys(readings.KEYS, number) for path in (".", "a")}
               for number in (0, 0)]

@@ -1,11 +1,13 @@
 """A short run on Linux in a guest: what is judged is within its bounds, and faults are seen.
 
-Skipped where the packages or a kernel are not there. `./test --kernel` runs all scenarios.
+`./test --kernel` runs all scenarios.
 """
 import pytest
 
-from kernel import compare, deliberate, layout, machine, packages, planned, readings, scenario
-from kernel.__main__ import SCENARIOS
+from kernel import layout, machine, scenario
+from kernel.planned import use
+from laboratory import compare, deliberate, readings
+from laboratory.__main__ import SCENARIOS
 
 SPAN = layout.Span(seconds=3, settle=1)
 SETTING = machine.Setting(shift=4, seconds=900)
@@ -14,19 +16,14 @@ BAD = {"one-weights": "weights", "limit-below": "quota"}
 
 
 @pytest.fixture(scope="module", name="outcomes")
-def outcomes_of_one_guest(program):
+def outcomes_of_one_guest(program, guests_kernel):
     """The outcomes of one guest, by scenario and fault."""
-    lacks = packages.missing() or ("" if packages.unpacked() else "no kernel is unpacked:"
-                                   " ./test --kernel one-weights gets one")
-    if lacks:
-        pytest.skip(lacks)
-    kernel = packages.kernel(packages.unpacked()[0])
     found = {name: scenario.read(SCENARIOS / f"{name}.script") for name in GOOD}
     given = {(name, ""): found[name] for name in GOOD}
     given |= {(name, fault): deliberate.FAULTS[fault](found[name]) for name, fault in BAD.items()}
     work = layout.many([(" ".join(key), each, SPAN) for key, each in given.items()])
-    runs = readings.runs(machine.run(kernel, machine.Board(), SETTING, work))
-    planned.use(program.path)
+    runs = readings.runs(machine.run(guests_kernel, machine.Board(), SETTING, work))
+    use(program.path)
     return {key: compare.outcome_of(found[key[0]], run, SPAN) for key, run in zip(given, runs)}
 
 

@@ -1,6 +1,6 @@
-"""Tables of docs/HOLD.md from the files of `kernel.held --save`.
+"""Tables of docs/HOLD.md from the files of `laboratory.held --save`.
 
-    PYTHONPATH=tests /usr/bin/python3 -m kernel.held_page [--write] [FILE..]
+    PYTHONPATH=tests:bench/kernel /usr/bin/python3 -m laboratory.held_page [--write] [FILE..]
 
 FILE is that of the kept runs, unless others are named. --write puts both tables into the page.
 A cell has the group that was furthest off, in hundredths of a processor: the mean of the runs
@@ -19,13 +19,13 @@ from statistics import fmean
 from typing import Any
 
 from kernel import scenario
-from kernel.__main__ import SCENARIOS
-from kernel.held import WAYS
-from kernel.page import kernel_of, off
+from laboratory.__main__ import SCENARIOS
+from laboratory.held import WAYS
+from laboratory.page import kernel_of, off
 
 Saved = dict[str, Any]
-RUNS = Path(__file__).with_name("runs") / "hold.jsonl.gz"
-PAGE = Path(__file__).resolve().parents[2] / "docs/HOLD.md"
+RUNS = Path(__file__).resolve().parents[1] / "runs/hold.jsonl.gz"
+PAGE = Path(__file__).resolve().parents[3] / "docs/HOLD.md"
 # The scenario whose demands change, which has a table of its own.
 STEP = "two-step"
 # The ways that have columns in docs/HOLD.md.

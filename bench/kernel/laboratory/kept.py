@@ -1,16 +1,13 @@
 """Kept runs: what groups had in guests, with their hosts, to try a model against them.
 
-    PYTHONPATH=tests python3 -m kernel.kept SET SAVED..
-    PYTHONPATH=tests python3 -m kernel.kept --draw SEED FOLDER
+    PYTHONPATH=tests:bench/kernel python3 -m laboratory.kept SET SAVED..
+    PYTHONPATH=tests:bench/kernel python3 -m laboratory.kept --draw SEED FOLDER
 
-SAVED are files that `./test --kernel --save` or `kernel.held --save` wrote, beside scripts that are
+SAVED are files that `./test --kernel --save` or `laboratory.held --save` wrote, beside scripts that are
 no scenarios here. Their runs of several processors are added to kept_runs.json.xz under the name
 SET, each with its host. Series, naps, pinned tasks and runs that were held by limits are left out.
 
 With --draw ten hosts of a seed are written into a folder as scripts for `./test --kernel`.
-
-A file of `arbiterctl audit --anonymous` is taken too. Each interval of it is a run, with its plan
-in place of exact shares, and a host of its own. One with a group that was not measured is left out.
 """
 from __future__ import annotations
 
@@ -22,12 +19,13 @@ from collections.abc import Iterator
 from pathlib import Path
 from typing import Any
 
-from kernel import draw, scenario
-from kernel.__main__ import SCENARIOS
-from kernel.exact import usable
+from kernel import scenario
+from laboratory import draw
+from laboratory.__main__ import SCENARIOS
+from laboratory.exact import usable
 from kernel.scenario import Scenario
 
-KEPT = Path(__file__).with_name("kept_runs.json.xz")
+KEPT = Path(__file__).resolve().parents[1] / "kept_runs.json.xz"
 # Hosts of a seed, and a seed that a file's name may have.
 DRAWN = 10
 SEED = re.compile(r"[A-Za-z0-9]{1,40}")
@@ -79,55 +77,6 @@ def runs_of(set_: str, path: Path, hosts: dict[str, Any],
                           for each in said["lines"] if each["path"] in found.leaves}}
 
 
-def settings_at(group: dict[str, Any], place: int) -> list[Any]:
-    """The settings of a group in an interval: weight, quota, period, burst; none before the first.
-    """
-    found: list[list[Any]] = [each for each in group["settings"] if each[0] <= place]
-    return found[-1][1:] if found else []
-
-
-def host_of_interval(audit: dict[str, Any], place: int) -> dict[str, Any] | None:
-    """The host of an interval of an audit as data; None where a group of it was not measured, or
-    has no number of tasks. Its tasks work in each tenth of a second."""
-    groups, paths = [], dict[str | None, str]()
-    inner = {each["above"] for each in audit["groups"]}
-    for each in audit["groups"]:
-        settings, name = settings_at(each, place), each["group"]
-        above = paths.get(each["above"])
-        path = paths[name] = f"{above}/{name}" if above else name
-        demand, tasks = (each[key][place] if key in each else 0
-                         for key in ("demand_millicpu", "tasks"))
-        if not settings or name not in inner and (demand is None or demand and not tasks):
-            return None
-        weight, quota, period, burst = settings
-        groups.append({"path": path, "weight": weight, "quota": quota, "period": period,
-                       "burst": burst, "demand": demand or 0.0, "tasks": tasks or None})
-    return {"about": "an interval of an audit", "processors": audit["processors"],
-            "period": 100000, "slice": 1000, "groups": groups}
-
-
-def runs_of_audit(set_: str, path: Path, hosts: dict[str, Any]) -> Iterator[dict[str, Any]]:
-    """The intervals of a file of `audit --anonymous` as runs."""
-    audit = json.loads(path.read_text(encoding="utf-8"))
-    for place in range(len(audit["intervals"]) if audit["processors"] > 1 else 0):
-        host = host_of_interval(audit, place)
-        if host is None:
-            continue
-        name = f"{path.stem}-{place}"
-        hosts[name] = host
-        paths = [each["path"] for each in host["groups"]]
-        yield {"set": set_, "host": name, "kernel": "not told", "groups": {
-            at: [each[key][place] / 1000 for key in ("plan_millicpu", "used_millicpu")]
-            for at, each in zip(paths, audit["groups"]) if "plan_millicpu" in each}}
-
-
-def runs_in(set_: str, path: Path, hosts: dict[str, Any]) -> Iterator[dict[str, Any]]:
-    """The runs of a file of either kind."""
-    if path.read_text(encoding="utf-8").startswith('{"arbiter_audit"'):
-        return runs_of_audit(set_, path, hosts)
-    return runs_of(set_, path, hosts, [SCENARIOS, path.parent])
-
-
 def write_drawn(seed: str, folder: Path) -> None:
     """Writes the hosts of a seed as scripts. A file that is there is not replaced."""
     if not SEED.fullmatch(seed):
@@ -149,7 +98,7 @@ def main(words: list[str]) -> None:
     set_, *files = words
     found = kept() if KEPT.exists() else {"sets": {}, "hosts": {}, "runs": []}
     for path in map(Path, files):
-        found["runs"] += runs_in(set_, path, found["hosts"])
+        found["runs"] += runs_of(set_, path, found["hosts"], [SCENARIOS, path.parent])
     KEPT.write_bytes(lzma.compress(json.dumps(found, separators=(",", ":")).encode()))
     print(f"{len(found['runs'])} runs of {len(found['hosts'])} hosts")
 

@@ -8,9 +8,9 @@ from dataclasses import dataclass, field
 from fractions import Fraction
 from typing import Any
 
-from kernel import exact, planned
+from laboratory import exact, planned
 from kernel.layout import Span
-from kernel.readings import KEYS, Run
+from laboratory.readings import KEYS, Run
 from kernel.scenario import Scenario
 
 ONE_PROCESSOR = 0.3

@@ -1,6 +1,6 @@
 """How far off groups were by kind of host: a table of docs/KERNEL.md, and docs/kernel/hosts.txt.
 
-    PYTHONPATH=tests /usr/bin/python3 -m kernel.kinds [--write]
+    PYTHONPATH=tests:bench/kernel /usr/bin/python3 -m laboratory.kinds [--write]
 
 Runs are those of kept_runs.json.xz and, of other scenarios, those by weights in
 runs/hold.jsonl.gz. docs/kernel/runs.txt has more runs, each with the group that was furthest off:
@@ -17,10 +17,11 @@ from fractions import Fraction
 from pathlib import Path
 from typing import Any
 
-from kernel import exact, held_page, kept, scenario
-from kernel.__main__ import SCENARIOS
+from kernel import scenario
+from laboratory import exact, held_page, kept
+from laboratory.__main__ import SCENARIOS
 
-DOCS = Path(__file__).resolve().parents[2] / "docs"
+DOCS = Path(__file__).resolve().parents[3] / "docs"
 PAGE, HOSTS, RUNS = DOCS / "KERNEL.md", DOCS / "kernel/hosts.txt", DOCS / "kernel/runs.txt"
 Host = dict[str, Any]
 # Kinds of groups, in the words of the page, and why they are off on several CPUs.
@@ -175,7 +176,7 @@ def hosts(found: list[Seen]) -> Iterator[str]:
     """A line for each host and kind of group on it."""
     yield "# How far off groups were, by host"
     yield ""
-    yield ("Written by `kernel.kinds`, whose first lines say from what. Cells are as those of"
+    yield ("Written by `laboratory.kinds`, whose first lines say from what. Cells are as those of"
            " docs/KERNEL.md: 9 of 10 groups, the most, the most in parts.")
     yield ""
     yield "| Host | CPUs | kind | groups | off |"

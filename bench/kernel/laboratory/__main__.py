@@ -12,13 +12,15 @@ from collections.abc import Iterator
 from pathlib import Path
 from typing import Any
 
-from kernel import (compare, deliberate, faults, layout, machine, packages, planned, readings,
-                    scenario, table)
+from kernel import faults, layout, machine, packages, scenario
+from kernel.planned import begin, program
 from kernel.scenario import Scenario
+from laboratory import compare, deliberate, readings, table
 
-SCENARIOS = Path(__file__).with_name("scenarios")
-ARBITERCTL = Path(__file__).resolve().parents[2] / "python/arbiterctl"
-FILES = [Path(__file__).with_name(name) for name in ("test_real_files.py", "test_real_hold.py")]
+TOP = Path(__file__).resolve().parents[3]
+SCENARIOS = TOP / "bench/kernel/scenarios"
+ARBITERCTL = TOP / "python/arbiterctl"
+FILES = [TOP / "tests/kernel" / name for name in ("test_real_files.py", "test_real_hold.py")]
 # By how much each repeat begins later, in microseconds: another place in a quota period and in
 # a tick.
 LATER = 21300
@@ -31,7 +33,7 @@ TASKS = re.compile(r"# tasks ([0-9]+)")
 
 EPILOG = """\
 SOURCE is a script, whose lines `#:` may have options for it, a host file, a scenario of
-tests/kernel/scenarios, or the beginning of names of scenarios. Without one all scenarios run.
+bench/kernel/scenarios, or the beginning of names of scenarios. Without one all scenarios run.
 
 exit status: 0 all that is judged is within its bounds; 1 a group is not, or a run was refused;
 2 something could not be had or run"""
@@ -163,7 +165,7 @@ def saved(options: argparse.Namespace, kernel: packages.Kernel, setting: machine
 def tested_files() -> int:
     """Runs the tests of the real files, those too that ./test leaves out without KVM."""
     words = [sys.executable, "-m", "pytest", "-q", *map(str, FILES), "--program",
-             str(planned.program())]
+             str(program())]
     return subprocess.run(words, env={**os.environ, machine.ALL: "1"}, check=False).returncode
 
 
@@ -180,7 +182,7 @@ def work(words: list[str]) -> int:
     if lacks:
         raise faults.KernelFault(lacks)
     print(announced(found, options), flush=True)
-    planned.begin()
+    begin()
     kernels = [packages.kernel(name) for name in options.kernels.split(",")]
     outcomes: list[compare.Outcome] = []
     for kernel in kernels:

@@ -1,6 +1,6 @@
 """The model of placement against the kept runs: docs/kernel/firm.txt.
 
-    PYTHONPATH=tests:python /usr/bin/python3 -m kernel.firm [--write]
+    PYTHONPATH=tests:bench/kernel:python /usr/bin/python3 -m laboratory.firm [--write]
 
 A set of kept runs has firm groups and ranged ones. Firm are those that the model says are where
 the plan has them, wherever tasks run.
@@ -17,9 +17,9 @@ from typing import Any
 from arbiter import Host
 from arbiter_host import placement
 from arbiter_host.model import Group, Model
-from kernel import kept
+from laboratory import kept
 
-FILE = Path(__file__).resolve().parents[2] / "docs/kernel/firm.txt"
+FILE = Path(__file__).resolve().parents[3] / "docs/kernel/firm.txt"
 # How far a firm group may be from its exact share, in CPUs, and a ranged one out of its range.
 OFF, BESIDE = 0.01, 0.003
 # The sets in the order in which they were run, and how they came.
@@ -87,9 +87,9 @@ def rows() -> Iterator[str]:
     """The table of all sets."""
     yield "# Firm groups and ranges against kept runs"
     yield ""
-    yield ("Written by `kernel.firm` from `tests/kernel/kept_runs.json.xz`. A point is a hundredth"
+    yield ("Written by `laboratory.firm` from `bench/kernel/kept_runs.json.xz`. A point is a hundredth"
            " of one CPU. Who doubts the model draws ten more hosts by a seed:"
-           " `PYTHONPATH=tests python3 -m kernel.kept --draw SEED FOLDER`.")
+           " `PYTHONPATH=tests:bench/kernel python3 -m laboratory.kept --draw SEED FOLDER`.")
     yield ""
     yield "| Kept runs | Firm: off by more than 1 point | worst | Others: out of the range |"
     yield "|---|---|---|---|"

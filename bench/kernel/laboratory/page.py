@@ -1,6 +1,6 @@
 """Tables of docs/kernel/runs.txt from the files of `--save`.
 
-    PYTHONPATH=tests /usr/bin/python3 -m kernel.page FILE..
+    PYTHONPATH=tests:bench/kernel /usr/bin/python3 -m laboratory.page FILE..
 """
 from __future__ import annotations
 
@@ -11,7 +11,7 @@ from collections.abc import Iterable, Iterator
 from pathlib import Path
 from typing import Any
 
-from kernel.readings import KEYS
+from laboratory.readings import KEYS
 
 Saved = dict[str, Any]
 

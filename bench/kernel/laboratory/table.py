@@ -4,8 +4,8 @@ from __future__ import annotations
 from collections.abc import Iterator
 from typing import Any
 
-from kernel.compare import Outcome, period_of
-from kernel.readings import KEYS
+from laboratory.compare import Outcome, period_of
+from laboratory.readings import KEYS
 
 
 def limited(outcome: Outcome) -> list[str]:

@@ -8,7 +8,7 @@ from __future__ import annotations
 from collections.abc import Iterator
 from typing import NamedTuple
 
-from arbiter_host.sources.cgroups import file_text, number_in
+from arbiter_host.cgroup2 import file_text, number_in
 
 PROC = "/proc"
 # Bytes of a list of tasks that are read, and tasks of a group.

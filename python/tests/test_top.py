@@ -1,4 +1,4 @@
-"""Watch: worked figures, alerts, metrics as Prometheus reads them, and who can read them."""
+"""Top: worked figures, alerts, metrics as Prometheus reads them, and who can read them."""
 import json
 import os
 import re
@@ -17,13 +17,12 @@ import pytest
 import sockets
 import trees
 from arbiter import Host
-from arbiter_host import metrics, watch
+from arbiter_host import looks, metrics, top
 from arbiter_host.faults import HostFault, UsageFault
 from arbiter_host.model import Group, Model
 from arbiter_host.plan import plan
 from places import PACKAGE
-from prometheus_client import generate_latest
-from prometheus_client.openmetrics import exposition, parser
+from prometheus_client.openmetrics import parser
 from prometheus_client.parser import text_string_to_metric_families
 
 BOARD = PACKAGE.parent / "share/grafana.json"
@@ -46,7 +45,7 @@ class World:
         trees.group2(self.top / name, weight, maximum, 0, usage, threads=2, **counters)
 
     def tree(self, engine, want="psi"):
-        return watch.Tree(engine, str(self.top), TWO, want, lambda: self.now)
+        return top.Watched(engine, looks.Tree(str(self.top), TWO, lambda: self.now), want)
 
     def later(self):
         """web used 5 s and was throttled in 40 of 100 periods; batch used 12 s and waited 2 s."""
@@ -67,26 +66,26 @@ def test_figures_by_hand(engine, folder):
     assert (found["batch"].want, found["batch"].plan) == (1500, 1500)
     assert (found["batch"].got, found["batch"].throttled, found["batch"].off) == (1200, 0, -300)
     assert (found["."].got, found["."].plan) == (1700, 2000)
-    held = watch.alerts(list(found.values()), watch.conditions(
+    held = top.alerts(list(found.values()), top.conditions(
         "starved,throttled>39%,throttled>40%,lack>300m,lack>340m,off>299m,off>300m,b*:off,web:off"))
     assert [tuple(each) for each in held] == [
         ("throttled>39%", "web"), ("lack>300m", "web"), ("off>299m", "batch"), ("b*:off", "batch")]
     # A group with children is compared where it is named: the host used 300m less than its plan.
-    named = watch.conditions(".:off>299m,.:off>300m,*:off>250m")
-    assert [tuple(each) for each in watch.alerts(list(found.values()), named)] == [
+    named = top.conditions(".:off>299m,.:off>300m,*:off>250m")
+    assert [tuple(each) for each in top.alerts(list(found.values()), named)] == [
         (".:off>299m", "."), ("*:off>250m", "batch")]
 
 
 def test_groups_of_conditions():
     """A path, its end, a title, or a pattern of either, as `--set` takes them."""
-    figures = watch.Figures("kubepods/a:web/app", "a/web/app", Fraction(0), Fraction(1), None, None,
+    figures = top.Figures("kubepods/a:web/app", "a/web/app", Fraction(0), Fraction(1), None, None,
                             False, True)
     for group, is_of in {"": True, "app": True, "a/web/app": True, "a/web/*": True,
                          "*web/app": True, "kubepods/*": True, "web": False, "b/*": False,
                          "pp": False}.items():
-        one, = watch.conditions(f"{group}:lack" if group else "lack")
+        one, = top.conditions(f"{group}:lack" if group else "lack")
         assert one.is_of(figures) == is_of, group
-        assert len(watch.missing([figures], [one])) == (not is_of)
+        assert len(top.missing([figures], [one])) == (not is_of)
 
 
 def test_a_group_made_again_is_not_compared(engine, folder):
@@ -106,23 +105,25 @@ def test_a_group_made_again_is_not_compared(engine, folder):
     ("frob", "not [GROUP:]starved"), ("starved>1", "starved has no number"),
     ("throttled>5", "no part of the periods"), ("throttled>101%", "no part of the periods"),
     ("throttled>", "not [GROUP:]"), ("lack>x", "no amount of CPU"), ("lack>-1", "no amount of CPU"),
-    ("web:", "not [GROUP:]"), ("off>1e20", "is above"),
+    ("web:", "not [GROUP:]"), ("off>1e20", "is above"), ("starved for 0", "not [GROUP:]"),
+    ("starved for", "not [GROUP:]"), ("lack>1m for x", "no amount of CPU"),
 ])
 def test_conditions_that_are_refused(text, words):
     with pytest.raises(UsageFault) as fault:
-        watch.conditions(text)
+        top.conditions(text)
     assert words in fault.value.message and fault.value.status == 2
 
 
-def test_alerts_that_last():
+def test_alerts_that_last(engine):
     """Raised once after so many rounds in a row, and again after a round without."""
-    state, one = watch.State(), watch.Alert("starved", "a")
-    rounds = [[one], [one], [one], [], [one], [one]]
-    raised = []
-    for each in rounds:
-        raised.append(bool(state.raised(each, 2)))
-    assert raised == [False, True, False, False, False, True]
-    assert state.held(2) == [one]
+    figures = {name: [top.Figures("a", "", Fraction(0), Fraction(1), None, None, name == "yes",
+                                  True)] for name in ("yes", "no")}
+    state = top.State(top.conditions("starved for 2, a:lack>1m"))
+    raised = [state.take(figures[each])
+              for each in ("yes", "yes", "yes", "no", "yes", "yes")]
+    alert = top.Alert("starved for 2", "a")
+    assert raised == [[], [alert], [], [], [], [alert]]
+    assert (state.held, state.rounds) == ([alert], 6)
 
 
 def test_turns_leave_rounds_out():
@@ -132,7 +133,7 @@ def test_turns_leave_rounds_out():
     def sleep(seconds):
         now[0] += seconds
 
-    for _ in watch.turns(watch.Times(Fraction(10), Fraction(60)), lambda: now[0], sleep, True):
+    for _ in looks.turns(looks.Times(Fraction(10), 5), lambda: now[0], sleep, 1):
         at.append(now[0])
         now[0] += 25 if len(at) == 2 else 1
     assert at == [10, 20, 50, 60]
@@ -140,10 +141,10 @@ def test_turns_leave_rounds_out():
 
 # the command
 
-def test_once_of_a_script(ctl, folder):
+def test_one_round_of_a_script(ctl, folder):
     """Status 5 and the group, or 0; one line of JSON."""
     (folder / "s.script").write_bytes(STARVES)
-    words = ["watch", folder / "s.script", "--once", "--alert"]
+    words = ["top", folder / "s.script", "--read", "1x1s", "--alert"]
     out, err = ctl.run(*words, "starved", status=5)
     assert err == "arbiterctl: alert: starved: b\n"
     assert json.loads(out) == {"round": 1, "wanted_cpus": 2, "planned_cpus": 1,
@@ -151,14 +152,15 @@ def test_once_of_a_script(ctl, folder):
     assert json.loads(ctl.run(*words, "a:starved")[0])["alerts"] == []
     _, err = ctl.run(*words, "c:starved")
     assert err == "arbiterctl: warning: --alert c:starved: no group c is there\n"
-    assert json.loads(ctl.run(*words, "starved", "--after", "2")[0])["alerts"] == []
+    assert json.loads(ctl.run(*words, "starved for 2")[0])["alerts"] == []
 
 
-def test_once_of_a_tree(ctl, folder):
+def test_one_round_of_a_tree(ctl, folder):
     World(folder)
-    out, _ = ctl.run("watch", folder / "t", "--once", "--interval", "50ms", "--cpus", "2",
-                     "--alert", "starved,throttled>5%")
+    words = ["top", folder / "t", "--cpus", "2", "--alert", "starved,throttled>5%", "--read"]
+    out, _ = ctl.run(*words, "2x50ms")
     assert json.loads(out) == {"round": 1, "wanted_cpus": 0, "planned_cpus": 0, "alerts": []}
+    assert "2 or more" in ctl.run(*words, "1x1s", status=2)[1]
 
 
 def test_command_of_an_alert(ctl, folder):
@@ -167,33 +169,34 @@ def test_command_of_an_alert(ctl, folder):
     log = folder / "log $(id)"
     script = "import sys; open(sys.argv[1], 'a').write(sys.argv[2] + sys.stdin.read())"
     command = shlex.join(["/usr/bin/python3", "-c", script, str(log), "$(id);"])
-    out, err = ctl.run("watch", folder / "s.script", "--alert", "starved", "--command", command,
-                       "--interval", "500ms", "--for", "3s", status=5)
+    out, err = ctl.run("top", folder / "s.script", "--alert", "starved", "--command", command,
+                       "--read", "4x200ms", status=5)
     assert out.count('"alerts": [{"alert": "starved", "group": "b"}]') >= 2
     assert log.read_text() == '$(id);[{"condition": "starved", "group": "b"}]\n'
     for bad, why in (("/nowhere/x", "No such file"), ("false", "status 1")):
-        _, err = ctl.run("watch", folder / "s.script", "--alert", "starved", "--once", "--command",
-                         bad, status=5)
+        _, err = ctl.run("top", folder / "s.script", "--alert", "starved", "--read", "1x1s",
+                         "--command", bad, status=5)
         assert f"warning: --command {bad}: {why}" in err
-    ctl.run("watch", folder / "s.script", "--command", "'", status=2)
+    ctl.run("top", folder / "s.script", "--command", "'", status=2)
 
 
 @pytest.mark.parametrize("words, told", [
     (["--alert", "throttled>5%"], "trees of cgroups alone are measured"),
-    (["--after", "0"], "--after: 1 to"), (["--interval", "0"], "--interval: above 0"),
-    (["--for", "x"], "--for: 'x' is no time"), (["--listen", "0.0.0.0:1"], "not a loopback"),
+    (["--read", "1x0"], "--read: a time above 0"), (["--read", "5s"], "--read 5s: NxTIME"),
+    (["--read", "1xy"], "--read: 'y' is no time"), (["--listen", "0.0.0.0:1"], "not a loopback"),
     (["--command", ""], "--command: it is empty"), (["--command", " "], "--command: it is empty"),
-    (["--listen", ""], "--listen: it is empty"), (["--textfile", ""], "--textfile: it is empty"),
+    (["--listen", ""], "--listen: it is empty"), (["-o", "openmetrics="], "FORM=FILE"),
+    (["-o", "openmetrics"], "-o openmetrics=FILE"), (["-o", "json=x"], "printed on standard"),
 ])
 def test_words_that_are_refused(ctl, folder, words, told):
     (folder / "s.script").write_bytes(STARVES)
-    assert told in ctl.run("watch", folder / "s.script", "--once", *words, status=2)[1]
-    assert "read once" in ctl.run("watch", "-", status=2)[1]
+    assert told in ctl.run("top", folder / "s.script", *words, status=2)[1]
+    assert "read once" in ctl.run("top", "-", status=2)[1]
 
 
 def test_two_failed_rounds_end_it(ctl, folder):
     """One is told, and may pass."""
-    _, err = ctl.run("watch", folder / "none.script", "--interval", "50ms", status=1)
+    _, err = ctl.run("top", folder / "none.script", "--read", "x50ms", status=1)
     assert err.count("No such file or directory") == 2 and "warning" in err
 
 
@@ -204,7 +207,7 @@ def round_of(engine, *names):
     model = Model(Host(1, 100000, 5000))
     for name in names:
         model.add(Group(name, demand=Fraction(500)))
-    return watch.Round(plan(engine, model), {names[0]: Fraction(250)}, {names[0]: Fraction(1, 4)})
+    return top.Round(plan(engine, model), {names[0]: Fraction(250)}, {names[0]: Fraction(1, 4)})
 
 
 def families(text):
@@ -216,9 +219,8 @@ def families(text):
 def test_metrics_by_hand(engine):
     """Prometheus' own parsers read them, in both of its forms."""
     figured = metrics.Figured()
-    figured.put(round_of(engine, "a", "b", "c").figures(), [watch.Alert("lack>100m", "c")])
-    registry = metrics.registry_of(figured)
-    found = families(generate_latest(registry).decode())
+    figured.put(round_of(engine, "a", "b", "c").figures(), [top.Alert("lack>100m", "c")])
+    found = families(metrics.text_of(figured).decode())
     # 20 slices of 50m for three wants of 10: 7, 7 and 6, the earlier ones first.
     assert [found["arbiter_plan_gets_cpus", each] for each in ".abc"] == [1, 0.35, 0.35, 0.3]
     assert found["arbiter_plan_wants_cpus", "b"] == 0.5
@@ -227,7 +229,7 @@ def test_metrics_by_hand(engine):
     assert ("arbiter_got_cpus", "b") not in found and found["arbiter_starved", "b"] == 0
     assert found["arbiter_alert", "c"] == 1
     assert {name for name, _ in found} == set(metrics.NAMES)
-    text = exposition.generate_latest(registry).decode()
+    text = metrics.text_of(figured).decode()
     parsed = list(parser.text_string_to_metric_families(text))
     assert {each.name for each in parsed} == set(metrics.NAMES) and text.endswith("# EOF\n")
 
@@ -236,8 +238,8 @@ def test_metrics_have_no_fault_by_promtool(engine):
     if shutil.which("promtool") is None:
         pytest.skip("no promtool (package prometheus)")
     figured = metrics.Figured()
-    figured.put(round_of(engine, "a", "x\x1b\\\"{").figures(), [watch.Alert("starved", "a")])
-    text = generate_latest(metrics.registry_of(figured))
+    figured.put(round_of(engine, "a", "x\x1b\\\"{").figures(), [top.Alert("starved", "a")])
+    text = metrics.text_of(figured)
     ended = subprocess.run(["promtool", "check", "metrics"], input=text, capture_output=True,
                            timeout=60, check=False)
     assert (ended.returncode, ended.stdout, ended.stderr) == (0, b"", b"")
@@ -250,7 +252,7 @@ def test_hostile_names_in_metrics(engine):
     names = ["a\"b\\c", "x\x1b[31m", "\u202eb", "c\ufffdd", "{e=\"f\"} 7"]
     figured = metrics.Figured()
     figured.put(round_of(engine, *names).figures(), [])
-    text = generate_latest(metrics.registry_of(figured)).decode()
+    text = metrics.text_of(figured).decode()
     assert "\x1b" not in text and "\u202e" not in text
     found = {group for name, group in families(text) if name == "arbiter_starved"}
     assert found == {".", "a\"b\\c", "x\\x1b[31m", "\\u202eb", "c\ufffdd", "{e=\"f\"} 7"}
@@ -258,10 +260,10 @@ def test_hostile_names_in_metrics(engine):
 
 @pytest.fixture
 def served(ctl, folder):
-    """A watch that listens at a free port: its process, its address, and the lines it prints."""
+    """A `top` that listens at a free port: its process, its address, and the lines it prints."""
     (folder / "s.script").write_bytes(STARVES)
-    words = [sys.executable, PACKAGE / "arbiterctl", "watch", folder / "s.script", "--listen",
-             "127.0.0.1:0", "--interval", "200ms", "--alert", "starved", "--for", "60s"]
+    words = [sys.executable, PACKAGE / "arbiterctl", "top", folder / "s.script", "--listen",
+             "127.0.0.1:0", "--read", "300x200ms", "--alert", "starved"]
     process = subprocess.Popen(list(map(str, words)), env=ctl.environment, stdout=subprocess.PIPE,
                                stderr=subprocess.PIPE, text=True)
     told = process.stderr.readline()
@@ -316,7 +318,7 @@ def test_a_reader_that_says_nothing_holds_nobody_up_for_long(served):
 def test_names_of_a_browser(host, is_answered):
     """A name of somebody's domain that begins as a loopback address is none."""
     told, (one, _) = [], socket.socketpair()
-    metrics.guarded(metrics.registry_of(metrics.Figured()))(
+    metrics.guarded(metrics.Figured())(
         {"HTTP_HOST": host, "PATH_INFO": "/metrics", "REQUEST_METHOD": "GET", "QUERY_STRING": "",
          metrics.TIME: metrics.Patience(one)}, lambda status, _: told.append(status[:3]))
     assert told == ["200" if is_answered else "403"]
@@ -328,9 +330,9 @@ def test_a_slow_reader_is_cut_off(monkeypatch, capfd):
     monkeypatch.setattr(metrics, "SECONDS", 3)
     figured = metrics.Figured()
     # (an answer of some megabytes fits into no socket)
-    figured.put([watch.Figures(f"{at}" * 40, "", Fraction(0), Fraction(0), Fraction(0), Fraction(0),
+    figured.put([top.Figures(f"{at}" * 40, "", Fraction(0), Fraction(0), Fraction(0), Fraction(0),
                                False, True) for at in range(6000)], [])
-    where = metrics.serve("127.0.0.1:0", metrics.registry_of(figured))
+    where = metrics.serve("127.0.0.1:0", figured)
     begun = time.monotonic()
     with socket.create_connection(where, timeout=30) as slow:
         slow.setsockopt(socket.SOL_SOCKET, socket.SO_RCVBUF, 4096)
@@ -375,7 +377,7 @@ def test_a_port_that_is_taken(ctl, folder):
         other.bind(("127.0.0.1", 0))
         other.listen()
         where = f"127.0.0.1:{other.getsockname()[1]}"
-        _, err = ctl.run("watch", folder / "s.script", "--once", "--listen", where, status=1)
+        _, err = ctl.run("top", folder / "s.script", "--read", "1x1s", "--listen", where, status=1)
     assert f"--listen {where}: Address already in use" in err
 
 
@@ -385,7 +387,7 @@ def test_textfile(ctl, folder, engine, monkeypatch):
     (folder / "s.script").write_bytes(STARVES)
     (folder / "mine").write_text("mine")
     path = folder / "d/arbiter.prom"
-    words = ["watch", folder / "s.script", "--once", "--textfile", path]
+    words = ["top", folder / "s.script", "--read", "1x1s", "-o", f"openmetrics={path}"]
     for make in (lambda: path.symlink_to(folder / "mine"), lambda: path.write_text("mine")):
         make()
         ctl.run(*words, status=1)
@@ -404,7 +406,7 @@ def test_textfile(ctl, folder, engine, monkeypatch):
 
     monkeypatch.setattr(os, "rename", full)
     with pytest.raises(HostFault, match="No space left"):
-        metrics.put_file(str(path), metrics.registry_of(figured))
+        metrics.File(str(path)).put(figured)
     assert path.read_bytes() == before and os.listdir(folder / "d") == ["arbiter.prom"]
     os.chmod(folder / "d", 0o777)
     _, err = ctl.run(*words, status=1)
@@ -415,18 +417,18 @@ def test_everybody_reads_a_textfile(folder):
     """Whatever the umask of the command is: the collector is another user."""
     before = os.umask(0o077)
     try:
-        metrics.put_file(str(folder / "x.prom"), metrics.registry_of(metrics.Figured()))
+        metrics.File(str(folder / "x.prom")).put(metrics.Figured())
     finally:
         os.umask(before)
     assert (folder / "x.prom").stat().st_mode & 0o777 == 0o644
 
 
 def test_a_textfile_that_fails_later(ctl, folder):
-    """It is told once, and the watch goes on; where the first one fails it ends."""
+    """It is told once, and the rounds go on; where it cannot be begun they do not begin."""
     os.mkdir(folder / "d", 0o755)
     (folder / "s.script").write_bytes(STARVES)
-    words = [sys.executable, PACKAGE / "arbiterctl", "watch", folder / "s.script", "--textfile",
-             folder / "d/x.prom", "--interval", "100ms"]
+    words = [sys.executable, PACKAGE / "arbiterctl", "top", folder / "s.script", "-o",
+             f"openmetrics={folder}/d/x.prom", "--read", "x100ms"]
     process = subprocess.Popen(list(map(str, words)), env=ctl.environment, stdout=subprocess.PIPE,
                                stderr=subprocess.PIPE, text=True)
     process.stdout.readline()
@@ -444,7 +446,7 @@ def test_a_textfile_that_fails_later(ctl, folder):
 
 
 def test_dashboard():
-    """Its queries name metrics that watch has, and all of them."""
+    """Its queries name metrics that `top` has, and all of them."""
     board = json.loads(BOARD.read_text())
     queries = [each["expr"] for panel in board["panels"] for each in panel["targets"]]
     named = {name for query in queries for name in re.findall(r"arbiter_\w+", query)}

@@ -1,0 +1,4 @@
+"""Groups on Linux in a guest beside their plans: `./test --kernel --help`.
+
+The guests are those of tests/kernel.
+"""

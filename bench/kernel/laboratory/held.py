@@ -1,0 +1,213 @@
+"""Ways of holding a plan on Linux: weights alone, the plan as limits, and the loop of limits.
+
+    PYTHONPATH=tests:bench/kernel /usr/bin/python3 -m laboratory.held --ways weights,loop \
+        --save FILE SCENARIO..
+
+SCENARIO is the beginning of names of scenarios. The loop is that of tests/kernel/hold.c.
+"""
+from __future__ import annotations
+
+import argparse
+import gzip
+import json
+import sys
+from collections.abc import Iterator, Sequence
+from dataclasses import dataclass, replace
+from typing import Any
+
+from kernel import faults, layout, machine, packages
+from kernel.held import ARCHIVE, WAYS, Way, begun, lines_of, loop_line, rounds_in
+from kernel.planned import begin
+from kernel.scenario import Scenario
+from laboratory import compare, exact, planned, readings
+from laboratory.__main__ import LATER, sources
+
+# Most of the processors' time that others may use beside a loop.
+MOST_OTHERS = 0.03
+
+
+def plan(scenario: Scenario) -> dict[str, int]:
+    """The program's plan of the first step, in slices; demands are cut at a group's tasks."""
+    slices = {path: int(exact.usable(scenario, path, demand) * scenario.period
+                        / (100 * scenario.slice))
+              for path, demand in scenario.steps[0].items()}
+    lines = [" ".join(words) for words in scenario.settings]
+    lines += [f"demand {path} {amount}" for path, amount in slices.items()]
+    answer = planned.answers(scenario, [*lines, "plan"])[-len(scenario.paths) - 1:]
+    return {path: int(amount) for amount, path in (line.split(" ", 1) for line in answer)}
+
+
+def weights_of(scenario: Scenario, amounts: dict[str, int]) -> dict[str, int]:
+    """Weights from a plan: 100 d / (1.01 - d), d the part of a processor of each task. Groups with
+    children have the sum of theirs."""
+    found = dict.fromkeys(scenario.paths, 0)
+    for path in reversed(scenario.paths):
+        if path in scenario.leaves:
+            most = scenario.leaves[path].tasks * scenario.period // scenario.slice
+            amount = min(amounts[path], most)
+            found[path] = round(10000 * amount / (101 * most - 100 * amount))
+        found[path] = min(max(found[path], 1), 10000)
+        above = path.rpartition("/")[0]
+        if above:
+            found[above] += found[path]
+    return found
+
+
+def limits_of(scenario: Scenario, amounts: dict[str, int], way: Way) -> Iterator[tuple[str, ...]]:
+    """The plan as limits of all leaves that have no lesser one."""
+    own = scenario.files("cpu.max")
+    for path in scenario.leaves:
+        quota = max(amounts[path] * scenario.slice * way.period // scenario.period, 1000)
+        limit = exact.quota_of(own[path]) if path in own else None
+        if limit is None or quota * 100 < limit * way.period:
+            yield "write", path, "cpu.max", f"{quota} {way.period}"
+            if way.has_burst:
+                yield "write", path, "cpu.max.burst", str(quota // 10)
+
+
+def held_by(scenario: Scenario, way: Way) -> Scenario:
+    """What the guest is given: the scenario, with the plan as limits and weights."""
+    if way.is_loop or not way.has_limits:
+        return scenario
+    amounts = plan(scenario)
+    made = list(scenario.settings)
+    if way.has_weights:
+        made = [words for words in made if words[2:3] != ("cpu.weight",)]
+        made += [("write", path, "cpu.weight", str(weight))
+                 for path, weight in weights_of(scenario, amounts).items()]
+    return replace(scenario, settings=[*made, *limits_of(scenario, amounts, way)])
+
+
+@dataclass(frozen=True)
+class Job:
+    """One run: a scenario held in a way."""
+
+    scenario: Scenario
+    way: Way
+    repeat: int
+    span: layout.Span
+
+    def key(self, kernel: packages.Kernel) -> str:
+        """The name of the run."""
+        return f"{self.scenario.name} {kernel.name} {self.way.name} {self.repeat + 1}"
+
+    def script(self) -> str:
+        """The script of the guest."""
+        beside = loop_line(self.scenario, self.way) if self.way.is_loop else ""
+        return layout.script(held_by(self.scenario, self.way), self.span, beside)
+
+
+def span_of(way: Way, options: argparse.Namespace, repeat: int) -> layout.Span:
+    """How long a run is watched. The loop settles for two rounds more."""
+    settle = options.settle + (2 if way.is_loop else 0)
+    return layout.Span(options.seconds, settle, LATER * repeat, has_grid=False)
+
+
+def ran(kernel: packages.Kernel, jobs: Sequence[Job], setting: machine.Setting
+        ) -> Iterator[dict[str, Any]]:
+    """Boots one guest for jobs of one board, and compares them with their plans."""
+    lines = lines_of(kernel, jobs[0].scenario.board, setting,
+                     [begun(job.script(), job.key(kernel)) for job in jobs],
+                     ARCHIVE if any(job.way.is_loop for job in jobs) else None)
+    told = rounds_in(lines)
+    runs = readings.runs([line for line in lines if not line.startswith("held ")])
+    for job, run in zip(jobs, runs, strict=True):
+        outcome = compare.outcome_of(job.scenario, run, job.span)
+        yield {"release": kernel.release, "way": job.way.name, "repeat": job.repeat,
+               "seconds": job.span.seconds, "rounds": told.get(run.key, []),
+               **brief(outcome), "refusal": refusal_of(outcome, job.way)}
+
+
+def refusal_of(outcome: compare.Outcome, way: Way) -> str:
+    """Why a run says nothing. The loop's own time is that of others, and is more."""
+    if way.is_loop and outcome.others <= MOST_OTHERS:
+        return replace(outcome, others=0).refusal
+    return outcome.refusal
+
+
+def brief(outcome: compare.Outcome) -> dict[str, Any]:
+    """What the table needs of an outcome."""
+    data = outcome.as_data()
+    kept = ("scenario", "key", "refusal", "stolen", "idle", "others", "kernel")
+    lines = [{key: line[key] for key in ("path", "plan", "share", "had")}
+             for line in data["lines"]]
+    return {**{key: data[key] for key in kept}, "leaves": sorted(outcome.scenario.leaves),
+            "processors": outcome.scenario.processors, "lines": lines}
+
+
+def shown(found: dict[str, Any]) -> str:
+    """One run in one line."""
+    offs = [line["had"] - line["share"] for line in found["lines"]
+            if line["path"] in found["leaves"]]
+    root = next(line for line in found["lines"] if line["path"] == ".")
+    worst = max(offs, key=abs)
+    return (f"{found['key']}: worst {worst:+.1f}, served {100 * root['had'] / root['share']:.1f} %,"
+            f" others {100 * found['others']:.1f} % {found['refusal']}")
+
+
+def arguments(words: Sequence[str]) -> argparse.Namespace:
+    """The words of the command line."""
+    parser = argparse.ArgumentParser(prog="laboratory.held", description=__doc__.splitlines()[0])
+    parser.add_argument("sources", nargs="+", metavar="SCENARIO")
+    parser.add_argument("--kernels", default=",".join(packages.KERNELS), metavar="NAME,..")
+    parser.add_argument("--ways", default=",".join(WAYS), metavar="NAME,..")
+    parser.add_argument("--repeats", type=int, default=1)
+    parser.add_argument("--first", type=int, default=0, help="number of the first repeat, from 0")
+    parser.add_argument("--seconds", type=float, default=10)
+    parser.add_argument("--settle", type=float, default=1)
+    parser.add_argument("--boot", type=int, default=6, help="runs of each boot")
+    parser.add_argument("--save", metavar="FILE", help="add each run to a file, as JSON lines")
+    return parser.parse_args(words)
+
+
+def batches(jobs: Sequence[Job], boot: int) -> Iterator[list[Job]]:
+    """The jobs of each boot, in order."""
+    found: list[Job] = []
+    for job in jobs:
+        if found and (len(found) == boot or job.scenario.board != found[0].scenario.board):
+            yield found
+            found = []
+        found.append(job)
+    if found:
+        yield found
+
+
+def work(words: Sequence[str]) -> int:
+    """Runs all, and returns the exit status."""
+    options = arguments(words)
+    ways = [WAYS[name] for name in options.ways.split(",")]
+    lacks = packages.missing()
+    if lacks:
+        raise faults.KernelFault(lacks)
+    begin()
+    refused = 0
+    for kernel in [packages.kernel(name) for name in options.kernels.split(",")]:
+        jobs = [Job(each, way, repeat, span_of(way, options, repeat))
+                for each in sources(options.sources) for way in ways
+                for repeat in range(options.first, options.first + options.repeats)]
+        for batch in batches(jobs, options.boot):
+            for found in ran(kernel, batch, machine.Setting(batch[0].scenario.board.shift)):
+                print(shown(found), flush=True)
+                refused += bool(found["refusal"])
+                if options.save:
+                    add(options.save, found)
+    return 1 if refused else 0
+
+
+def add(path: str, found: dict[str, Any]) -> None:
+    """Adds a run to a file, compressed if its name ends in .gz."""
+    with (gzip.open if path.endswith(".gz") else open)(path, "at", encoding="utf-8") as file:
+        file.write(json.dumps(found) + "\n")
+
+
+def main() -> int:
+    """The command, with its faults in one line."""
+    try:
+        return work(sys.argv[1:])
+    except faults.KernelFault as fault:
+        print(f"laboratory.held: {fault}", file=sys.stderr)
+        return 2
+
+
+if __name__ == "__main__":
+    sys.exit(main())

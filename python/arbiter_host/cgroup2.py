@@ -1,0 +1,166 @@
+"""The files of one group of cgroup v2, as the kernel shows them or a copy of them. Only reads."""
+from __future__ import annotations
+
+import os
+import re
+import stat
+
+from arbiter_host import units
+from arbiter_host.demands import Reading
+from arbiter_host.faults import HostFault, strerror
+from arbiter_host.model import Group
+from arbiter_host.names import shown
+
+MAX_FILE = 1 << 20
+# The file that a group has if the controller is enabled for it.
+MARK = "cpu.weight"
+
+
+def file_text(folder: str | int, name: str) -> str | None:
+    """The text of a plain file of a folder, given by its path or a descriptor; None where there is
+    none or it cannot be read."""
+    above = folder if isinstance(folder, int) else None
+    try:
+        descriptor = os.open(name if isinstance(folder, int) else os.path.join(folder, name),
+                             os.O_RDONLY | os.O_NONBLOCK | os.O_CLOEXEC, dir_fd=above)
+        with os.fdopen(descriptor, "rb") as file:
+            if stat.S_ISREG(os.fstat(descriptor).st_mode):
+                return file.read(MAX_FILE).decode(errors="replace")
+    except (OSError, ValueError):
+        pass
+    return None
+
+
+def number_in(text: str | None) -> int | None:
+    """The whole number of a text, if it is one of at most 30 digits."""
+    word = (text or "").strip()
+    return int(word) if word.isascii() and word.isdigit() and len(word) <= 30 else None
+
+
+def keyed(text: str | None) -> dict[str, int]:
+    """The numbers of a text with a key and a number in each line."""
+    pairs = {}
+    for line in (text or "").split("\n"):
+        words = line.split()
+        number = number_in(words[1]) if len(words) == 2 else None
+        if number is not None:
+            pairs[words[0]] = number
+    return pairs
+
+
+def counters(stat_text: str | None, pressure_text: str | None) -> Reading:
+    """The counters of the texts of `cpu.stat` and `cpu.pressure`."""
+    stat_ = keyed(stat_text)
+    waited = re.search(r"^some .*\btotal=([0-9]{1,20})", pressure_text or "", re.M)
+    return Reading(stat_.get("usage_usec"), stat_.get("nr_periods"), stat_.get("nr_throttled"),
+                   int(waited.group(1)) if waited else None)
+
+
+def reading(folder: str | int) -> Reading:
+    """Reads the counters of a group."""
+    return counters(file_text(folder, "cpu.stat"), file_text(folder, "cpu.pressure"))
+
+
+def task_count(folder: str | int) -> int | None:
+    """Counts cgroup.threads, and cgroup.procs where that cannot be read."""
+    text = file_text(folder, "cgroup.threads")
+    text = file_text(folder, "cgroup.procs") if text is None else text
+    return None if text is None else len(text.split())
+
+
+def set_number(group: Group, key: str, value: int | None, bounds: tuple[int, int], file: str,
+               notes: list[str]) -> None:
+    """Sets a number within its range; notes where the file held another."""
+    if value is None:
+        notes.append(f"{group.path}: {file} cannot be read as a number: the default is taken")
+        return
+    taken = min(max(value, bounds[0]), bounds[1])
+    if taken != value:
+        notes.append(f"{group.path}: {file} is {value}: {taken} is taken")
+    setattr(group, key, taken)
+
+
+def set_weight(group: Group, text: str | None, notes: list[str]) -> None:
+    """Sets the weight of a cpu.weight."""
+    if text is None:
+        notes.append(f"{group.path}: no cpu.weight: 100 is taken")
+    elif text.strip() == "0":
+        notes.append(f"{group.path}: idle (cpu.weight 0): 1 is taken")
+        group.weight = 1
+    else:
+        bounds = (units.MIN_WEIGHT, units.MAX_WEIGHT)
+        set_number(group, "weight", number_in(text), bounds, "cpu.weight", notes)
+
+
+def set_maximum(group: Group, text: str | None, notes: list[str]) -> None:
+    """Sets quota and period of a cpu.max."""
+    words = (text or "").split()
+    if text is None:
+        notes.append(f"{group.path}: no cpu.max: no limit is taken")
+    elif len(words) != 2 or words[0] != "max" and number_in(words[0]) is None:
+        notes.append(f"{group.path}: cpu.max is {text.strip()[:40]!r}: no limit is taken")
+    else:
+        bounds = (units.MIN_PERIOD, units.MAX_PERIOD)
+        set_number(group, "period", number_in(words[1]), bounds, "the period of cpu.max", notes)
+        if words[0] != "max":
+            limits = (units.MIN_QUOTA, units.MAX_QUOTA)
+            set_number(group, "quota", number_in(words[0]), limits, "cpu.max", notes)
+
+
+def read_settings(group: Group, folder: int, notes: list[str]) -> None:
+    """Reads cpu.weight, cpu.max and cpu.max.burst; notes what is missing or out of range."""
+    burst = file_text(folder, "cpu.max.burst")
+    set_weight(group, file_text(folder, MARK), notes)
+    set_maximum(group, file_text(folder, "cpu.max"), notes)
+    if burst is not None:
+        most = units.MAX_QUOTA if group.quota is None else group.quota
+        set_number(group, "burst", number_in(burst), (0, most), "cpu.max.burst", notes)
+
+
+def is_bound(folder: int) -> bool:
+    """Whether a group keeps to CPUs of its own."""
+    return bool((file_text(folder, "cpuset.cpus") or "").strip())
+
+
+def top_notes(folder: str) -> list[str]:
+    """Notes of a controller that is not enabled, and of the top's own limit."""
+    notes = []
+    enabled = file_text(folder, "cgroup.subtree_control")
+    if enabled is not None and "cpu" not in enabled.split():
+        notes.append(f"{shown(folder)}: the cpu controller is not enabled here"
+                     " (cgroup.subtree_control)")
+    limit = file_text(folder, "cpu.max")
+    if limit is not None and not limit.startswith("max"):
+        notes.append(f"cpu.max of {shown(folder)} itself is {shown(limit.strip())}: the root"
+                     " has no limit but the CPUs")
+    return notes
+
+
+def is_tree(folder: str) -> bool:
+    """Whether a folder is the top of a tree of cgroup v2."""
+    stat_ = keyed(file_text(folder, "cpu.stat"))
+    return "usage_usec" in stat_ or file_text(folder, "cgroup.controllers") is not None
+
+
+def check_folder(folder: str) -> None:
+    """A fault where a folder cannot be read."""
+    try:
+        os.listdir(folder)
+    except (OSError, ValueError) as error:
+        why = strerror(error) if isinstance(error, OSError) else "no path"
+        raise HostFault(f"{shown(folder)}: {why}") from error
+
+
+def check_tree(folder: str) -> None:
+    """A fault where a folder is no tree of cgroup v2."""
+    check_folder(folder)
+    if is_tree(folder):
+        return
+    unified = os.path.join(folder, "unified")
+    controllers = file_text(unified, "cgroup.controllers") or ""
+    why = f"; {shown(unified)} is one" if "cpu" in controllers.split() else ""
+    if not why and any(file_text(os.path.join(folder, each), "cpu.shares") is not None
+                       for each in ("", "cpu")):
+        why = "; cgroup v1 is not read"
+    raise HostFault(f"{shown(folder)}: neither a cpu.stat with usage_usec nor cgroup.controllers,"
+                    f" so no cgroup tree{why}")
