@@ -204,7 +204,7 @@ def test_many_ranges_are_cut(engine):
     model = host(8, *((f"g{at}", 50 + 8 * at, 1000, 1) for at in range(25)))
     found = lines(engine, model)
     assert len(found) == 3 + 20 + 1
-    assert found[-1] == "  and 5 with narrower ranges; --json has all"
+    assert found[-1] == "  and 5 with narrower ranges; -o json has all"
 
 
 def test_data_of_explain(engine):
