@@ -313,19 +313,7 @@ def fill(options: argparse.Namespace) -> argparse.Namespace:
     for each in TABLE:
         there.setdefault(each.dest, each.default_of(asked))
     options.given = given
-    bridge(options)
     return options
-
-
-def bridge(options: argparse.Namespace) -> None:
-    """Sets what readers of sources still ask for by names that are no longer options."""
-    there, read = vars(options), readings(options.read or "2x1s")
-    used, form = (options.used or [""])[0], form_of_used(options)
-    for dest, value in {
-            "interval": read.time, "samples": read.number or 2, "later": [], "own": False,
-            "depth_read": MAX_DEPTH, "usage": used if form == "file" else None,
-            "cgroup": used if form == "folder" else None}.items():
-        there.setdefault(dest, value)
 
 
 def form_of_used(options: argparse.Namespace) -> str:

@@ -11,7 +11,7 @@ from pathlib import Path
 
 import pytest
 import trees
-from arbiter_host import load
+from arbiter_host import load, plain_files
 from places import PACKAGE
 
 ROOT = PACKAGE.parent
@@ -400,9 +400,9 @@ def test_small_memory(ctl, folder, from_input):
 
 def test_largest_file(monkeypatch):
     """A file of `MAX_FILE` bytes is read whole; one byte more shows that it is longer."""
-    monkeypatch.setattr(load, "MAX_FILE", 5)
-    monkeypatch.setattr(load, "PIECE", 2)
-    read = [load.bounded(io.BytesIO(b"x" * length)) for length in (0, 4, 5, 6, 9)]
+    monkeypatch.setattr(plain_files, "MAX_FILE", 5)
+    monkeypatch.setattr(plain_files, "PIECE", 2)
+    read = [plain_files.bounded(io.BytesIO(b"x" * length)) for length in (0, 4, 5, 6, 9)]
     assert [len(each) for each in read] == [0, 4, 5, 6, 6]
 
 

@@ -13,7 +13,7 @@ import pytest
 import reading
 import trees
 from arbiter import Host
-from arbiter_host import demands, load, looks, units
+from arbiter_host import demands, load, looks, plain_files, units
 from arbiter_host.faults import HostFault
 from arbiter_host.model import Group, Model
 from arbiter_host.plan import plan
@@ -486,7 +486,7 @@ def test_packed_files_are_named(folder):
     """One line says what unpacks them."""
     (folder / "pods.json.gz").write_bytes(gzip.compress(b"{}"))
     with pytest.raises(HostFault, match="pods.json.gz: packed by gzip: unpack it first, as by"):
-        load.file_bytes(str(folder / "pods.json.gz"))
+        plain_files.file_bytes(str(folder / "pods.json.gz"))
 
 
 @pytest.mark.parametrize("form", ["utf-16-le", "utf-16-be", "utf-8"])
@@ -515,7 +515,7 @@ def test_what_is_no_source_has_no_plan(ctl):
 def test_wide_text_that_is_none_is_left(folder):
     """Bytes with the mark that are no UTF-16 are read as they are, and refused."""
     (folder / "h.toml").write_bytes(b"\xff\xfe\x00\xd8")
-    assert load.file_bytes(str(folder / "h.toml")) == b"\xff\xfe\x00\xd8"
+    assert plain_files.file_bytes(str(folder / "h.toml")) == b"\xff\xfe\x00\xd8"
 
 
 # Kubernetes

@@ -9,7 +9,7 @@ from contextlib import closing
 from dataclasses import replace
 from typing import Any
 
-from arbiter_host import change, load, names, options as table, progress
+from arbiter_host import change, load, names, options as table, plain_files, progress
 from arbiter_host.faults import HostFault, NothingFound, UsageFault
 from arbiter_host.fleet import answers, hosts, pending, pool, report
 from arbiter_host.fleet.figures import Host
@@ -19,13 +19,12 @@ from arbiter_host.fleet.work import Item
 from arbiter_host.model import Group, Model
 from arbiter_host.output import json_text, warn, write_forms
 from arbiter_host.plan import Engine, engine_of
-from arbiter_host.sources import used
+from arbiter_host.sources import by_options, used
 from arbiter_host.sources.samples import History
 
 # What a worker reads of the options. What was used goes to each host with its pods.
 READING = ("kind", "want", "scale", "node", "node_weights", "strict", "cpus", "period", "slice",
-           "interval", "samples", "later", "own", "depth_read")
-OF_NO_HOST: dict[str, Any] = {"used": [], "usage": None, "cgroup": None}
+           "read")
 Samples = Callable[[HostFile], History]
 Missing = list[tuple[str, str]]
 
@@ -67,7 +66,7 @@ def job_of(options: argparse.Namespace, fleet: Fleet) -> Job:
     if options.asked == "diff" and not options.set:
         raise UsageFault("diff of many hosts takes --set")
     check_sets(options.set)
-    reading = {**{key: getattr(options, key, None) for key in READING}, **OF_NO_HOST}
+    reading: dict[str, Any] = {key: getattr(options, key) for key in READING} | {"used": []}
     if fleet.is_cluster:
         reading["kind"] = "kubernetes"
         if used.words_of(options) and options.asked != "replay":
@@ -76,9 +75,9 @@ def job_of(options: argparse.Namespace, fleet: Fleet) -> Job:
     library = options.library
     if library and "/" in library:
         library = os.path.abspath(library)
-    pods = [[names.shown(path), base64.b64encode(load.file_bytes(path)).decode()]
+    pods = [[names.shown(path), base64.b64encode(plain_files.file_bytes(path)).decode()]
             for path in options.pod]
-    sample = load.time_option(options.step, "--step") if options.step else 0
+    sample = by_options.time_option(options.step, "--step") if options.step else 0
     return Job(options.asked, reading, list(options.set), pods, options.unit, sample,
                used.mapped(options.map), used.is_served(options), library)
 
@@ -102,7 +101,7 @@ def items_of(found: Sequence[HostFile], samples: Samples | None,
     """What is sent of each host. One that cannot be read is missing."""
     for host in found:
         try:
-            data = load.file_bytes(host.path, True) if host.data is None else host.data
+            data = plain_files.file_bytes(host.path, True) if host.data is None else host.data
             yield Item(host.name, host.path, data, samples(host) if samples else None)
         except HostFault as fault:
             missing.append((host.name, fault.message))

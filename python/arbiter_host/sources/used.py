@@ -11,11 +11,11 @@ import os
 from collections.abc import Callable, Sequence
 from fractions import Fraction
 
-from arbiter_host import demands, load, looks, options as table, units
+from arbiter_host import demands, looks, options as table, plain_files, units
 from arbiter_host.faults import HostFault, UsageFault
 from arbiter_host.names import shown
 from arbiter_host.owned import Owned
-from arbiter_host.sources import prometheus, samples, usage
+from arbiter_host.sources import by_options, prometheus, samples, usage
 from arbiter_host.sources.measurable import Measurable
 from arbiter_host.sources.samples import History, Sample
 from arbiter_host.sources.usage import Used
@@ -26,15 +26,14 @@ KEPT = 64
 
 def words_of(options: argparse.Namespace) -> list[str]:
     """The words of `--used`."""
-    found: list[str] = getattr(options, "used", [])
-    return found or [each for each in (options.usage, options.cgroup) if each is not None]
+    words: list[str] = options.used
+    return words
 
 
 def without(options: argparse.Namespace, kind: str) -> argparse.Namespace:
     """The options without `--used`, after they were checked: the source is read as it is."""
     table.check(options, kind)
-    return argparse.Namespace(**{**vars(options), "used": [], "usage": None, "cgroup": None,
-                                 "given": frozenset()})
+    return argparse.Namespace(**{**vars(options), "used": [], "given": frozenset()})
 
 
 def name(options: argparse.Namespace) -> str:
@@ -77,7 +76,7 @@ def check_input(options: argparse.Namespace) -> None:
 def bytes_of(options: argparse.Namespace, word: str) -> bytes:
     """The bytes of a file of `--used`."""
     check_input(options)
-    return load.standard_input() if word == "-" else load.file_bytes(word)
+    return plain_files.standard_input() if word == "-" else plain_files.file_bytes(word)
 
 
 def asked_range(options: argparse.Namespace) -> prometheus.Range:
@@ -140,7 +139,7 @@ def entry_of(column: str, values: tuple[Fraction, ...]) -> Used:
 def entries_of(options: argparse.Namespace, found: History) -> list[Used]:
     """An entry for each column of samples. A column without a number in a sample has none there."""
     unit = options.unit if options.asked == "recommend" else "cpu"
-    host, mapping = load.machine(options), mapped(options.map)
+    host, mapping = by_options.machine(options), mapped(options.map)
     values: dict[str, list[Fraction]] = {}
     for each in found.samples:
         for column, demand in each.demands(unit, host).items():
@@ -176,7 +175,7 @@ def measured_by(options: argparse.Namespace) -> Callable[[Measurable], Owned] | 
     def measured(source: Measurable) -> Owned:
         if not is_tree(options):
             return source.with_usage(entries(options), name(options))
-        return source.with_readings(*looks.measured_at(words_of(options), load.times_of(options),
+        return source.with_readings(*looks.measured_at(words_of(options), by_options.times_of(options),
                                                        source.folders()))
 
     return measured
@@ -189,7 +188,7 @@ def of_folder(folder: str) -> Callable[[str], History]:
     @functools.lru_cache(maxsize=KEPT)
     def of_host(host: str) -> History:
         path = os.path.join(folder, f"{host}.csv")
-        return samples.read_csv(load.file_bytes(path, True), shown(path))
+        return samples.read_csv(plain_files.file_bytes(path, True), shown(path))
 
     return of_host
 

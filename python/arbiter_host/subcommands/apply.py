@@ -8,7 +8,8 @@ import time
 from collections.abc import Iterable, Iterator, Sequence
 from contextlib import contextmanager, suppress
 
-from arbiter_host import apply, change, exports, load, names, options as table, output, record
+from arbiter_host import (apply, change, exports, load, names, options as table, output,
+                          plain_files, record)
 from arbiter_host import safe_files
 from arbiter_host.exports import files
 from arbiter_host.faults import HostFault, UsageFault
@@ -123,7 +124,7 @@ def set_host(options: argparse.Namespace, asked: tuple[list[apply.Change], list[
 def run_undo(options: argparse.Namespace) -> None:
     """Prints the steps back; with --yes makes them."""
     name = names.shown(options.file)
-    content = load.file_bytes(options.file, is_trusted=True)
+    content = plain_files.file_bytes(options.file, is_trusted=True)
     back = apply.read_undo(content, name, options.force)
     try:
         if not options.yes:

@@ -15,7 +15,7 @@ from arbiter_host.looks import Look, Times
 from arbiter_host.model import Model
 from arbiter_host.names import shown
 from arbiter_host.output import json_text, write_forms
-from arbiter_host.sources import prometheus, used
+from arbiter_host.sources import by_options, prometheus, used
 from arbiter_host.subcommands.base import Subcommand, found_engine, source_name
 
 
@@ -63,7 +63,7 @@ def of_trees(asked: argparse.Namespace) -> list[Look]:
             raise UsageFault(f"{shown(folder)}: no folder: a source that is no tree takes --used")
     options.check(asked, "cgroup")
     times = times_of(asked, len(folders) == 1)
-    seen = looks.looks_at(folders, host_of(asked)(load.machine(asked)), times, has_threads=True)
+    seen = looks.looks_at(folders, host_of(asked)(by_options.machine(asked)), times, has_threads=True)
     return intervals.collected(seen, times.number or 0 if len(folders) == 1 else len(folders))
 
 

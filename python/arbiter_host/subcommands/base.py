@@ -60,29 +60,3 @@ def view_of(options: argparse.Namespace, chosen: frozenset[str] | None = None) -
         raise UsageFault(f"--depth: 0 to {MAX_DEPTH}")
     return View(states, options.sort or "", options.depth, options.unit, text.terminal_width(),
                 options.everything, chosen)
-
-
-def add_view_options(parser: argparse.ArgumentParser) -> None:
-    """The options that say what is shown."""
-    group = parser.add_argument_group("view")
-    group.add_argument("--only", dest="state", metavar="WORD,..", help="groups that are one of: "
-                       + ", ".join(explain.ONLY))
-    group.add_argument("--sort", choices=tuple(explain.SORTS), help="order of the groups")
-    group.add_argument("--depth", type=int, default=MAX_DEPTH, metavar="N",
-                       help="leave out groups more than N below the root, 0 to 64")
-    group.add_argument("--unit", choices=text.UNITS, default="cpu", help="unit (default cpu)")
-    group.add_argument("--all", dest="everything", action="store_true",
-                       help="show groups that ask for nothing too")
-    group.add_argument("--json", action="store_true", help="print the same as JSON")
-
-
-def add_reading_options(parser: argparse.ArgumentParser) -> None:
-    """The options of all that reads a source: of the host, the engine and the source."""
-    load.add_host_options(parser)
-    load.add_source_options(parser)
-
-
-def add_answer_options(parser: argparse.ArgumentParser) -> None:
-    """The options that all tables have."""
-    add_view_options(parser)
-    add_reading_options(parser)

@@ -12,10 +12,11 @@ from dataclasses import replace
 from typing import TYPE_CHECKING
 
 from arbiter import Host
-from arbiter_host import hold, load, looks, options, output, record, safe_files
+from arbiter_host import hold, looks, options, output, record, safe_files
 from arbiter_host.faults import HostFault, UsageFault
 from arbiter_host.model import MAX_CAPACITY, MAX_DEPTH
 from arbiter_host.notify import Notifier
+from arbiter_host.sources import by_options
 from arbiter_host.subcommands.base import Subcommand, found_engine
 
 if TYPE_CHECKING:
@@ -139,11 +140,11 @@ def machine(asked: argparse.Namespace, root: safe_files.Root) -> Host:
     Without --slice a host that has too many slices of 1 ms for the planner has slices of 10 ms.
     """
     there = os.cpu_count()
-    period = PERIOD if asked.period is None else load.time_option(asked.period, "--period")
+    period = PERIOD if asked.period is None else by_options.time_option(asked.period, "--period")
     fine = Host(there or 1, PERIOD, SLICE)
     if (asked.cpus or fine.processors) * period > MAX_CAPACITY * SLICE:
         fine = replace(fine, slice_us=10 * SLICE)
-    host = load.chosen_host(asked, fine)
+    host = by_options.of_host(asked).host(fine)
     if is_real(root) and there is not None and host.processors > there:
         raise UsageFault(f"--cpus {host.processors}: this machine has {there}")
     return host

@@ -8,7 +8,7 @@ from arbiter_host.fleet import questions
 from arbiter_host.model import Model
 from arbiter_host.plan import Engine
 from arbiter_host.series import Series
-from arbiter_host.sources import used
+from arbiter_host.sources import by_options, used
 from arbiter_host.sources.usage import some
 from arbiter_host.subcommands.base import Subcommand, found_engine, source_name
 
@@ -16,7 +16,7 @@ def periods_of(options: argparse.Namespace, model: Model) -> int:
     """The periods of one sample: 1, those of `--step`, or of a server's."""
     if not options.step and not used.is_served(options):
         return 1
-    usec = (load.time_option(options.step, "--step") if options.step
+    usec = (by_options.time_option(options.step, "--step") if options.step
             else round(used.asked_range(options).step * 10**6))
     return series.sample_periods(usec, model.host.period_us)
 

@@ -17,6 +17,7 @@ from arbiter_host.explain import View
 from arbiter_host.faults import Alerted, HostFault, UsageFault, strerror
 from arbiter_host.names import shown
 from arbiter_host.plan import Plan, plan
+from arbiter_host.sources import by_options
 from arbiter_host.subcommands.base import Subcommand, found_engine, view_of
 
 if TYPE_CHECKING:
@@ -35,7 +36,7 @@ def reader(asked: argparse.Namespace,
     by, paths = found_engine(asked), asked.source or [looks.HOST_TREE]
     if len(paths) == 1 and os.path.isdir(paths[0]) and asked.kind in (None, "cgroup"):
         options.check(asked, "cgroup")
-        tree = looks.Tree(paths[0], load.machine(asked), time.monotonic)
+        tree = looks.Tree(paths[0], by_options.machine(asked), time.monotonic)
         return top.Watched(by, tree, asked.want or "psi").round, 1
     if "-" in paths:
         raise UsageFault("standard input is read once: top takes files or a folder")

@@ -1,0 +1,37 @@
+"""What options say of the host of a source, and of how often a tree is read."""
+from __future__ import annotations
+
+import argparse
+
+from arbiter import Host
+from arbiter_host import looks, units
+from arbiter_host.faults import HostFault, UsageFault
+from arbiter_host.names import shown
+from arbiter_host.sources.wish import Wish
+
+
+def time_option(text: str, option: str) -> int:
+    """The microseconds of an option."""
+    try:
+        return units.parse_time(text)
+    except HostFault as fault:
+        raise UsageFault(f"{option}: {shown(fault.message)}") from fault
+
+
+def of_host(options: argparse.Namespace) -> Wish:
+    """What is asked of the host alone."""
+    period, slice_ = (None if getattr(options, name) is None
+                      else time_option(getattr(options, name), f"--{name}")
+                      for name in ("period", "slice"))
+    return Wish(options.cpus, period, slice_)
+
+
+def machine(options: argparse.Namespace) -> Host:
+    """This machine with slices of 1 ms, with the options in its place."""
+    return of_host(options).machine()
+
+
+def times_of(options: argparse.Namespace) -> looks.Times:
+    """How often a source is read: twice where that is not said."""
+    times = looks.times_of(options.read or "2x1s")
+    return times if times.number else times._replace(number=2)

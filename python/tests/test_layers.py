@@ -1,0 +1,100 @@
+"""The graph of imports: each module stands in a layer, and leans on no layer above it."""
+import ast
+
+import pytest
+from places import PACKAGE
+
+# From the lowest on. A folder stands for all its modules.
+LAYERS = {
+    "base": "faults names options progress search safe_files atomic_files plain_files output units"
+            " model demands owned plan text svg html",
+    "sources": "sources cgroup2 hunger looks load change choosing",
+    "answers": "balancer placement explain diff report picture series",
+    "setting": "apply record",
+    "features": "audit fleet hold top recommend tune exports",
+    "subcommands": "helps subcommands command __main__",
+}
+# The modules of a feature beside the one of its name. No feature leans on another.
+PARTS = {
+    "tune": "goals knobs tune_weights tune_settings other_limits",
+    "hold": "weights notify",
+    "top": "live metrics",
+}
+ORDER = list(LAYERS)
+FEATURE = {part: feature for feature, parts in PARTS.items() for part in parts.split()}
+LAYER = {name: layer for layer, names in LAYERS.items() for name in names.split()}
+LAYER |= {part: "features" for part in FEATURE}
+
+
+def modules():
+    """The modules of the package by their names below it, without its own `__init__`."""
+    top = PACKAGE / "arbiter_host"
+    names = {}
+    for path in sorted(top.rglob("*.py")):
+        name = ".".join(path.relative_to(top).with_suffix("").parts)
+        names[name.removesuffix(".__init__")] = path
+    del names["__init__"]
+    return names
+
+
+MODULES = modules()
+
+
+def for_types(tree):
+    """The imports that a checker of types alone reads."""
+    return {id(each) for node in ast.walk(tree) if isinstance(node, ast.If)
+            and getattr(node.test, "id", "") == "TYPE_CHECKING" for each in ast.walk(node)}
+
+
+def imported(path):
+    """The modules of the package that one imports, also within its functions."""
+    tree = ast.parse(path.read_text(encoding="utf-8"))
+    left, found = for_types(tree), set()
+    for node in ast.walk(tree):
+        if not isinstance(node, ast.ImportFrom) or id(node) in left:
+            continue
+        package, _, place = node.module.partition(".")
+        if package != "arbiter_host":
+            continue
+        for each in node.names:
+            below = f"{place}.{each.name}".lstrip(".")
+            found.add(below if below in MODULES else place)
+    return found - {""}
+
+
+EDGES = [(name, other) for name, path in MODULES.items() for other in imported(path)]
+
+
+def head(name):
+    """The first part of a module's name."""
+    return name.partition(".")[0]
+
+
+def test_each_module_has_its_layer():
+    assert {head(name) for name in MODULES} == set(LAYER)
+
+
+@pytest.mark.parametrize("layer", ORDER)
+def test_nothing_leans_upward(layer):
+    """A module imports none of a layer above its own."""
+    above = ORDER[ORDER.index(layer) + 1:]
+    assert [edge for edge in EDGES
+            if LAYER[head(edge[0])] == layer and LAYER[head(edge[1])] in above] == []
+
+
+def test_features_know_no_feature():
+    """What two features need stands below both."""
+    def feature(name):
+        return FEATURE.get(head(name), head(name))
+
+    assert [edge for edge in EDGES if all(LAYER[head(each)] == "features" for each in edge)
+            and feature(edge[0]) != feature(edge[1])] == []
+
+
+def test_no_module_leans_on_itself():
+    """There is no way round from a module to itself."""
+    below = {name: imported(path) for name, path in MODULES.items()}
+    while below:
+        free = {name for name, others in below.items() if not others & below.keys() - {name}}
+        assert free, sorted(below)
+        below = {name: others for name, others in below.items() if name not in free}
