@@ -175,8 +175,8 @@ def measured_by(options: argparse.Namespace) -> Callable[[Measurable], Owned] | 
     def measured(source: Measurable) -> Owned:
         if not is_tree(options):
             return source.with_usage(entries(options), name(options))
-        return source.with_readings(*looks.measured_at(words_of(options), by_options.times_of(options),
-                                                       source.folders()))
+        times = by_options.times_of(options)
+        return source.with_readings(*looks.measured_at(words_of(options), times, source.folders()))
 
     return measured
 

@@ -63,7 +63,8 @@ def of_trees(asked: argparse.Namespace) -> list[Look]:
             raise UsageFault(f"{shown(folder)}: no folder: a source that is no tree takes --used")
     options.check(asked, "cgroup")
     times = times_of(asked, len(folders) == 1)
-    seen = looks.looks_at(folders, host_of(asked)(by_options.machine(asked)), times, has_threads=True)
+    host = host_of(asked)(by_options.machine(asked))
+    seen = looks.looks_at(folders, host, times, has_threads=True)
     return intervals.collected(seen, times.number or 0 if len(folders) == 1 else len(folders))
 
 
