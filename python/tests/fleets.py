@@ -5,10 +5,8 @@ from types import SimpleNamespace
 from arbiter_host.fleet import hosts, questions
 from arbiter_host.fleet.job import Job
 
-READING = {"kind": None, "want": None, "scale": [], "interval": "1s", "samples": 2, "later": [],
-           "own": False, "depth_read": 64, "node": "", "conversion": "linear", "kubelet": None,
-           "runtime": None, "driver": "systemd", "strict": False, "cpus": None, "period": None,
-           "slice": None, "node_weights": "linear", "used": [], "usage": None, "cgroup": None}
+READING = {"kind": None, "want": None, "scale": [], "read": None, "node": "", "strict": False,
+           "cpus": None, "period": None, "slice": None, "node_weights": "linear", "used": []}
 
 
 def script(number, groups):
