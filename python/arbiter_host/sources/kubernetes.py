@@ -216,33 +216,33 @@ def amount_of(setting: Setting) -> int | None:
         raise setting.fault(fault.message) from fault
 
 
+def refusal_of(pod: Pod, container: Container) -> tuple[str, str]:
+    """Why Kubernetes takes no such request or limit of a container: what is in the way of a greater
+    one, and the whole reason; both empty where it takes them."""
+    request, limit = container.amounts.request or 0, container.amounts.limit
+    if limit is not None and request > limit:
+        return "its limit", f"its request {request}m is above its limit {limit}m"
+    if pod.own.request is not None and requested(pod.parts, "request") > pod.own.request:
+        return ("all that its pod requests", "the requests of its pod's containers are above the"
+                f" request {pod.own.request}m of the pod itself")
+    if pod.own.limit is not None and (limit or 0) > pod.own.limit:
+        return ("the limit of its pod", f"its limit {limit}m is above the limit {pod.own.limit}m of"
+                " the pod itself")
+    return "", ""
+
+
 def hindrance_of(pod: Pod, container: Container, room: int | None) -> str:
     """What is in the way of a greater request or limit of a container; empty for nothing."""
-    amounts = container.amounts
-    if amounts.limit is not None and (amounts.request or 0) > amounts.limit:
-        return "its limit"
-    if pod.own.request is not None and requested(pod.parts, "request") > pod.own.request:
-        return "all that its pod requests"
-    if pod.own.limit is not None and (amounts.limit or 0) > pod.own.limit:
-        return "the limit of its pod"
-    if room is not None and (pod.amounts.request or 0) > room:
-        return "all that the node has left"
-    return ""
+    is_over = room is not None and (pod.amounts.request or 0) > room
+    return refusal_of(pod, container)[0] or ("all that the node has left" if is_over else "")
 
 
 def check_amounts(pod: Pod, container: Container) -> None:
     """A fault where Kubernetes takes no such request or limit of a container."""
-    request, limit = container.amounts.request or 0, container.amounts.limit
-    where = shown(f"{pod.title}/{container.name}")
-    if limit is not None and request > limit:
-        raise HostFault(f"{where}: its request {request}m is above its limit {limit}m, which"
-                        " Kubernetes refuses")
-    if pod.own.request is not None and requested(pod.parts, "request") > pod.own.request:
-        raise HostFault(f"{where}: the requests of its pod's containers are above the request"
-                        f" {pod.own.request}m of the pod itself, which Kubernetes refuses")
-    if pod.own.limit is not None and (limit or 0) > pod.own.limit:
-        raise HostFault(f"{where}: its limit {limit}m is above the limit {pod.own.limit}m of the"
-                        " pod itself, which Kubernetes refuses")
+    _, why = refusal_of(pod, container)
+    if why:
+        where = shown(f"{pod.title}/{container.name}")
+        raise HostFault(f"{where}: {why}, which Kubernetes refuses")
 
 
 @dataclass(frozen=True)
