@@ -155,7 +155,7 @@ def test_a_tree_named_in_any_way(ctl, folder, monkeypatch, named):
     (folder / "link").symlink_to("t")
     monkeypatch.chdir(folder)
     named = named.format(here=folder.name, top=folder)
-    ctl.run("apply", named, "--later", named, "--cpus", "4", "--set", "a.weight=321", "--root",
+    ctl.run("apply", named, "--cpus", "4", "--set", "a.weight=321", "--root",
             "t", "--by", "files", "--yes", "--undo", "u")
     assert weights(folder, "t/a", "t/t/a") == [321, 100]
 
@@ -166,7 +166,7 @@ def test_a_tree_that_is_not_the_root(ctl, folder, monkeypatch):
         trees.root2(folder / top)
         trees.group2(folder / top / "a")
     monkeypatch.chdir(folder)
-    _, err = ctl.run("apply", "copy", "--later", "copy", "--cpus", "4", "--set", "a.weight=9",
+    _, err = ctl.run("apply", "copy", "--cpus", "4", "--set", "a.weight=9",
                      "--root", "t", "--by", "files", "--yes", "--undo", "u", status=1)
     assert err == f"arbiterctl: {folder}/copy/a: not below --root {folder}/t\n"
     assert weights(folder, "t/a", "t/copy/a", "copy/a") == [100] * 3

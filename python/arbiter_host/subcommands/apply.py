@@ -74,6 +74,8 @@ def run_apply(options: argparse.Namespace) -> None:
     outputs = table.outputs(options)
     forms = [each for each in outputs if each.form != "text"]
     check_words(options, outputs, forms)
+    # (what groups ask for has no part in a change: nothing is waited for)
+    options.want = "busy"
     sources = load.sources(options, options.source)
     if len(sources) > 2 or (len(sources) == 1) != bool(options.set):
         raise UsageFault("apply takes BEFORE and AFTER, or BEFORE and --set")
