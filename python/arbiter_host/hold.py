@@ -87,7 +87,7 @@ class Kept:
         return {self.stands, self.target} != {self.old}
 
 
-class Used(NamedTuple):
+class LeafUse(NamedTuple):
     """What a leaf used in a round, and whether it would have used more, in thousandths of a CPU."""
 
     thousandths: Fraction
@@ -105,7 +105,7 @@ class Used(NamedTuple):
         return self.thousandths if self.most is None else self.most
 
 
-class Round(NamedTuple):
+class Written(NamedTuple):
     """What a round writes: limits in slices and weights, by path; and the groups of its line."""
 
     limits: dict[str, int]
@@ -121,7 +121,7 @@ class WriteFault(HostFault):
     """A fault of a writing, which ends the loop. One of a reading may pass."""
 
 
-def used_between(leaf: Kept, now: Counted) -> Used:
+def used_between(leaf: Kept, now: Counted) -> LeafUse:
     """What a leaf used since its last reading, and whether it would have used more.
 
     It would if it was throttled, or if a task of it waited and hardly slept.
@@ -131,8 +131,8 @@ def used_between(leaf: Kept, now: Counted) -> Used:
         raise HostFault(f"{shown(leaf.folder)}: its reading is older than the last: nothing is"
                         " written")
     if not span.is_hungry(has_limit):
-        return Used(span.used, False)
-    return Used(span.used, True, span.most_wanted(has_limit))
+        return LeafUse(span.used, False)
+    return LeafUse(span.used, True, span.most_wanted(has_limit))
 
 
 def own_folder() -> str:
@@ -287,7 +287,7 @@ class Loop:
             return False
         return self.ways.has_weights or is_leaf
 
-    def read(self) -> tuple[Model, dict[str, Used]]:
+    def read(self) -> tuple[Model, dict[str, LeafUse]]:
         """The groups as they stand, and what each leaf used since the last reading of it."""
         look = self.tree.look()
         model = look.model
@@ -307,7 +307,7 @@ class Loop:
                 self.drop(path, model)
         return model, self.read_all(there, model)
 
-    def read_all(self, there: dict[str, bool], model: Model) -> dict[str, Used]:
+    def read_all(self, there: dict[str, bool], model: Model) -> dict[str, LeafUse]:
         """What each leaf used. New groups are opened, those that went are closed. `there` tells of
         each whether it is a leaf."""
         used, faults = {}, []
@@ -327,7 +327,7 @@ class Loop:
             raise faults[0]
         return used
 
-    def read_group(self, path: str) -> Used:
+    def read_group(self, path: str) -> LeafUse:
         """What a group used since its last reading."""
         kept = self.groups[path]
         self.look(kept, path)
@@ -346,7 +346,7 @@ class Loop:
             group.demand = amounts.get(path, Fraction(0))
         return model.rows(self.engine.library)
 
-    def planned(self, model: Model, used: dict[str, Used]) -> Round:
+    def planned(self, model: Model, used: dict[str, LeafUse]) -> Written:
         """The limits and weights of the next round, whose plan the proved check accepted."""
         rows = self.rows(model, {path: each.thousandths for path, each in used.items()})
         asks = self.rows(model, {path: each.asked for path, each in used.items()})
@@ -369,7 +369,7 @@ class Loop:
                 told[path] = {"want": found.demands[row], "plan": found.amounts[row],
                               "used": rows[row].demand, "limit": limit, "hungry": hungry,
                               "unserved": max(lacks, 0)}
-        return Round(limits, self.weights(model, limits, told), told)
+        return Written(limits, self.weights(model, limits, told), told)
 
     def weights(self, model: Model, limits: dict[str, int],
                 told: dict[str, dict[str, Any]]) -> dict[str, int]:
@@ -404,7 +404,7 @@ class Loop:
             return stands
         return replace(old, quota=most, period=period, burst=0)
 
-    def target_of(self, path: str, kept: Kept, found: Round) -> Settings:
+    def target_of(self, path: str, kept: Kept, found: Written) -> Settings:
         """What a group is to hold. A leaf without a limit of the rule holds what it holds."""
         if kept.is_left:
             return kept.old
@@ -418,7 +418,7 @@ class Loop:
             return target
         return replace(target, weight=found.weights.get(path, target.weight))
 
-    def write(self, found: Round) -> int:
+    def write(self, found: Written) -> int:
         """Writes a round, after what stood is on the disk. Returns how many groups changed."""
         changed = []
         for path, kept in self.groups.items():

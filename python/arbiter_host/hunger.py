@@ -16,7 +16,7 @@ MOST_TEXT = 1 << 16
 MOST_TASKS = 4096
 
 
-class Task(NamedTuple):
+class TaskTimes(NamedTuple):
     """Nanoseconds that a task ran, and that it waited for a CPU."""
 
     ran: int
@@ -24,10 +24,10 @@ class Task(NamedTuple):
 
 
 # The tasks of a group by their numbers.
-Tasks = dict[int, Task]
+Tasks = dict[int, TaskTimes]
 
 
-class Round(NamedTuple):
+class RoundTimes(NamedTuple):
     """A round of a group: its nanoseconds, and the microseconds used and waited in."""
 
     passed: int
@@ -37,11 +37,11 @@ class Round(NamedTuple):
     is_throttled: bool = False
 
 
-def task(number: int) -> Task | None:
+def task(number: int) -> TaskTimes | None:
     """What a task did; None where it is gone."""
     words = (file_text(f"{PROC}/{number}", "schedstat") or "").split()
     ran, waited = (number_in(word) for word in (words + ["", ""])[:2])
-    return None if ran is None or waited is None else Task(ran, waited)
+    return None if ran is None or waited is None else TaskTimes(ran, waited)
 
 
 def tasks(text: str) -> Tasks:
@@ -54,22 +54,22 @@ def tasks(text: str) -> Tasks:
     return found
 
 
-def rises(before: Tasks, now: Tasks) -> Iterator[Task]:
+def rises(before: Tasks, now: Tasks) -> Iterator[TaskTimes]:
     """What each task did that was there at both readings."""
     for number, two in now.items():
         one = before.get(number)
         if one is not None and one.ran <= two.ran and one.waited <= two.waited:
-            yield Task(two.ran - one.ran, two.waited - one.waited)
+            yield TaskTimes(two.ran - one.ran, two.waited - one.waited)
 
 
-def is_starved(each: Task, passed: int) -> bool:
+def is_starved(each: TaskTimes, passed: int) -> bool:
     """Whether a task would have run longer: it waited for a hundredth of a round or more, and slept
     for no longer than that and than a twentieth."""
     slept = passed - each.ran - each.waited
     return 100 * each.waited >= passed and slept <= each.waited and 20 * slept <= passed
 
 
-def is_hungry(before: Tasks, now: Tasks, found: Round) -> bool:
+def is_hungry(before: Tasks, now: Tasks, found: RoundTimes) -> bool:
     """Whether a group would have used more in a round. It would if it was throttled.
 
     Else not if its tasks waited for less than a hundredth of the round. Else if a task would have
@@ -87,7 +87,7 @@ def is_hungry(before: Tasks, now: Tasks, found: Round) -> bool:
     return 2 * 1000 * found.waited >= passed
 
 
-def most_wanted(before: Tasks, now: Tasks, found: Round) -> int | None:
+def most_wanted(before: Tasks, now: Tasks, found: RoundTimes) -> int | None:
     """The most nanoseconds that a hungry group could have used in a round; None if its tasks do not
     tell.
 

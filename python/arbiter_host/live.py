@@ -18,7 +18,7 @@ from dataclasses import dataclass, field
 from arbiter_host import explain, names
 from arbiter_host.explain import View
 from arbiter_host.plan import Plan
-from arbiter_host.top import Round
+from arbiter_host.top import PlannedRound
 
 Lines = list[tuple[str, str]]
 # Pictures that are remembered, and the letters of what a group got, from nothing to most.
@@ -67,7 +67,7 @@ def screen(plan: Plan, view: View, rows: int,
 
 
 @dataclass
-class History:
+class Recent:
     """What each group got in the last pictures, in slices; the latest stands last."""
 
     pictures: deque[dict[str, int]] = field(default_factory=lambda: deque(maxlen=HISTORY))
@@ -187,9 +187,9 @@ def pressed(descriptor: int | None) -> str:
 class Reader:
     """Reads round after round beside the view, so that keys are taken while it waits."""
 
-    def __init__(self, rounds: Iterator[Round]) -> None:
-        self.rounds: Iterator[Round] = rounds
-        self.read: queue.Queue[Round | BaseException | None] = queue.Queue(1)
+    def __init__(self, rounds: Iterator[PlannedRound]) -> None:
+        self.rounds: Iterator[PlannedRound] = rounds
+        self.read: queue.Queue[PlannedRound | BaseException | None] = queue.Queue(1)
         threading.Thread(target=self.run, daemon=True).start()
 
     def run(self) -> None:
@@ -201,7 +201,7 @@ class Reader:
         except BaseException as error:  # (raised again where it is taken)
             self.read.put(error)
 
-    def newest(self) -> Round | None:
+    def newest(self) -> PlannedRound | None:
         """A round that was read since; None at the end. `queue.Empty` where there is none yet."""
         newest = self.read.get_nowait()
         if isinstance(newest, BaseException):
@@ -213,7 +213,7 @@ class Screen:
     """What is shown: the last plan, what keys have changed, and the history."""
 
     def __init__(self, view: Callable[[Plan], View]) -> None:
-        self.view, self.keys, self.history = view, Keys(), History()
+        self.view, self.keys, self.history = view, Keys(), Recent()
         self.plan: Plan | None = None
 
     def take(self, plan: Plan) -> None:
@@ -238,8 +238,8 @@ class Screen:
         return [*screen(self.plan, view, rows, self.history.table), (self.keys.words(), "reverse")]
 
 
-def show(rounds: Iterator[Round], view: Callable[[Plan], View],
-         take: Callable[[Round], None]) -> None:
+def show(rounds: Iterator[PlannedRound], view: Callable[[Plan], View],
+         take: Callable[[PlannedRound], None]) -> None:
     """Shows picture after picture on a terminal, until a key, Ctrl-C or the last round. Each round
     is given to `take` first."""
     from rich.console import Console, Group

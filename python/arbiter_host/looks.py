@@ -102,9 +102,9 @@ class Span(NamedTuple):
         """What it used, in thousandths of a CPU."""
         return units.thousandths_of_usage(self.risen.usage or 0, self.seconds)
 
-    def round(self, has_limit: bool) -> hunger.Round:
+    def round(self, has_limit: bool) -> hunger.RoundTimes:
         """The same for the rule of hunger."""
-        return hunger.Round(int(self.seconds * 10**9), self.risen.usage or 0,
+        return hunger.RoundTimes(int(self.seconds * 10**9), self.risen.usage or 0,
                             self.risen.pressure or 0, has_limit and bool(self.risen.throttled))
 
     def is_hungry(self, has_limit: bool) -> bool:
@@ -301,7 +301,7 @@ def looks_at(folders: Sequence[str], host: Host, times: Times, has_threads: bool
 
 
 @dataclass
-class Series:
+class Watched:
     """A tree over time: the first look, the counters of its groups at this and later looks while
     they were there, and the mean seconds from one look to the next."""
 
@@ -320,11 +320,11 @@ class Series:
         return [path for path, each in self.counters.items() if len(each) < self.looks]
 
 
-def series_of(folders: Sequence[str], host: Host, times: Times) -> Series:
+def series_of(folders: Sequence[str], host: Host, times: Times) -> Watched:
     """Reads a tree so often, or each of its copies."""
     looks = looks_at(folders, host, times)
     last = first = next(looks)
-    found = Series(first, {path: [each.reading for each in counted.values()]
+    found = Watched(first, {path: [each.reading for each in counted.values()]
                            for path, counted in first.counted.items()}, times.interval)
     for last in looks:
         found.looks += 1

@@ -23,7 +23,7 @@ from prometheus_client.registry import Collector
 from arbiter_host.atomic_files import CHANGED, Place, collected_folder, faults, place_of
 from arbiter_host.faults import HostFault, UsageFault, strerror
 from arbiter_host.names import shown
-from arbiter_host.top import Alert, Figures
+from arbiter_host.top import Alert, GroupFigures
 
 # What the first lines of a file hold.
 MARK = "# HELP arbiter_"
@@ -32,7 +32,7 @@ SECONDS = 5
 # The key of a request's environment that has the time of its reader.
 TIME = "arbiter.time"
 # The names of the metrics of groups, their values, and what they say.
-GROUPS: tuple[tuple[str, Callable[[Figures], Any], str], ...] = (
+GROUPS: tuple[tuple[str, Callable[[GroupFigures], Any], str], ...] = (
     ("arbiter_plan_gets_cpus", lambda each: each.plan / 1000, "CPUs that the plan gives a group."),
     ("arbiter_plan_wants_cpus", lambda each: each.want / 1000, "CPUs that a group wants."),
     ("arbiter_got_cpus", lambda each: None if each.got is None else each.got / 1000,
@@ -69,9 +69,9 @@ class Figured(Collector):
     """The figures of the last round of `top`. They are replaced as a whole."""
 
     def __init__(self) -> None:
-        self.last: tuple[Sequence[Figures], Sequence[Alert], float] = ((), (), 0.0)
+        self.last: tuple[Sequence[GroupFigures], Sequence[Alert], float] = ((), (), 0.0)
 
-    def put(self, figures: Sequence[Figures], alerts: Sequence[Alert]) -> None:
+    def put(self, figures: Sequence[GroupFigures], alerts: Sequence[Alert]) -> None:
         """Takes the figures of a round."""
         self.last = (figures, alerts, time.time())
 

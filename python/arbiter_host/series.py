@@ -35,7 +35,7 @@ EDGE, LEFT, WIDE, TALL, STRIP, GAP, TOP = 16, 64, 760, 84, 5, 44, 64
 
 
 @dataclass
-class Cell:
+class SampleCell:
     """One group in one sample: sums over its periods, in slices, and counts of periods."""
 
     gets: int = 0
@@ -78,11 +78,11 @@ class Cell:
 class Sums:
     """One group over all samples: sums as of a cell, and runs of samples in which it starved."""
 
-    all: Cell = field(default_factory=Cell)
+    all: SampleCell = field(default_factory=SampleCell)
     run: int = 0
     longest: int = 0
 
-    def add(self, cell: Cell) -> None:
+    def add(self, cell: SampleCell) -> None:
         """Adds one sample."""
         for key in COUNTS:
             setattr(self.all, key, getattr(self.all, key) + getattr(cell, key))
@@ -101,7 +101,7 @@ class Series:
 
     names: list[str]
     groups: list[str]
-    cells: list[list[Cell]]
+    cells: list[list[SampleCell]]
     plan: Plan
 
     def sums(self, place: int) -> Sums:
@@ -166,7 +166,7 @@ def quota_slices(model: Model, engine: Engine, path: str) -> int | None:
 
 
 def count_period(plan_: Plan, groups: Sequence[str], quotas: Sequence[int | None],
-                 cells: Sequence[Cell], times: int) -> None:
+                 cells: Sequence[SampleCell], times: int) -> None:
     """Adds one plan to the cells, for so many periods."""
     by_path = plan_.by_path()
     for path, quota, cell in zip(groups, quotas, cells):
@@ -229,7 +229,7 @@ def run(engine: Engine, model: Model, history: History, unit: str, chosen: Seque
     quotas = [quota_slices(model, engine, path) for path in groups]
     for _, asked in history.demands(unit, model.host):
         set_demands(model, path_of, asked)
-        cells = [Cell() for _ in groups]
+        cells = [SampleCell() for _ in groups]
         for last, times in periods_of(engine, model, periods):
             count_period(last, groups, quotas, cells, times)
         table.append(cells)
@@ -372,7 +372,7 @@ def panel(series: Series, place: int, top: float) -> Iterator[str]:
     yield from strips(cells, top, x)
 
 
-def strips(cells: Sequence[Cell], top: float, x: Callable[[float], float]) -> Iterator[str]:
+def strips(cells: Sequence[SampleCell], top: float, x: Callable[[float], float]) -> Iterator[str]:
     """The strips of flags below a group."""
     for place, (letter, _, colour) in enumerate(FLAGS):
         for begin, end in runs([letter in each.flags for each in cells]):

@@ -20,7 +20,7 @@ MOST_FAILED = 2
 
 
 @dataclass(frozen=True)
-class Figures:
+class GroupFigures:
     """One group in one round. Amounts are thousandths of a CPU; None where nothing was measured."""
 
     path: str
@@ -62,14 +62,14 @@ class Condition(NamedTuple):
     # The rounds in a row for which it has to hold.
     rounds: int = 1
 
-    def is_of(self, figures: Figures) -> bool:
+    def is_of(self, figures: GroupFigures) -> bool:
         """Whether it speaks of a group."""
         shape = names.pattern(self.group)
         return (self.group in ("", figures.path, figures.title)
                 or figures.path.endswith(f"/{self.group}")
                 or any(shape.fullmatch(each) for each in (figures.path, figures.title)))
 
-    def holds(self, figures: Figures) -> bool:
+    def holds(self, figures: GroupFigures) -> bool:
         """Whether there is an alert of a group."""
         value = figures.value(self.key, bool(self.group) and "*" not in self.group)
         return value is not None and value > self.least and self.is_of(figures)
@@ -116,32 +116,32 @@ class Alert(NamedTuple):
 
 
 @dataclass
-class Round:
+class PlannedRound:
     """The plan of one round, and what is known of each group by path."""
 
     plan: Plan
     got: Mapping[str, Fraction] = field(default_factory=dict)
     throttled: Mapping[str, Fraction] = field(default_factory=dict)
 
-    def figures(self) -> list[Figures]:
+    def figures(self) -> list[GroupFigures]:
         """The figures of each group, the root first."""
         return [self.figures_of(each) for each in self.plan.groups]
 
-    def figures_of(self, group: Planned) -> Figures:
+    def figures_of(self, group: Planned) -> GroupFigures:
         """The figures of one group."""
-        return Figures(group.path, group.group.title if group.group else "",
+        return GroupFigures(group.path, group.group.title if group.group else "",
                        self.plan.thousandths(group.gets), self.plan.thousandths(group.want),
                        self.got.get(group.path), self.throttled.get(group.path),
                        group.is_starved, not group.children)
 
 
-def alerts(found: Sequence[Figures], wanted: Sequence[Condition]) -> list[Alert]:
+def alerts(found: Sequence[GroupFigures], wanted: Sequence[Condition]) -> list[Alert]:
     """The alerts of a round."""
     return [Alert(each.words, figures.path) for each in wanted for figures in found
             if each.holds(figures)]
 
 
-def missing(found: Sequence[Figures], wanted: Sequence[Condition]) -> list[str]:
+def missing(found: Sequence[GroupFigures], wanted: Sequence[Condition]) -> list[str]:
     """What is to be told of conditions whose group is not there."""
     return [f"--alert {each.words}: no group {each.group} is there" for each in wanted
             if not any(map(each.is_of, found))]
@@ -153,7 +153,7 @@ class Watched:
     def __init__(self, engine: Engine, tree: looks.Tree, want: str) -> None:
         self.engine, self.tree, self.want, self.last = engine, tree, want, tree.look()
 
-    def round(self) -> Round:
+    def round(self) -> PlannedRound:
         """Reads the tree, and plans it. Groups that came since the last look want nothing."""
         last, now = self.last, self.tree.look()
         self.last, seconds = now, max(now.at - last.at, Fraction(1, 10**6))
@@ -169,7 +169,7 @@ class Watched:
             periods, stopped = span.risen.periods, span.risen.throttled
             if periods is not None and stopped is not None:
                 throttled[path] = Fraction(min(stopped, periods), max(periods, 1))
-        return Round(plan(self.engine, now.model), got, throttled)
+        return PlannedRound(plan(self.engine, now.model), got, throttled)
 
 
 class State:
@@ -181,7 +181,7 @@ class State:
         # The rounds in a row in which each alert held.
         self.standing: dict[Alert, int] = {}
 
-    def take(self, figures: Sequence[Figures]) -> list[Alert]:
+    def take(self, figures: Sequence[GroupFigures]) -> list[Alert]:
         """Takes a round. Returns the alerts that it raises: they have held for as many rounds in a
         row as they need."""
         self.rounds += 1
@@ -197,7 +197,7 @@ class State:
                 if count >= self.needed[each.condition]]
 
 
-def line_of(state: State, found: Round) -> dict[str, Any]:
+def line_of(state: State, found: PlannedRound) -> dict[str, Any]:
     """The line of JSON of a round."""
     root = found.plan.root
     return {"round": state.rounds, "wanted_cpus": float(found.plan.thousandths(root.want) / 1000),
@@ -205,8 +205,8 @@ def line_of(state: State, found: Round) -> dict[str, Any]:
             "alerts": [{"alert": each.condition, "group": each.group} for each in state.held]}
 
 
-def rounds_of(read: Callable[[], Round], times: Times, first: int,
-              warn: Callable[[str], None]) -> Iterator[Round]:
+def rounds_of(read: Callable[[], PlannedRound], times: Times, first: int,
+              warn: Callable[[str], None]) -> Iterator[PlannedRound]:
     """Rounds until the end: readings from the one of a number on. One that fails may pass, unless
     it is the only one."""
     failed = 0

@@ -314,7 +314,7 @@ def test_top_on_a_terminal(ctl, folder, columns, lines, ending):
 
 def test_history_of_top(engine):
     """The bars of what a group got, as parts of its most; the rows stay those of their groups."""
-    history = live.History()
+    history = live.Recent()
     for demand in (0, 100, 250, 1000):
         model = Model(Host(1, 100000, 5000))
         model.add(Group("web", demand=Fraction(demand)))

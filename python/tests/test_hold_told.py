@@ -165,9 +165,9 @@ A_SECOND = 10**9
 ])
 def test_hunger_by_hand(before, now, used, waited, hungry):
     """Milliseconds of a second: tasks ran and waited, the group used, some task waited."""
-    one, two = ({number: hunger.Task(*(each * 10**6 for each in task))
+    one, two = ({number: hunger.TaskTimes(*(each * 10**6 for each in task))
                  for number, task in found.items()} for found in (before, now))
-    found = hunger.Round(A_SECOND, used * 1000, waited * 1000)
+    found = hunger.RoundTimes(A_SECOND, used * 1000, waited * 1000)
     assert hunger.is_hungry(one, two, found) is hungry
 
 
@@ -189,9 +189,9 @@ def test_hunger_by_hand(before, now, used, waited, hungry):
 ])
 def test_most_wanted_by_hand(before, now, used, throttled, most):
     """Milliseconds of a second: tasks ran and waited, the group used, and could have used."""
-    one, two = ({number: hunger.Task(*(each * 10**6 for each in task))
+    one, two = ({number: hunger.TaskTimes(*(each * 10**6 for each in task))
                  for number, task in found.items()} for found in (before, now))
-    found = hunger.Round(A_SECOND, used * 1000, 10**6, throttled)
+    found = hunger.RoundTimes(A_SECOND, used * 1000, 10**6, throttled)
     assert hunger.most_wanted(one, two, found) == (None if most is None else most * 10**6)
 
 

@@ -188,7 +188,7 @@ def test_a_query_that_loses_names(ctl, cadvisor):
 
 def series(*labels):
     """Series with these labels, each of 0.5, 0.25, .. at one time."""
-    return [prometheus.Series(each, {60.0: str(0.5 ** (1 + at))})
+    return [prometheus.Metric(each, {60.0: str(0.5 ** (1 + at))})
             for at, each in enumerate(labels)]
 
 

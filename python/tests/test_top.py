@@ -78,8 +78,8 @@ def test_figures_by_hand(engine, folder):
 
 def test_groups_of_conditions():
     """A path, its end, a title, or a pattern of either, as `--set` takes them."""
-    figures = top.Figures("kubepods/a:web/app", "a/web/app", Fraction(0), Fraction(1), None, None,
-                            False, True)
+    figures = top.GroupFigures("kubepods/a:web/app", "a/web/app", Fraction(0), Fraction(1), None,
+                               None, False, True)
     for group, is_of in {"": True, "app": True, "a/web/app": True, "a/web/*": True,
                          "*web/app": True, "kubepods/*": True, "web": False, "b/*": False,
                          "pp": False}.items():
@@ -116,8 +116,8 @@ def test_conditions_that_are_refused(text, words):
 
 def test_alerts_that_last(engine):
     """Raised once after so many rounds in a row, and again after a round without."""
-    figures = {name: [top.Figures("a", "", Fraction(0), Fraction(1), None, None, name == "yes",
-                                  True)] for name in ("yes", "no")}
+    figures = {name: [top.GroupFigures("a", "", Fraction(0), Fraction(1), None, None,
+                                       name == "yes", True)] for name in ("yes", "no")}
     state = top.State(top.conditions("starved for 2, a:lack>1m"))
     raised = [state.take(figures[each])
               for each in ("yes", "yes", "yes", "no", "yes", "yes")]
@@ -207,7 +207,8 @@ def round_of(engine, *names):
     model = Model(Host(1, 100000, 5000))
     for name in names:
         model.add(Group(name, demand=Fraction(500)))
-    return top.Round(plan(engine, model), {names[0]: Fraction(250)}, {names[0]: Fraction(1, 4)})
+    return top.PlannedRound(plan(engine, model), {names[0]: Fraction(250)},
+                            {names[0]: Fraction(1, 4)})
 
 
 def families(text):
@@ -330,8 +331,9 @@ def test_a_slow_reader_is_cut_off(monkeypatch, capfd):
     monkeypatch.setattr(metrics, "SECONDS", 3)
     figured = metrics.Figured()
     # (an answer of some megabytes fits into no socket)
-    figured.put([top.Figures(f"{at}" * 40, "", Fraction(0), Fraction(0), Fraction(0), Fraction(0),
-                               False, True) for at in range(6000)], [])
+    none = Fraction(0)
+    figured.put([top.GroupFigures(f"{at}" * 40, "", none, none, none, none, False, True)
+                 for at in range(6000)], [])
     where = metrics.serve("127.0.0.1:0", figured)
     begun = time.monotonic()
     with socket.create_connection(where, timeout=30) as slow:

@@ -20,7 +20,7 @@ HUNDREDTH = 10
 
 
 @dataclass(frozen=True)
-class Row:
+class AuditRow:
     """One group over all intervals. A cell is None where it was not measured."""
 
     path: str
@@ -54,7 +54,7 @@ class Ranked:
     """An audit with its rows, the worst first, and why placement is not known."""
 
     audit: Audit
-    rows: list[Row]
+    rows: list[AuditRow]
     why_not: list[str]
 
 
@@ -72,7 +72,7 @@ def ranked(audit: Audit) -> Ranked:
     worst = {path: worst_of(each) for path, each in cells.items()}
     order = sorted(groups, key=lambda path: (-abs(intervals[worst[path]].cells[path].off), path))
     outlooks = Outlooks(intervals)
-    rows = [Row(path, groups[path], cells[path], worst[path],
+    rows = [AuditRow(path, groups[path], cells[path], worst[path],
                 cause_of(intervals, worst[path], path, outlooks)) for path in order]
     return Ranked(audit, rows, list(outlooks.why_not))
 
@@ -115,7 +115,7 @@ def head(found: Ranked) -> Iterator[str]:
         yield f"used outside these groups, as a mean: {cpus(mean(unplanned))} CPUs"
 
 
-def cells_of(row: Row) -> list[str]:
+def cells_of(row: AuditRow) -> list[str]:
     """The cells of a row."""
     average, most = row.average, row.most
     return [cpus(average.used), cpus(average.planned), points(average.off), percent(average.part),
@@ -123,7 +123,7 @@ def cells_of(row: Row) -> list[str]:
             short(shown(row.path))]
 
 
-def busy(found: Ranked) -> list[Row]:
+def busy(found: Ranked) -> list[AuditRow]:
     """The rows of groups that used something, or were planned something."""
     return [row for row in found.rows if row.average.used or row.average.planned]
 
@@ -162,7 +162,7 @@ def cells_data(cells: Sequence[Cell | None]) -> dict[str, Any]:
             "tasks": column(cells, "tasks")}
 
 
-def row_data(row: Row, intervals: Sequence[Interval]) -> dict[str, Any]:
+def row_data(row: AuditRow, intervals: Sequence[Interval]) -> dict[str, Any]:
     """A row as data."""
     holes = {place: interval.holes[row.path] for place, interval in enumerate(intervals)
              if row.path in interval.holes}

@@ -6,7 +6,7 @@ from typing import Any
 
 from arbiter_host import svg
 from arbiter_host.audit import answer, causes
-from arbiter_host.audit.answer import Ranked, Row
+from arbiter_host.audit.answer import Ranked, AuditRow
 from arbiter_host.audit.intervals import Interval
 from arbiter_host.html import rendered
 from arbiter_host.names import cut, short, shown
@@ -48,7 +48,7 @@ def axes(intervals: Sequence[Interval], most: float) -> Iterator[str]:
             yield svg.words((x, HEIGHT - 6), cut(interval.name, 24), FAINT, 12, anchor)
 
 
-def picture(row: Row, intervals: Sequence[Interval]) -> str:
+def picture(row: AuditRow, intervals: Sequence[Interval]) -> str:
     """Plan and use of a group over time, in CPUs."""
     used, planned = ([None if cell is None else float(getattr(cell, key)) / 1000
                       for cell in row.cells] for key in ("used", "planned"))
@@ -58,7 +58,7 @@ def picture(row: Row, intervals: Sequence[Interval]) -> str:
     return svg.inside(WIDTH, HEIGHT, f"plan and use of {row.path}", parts)
 
 
-def row_of(row: Row) -> dict[str, Any]:
+def row_of(row: AuditRow) -> dict[str, Any]:
     """A row of the table, with the texts that its columns sort by."""
     cells = answer.cells_of(row)
     return {"name": cells[-1], "cause": cells[-2], "cells": list(zip(answer.HEADS, cells[:-2])),

@@ -43,7 +43,7 @@ Values = dict[int, float]
 
 
 @dataclass(frozen=True)
-class Server:
+class Prometheus:
     """A server, the selector of its series, and the time that is asked of it."""
 
     url: str
@@ -172,7 +172,7 @@ class Found:
         return found
 
 
-def fetched(server: Server, model: Model) -> tuple[Found, list[str]]:
+def fetched(server: Prometheus, model: Model) -> tuple[Found, list[str]]:
     """All series, and what is told of those of no group."""
     server.check()
     usage = server.series(METRICS["usage"])
@@ -206,7 +206,7 @@ def with_limits(model: Model, limits: Mapping[str, tuple[int, int]]) -> Model:
     return replace(model, groups=groups)
 
 
-def looks(server: Server, model: Model) -> tuple[list[Look], list[str]]:
+def looks(server: Prometheus, model: Model) -> tuple[list[Look], list[str]]:
     """The looks at the groups of a model, and what is told of the series."""
     found, notes = fetched(server, model)
     times = sorted({at for labels in found.leaves for at in found.series["usage"][labels]})

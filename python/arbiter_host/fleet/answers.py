@@ -16,7 +16,7 @@ from arbiter_host.faults import HostFault
 from arbiter_host.fleet.evidence import Accepted, accepted, told_host
 from arbiter_host.fleet.job import Job
 from arbiter_host.plan import Engine
-from arbiter_host.series import Cell
+from arbiter_host.series import SampleCell
 
 # Most groups that an answer names for one reason.
 MOST_NAMED = 5
@@ -93,7 +93,7 @@ def placed(job: Job, plans: Iterator[Accepted], told: dict[str, Any]) -> dict[st
     return {"before": before.sums, "pods": found}
 
 
-def counted(plan: Accepted, row: int, cell: Cell, quota: int | None, times: int) -> None:
+def counted(plan: Accepted, row: int, cell: SampleCell, quota: int | None, times: int) -> None:
     """Adds the periods of one plan to the cell of a group."""
     figures = plan.answer.figures
     cell.count(plan.gets[row], plan.wants[row], plan.limit(row), row > 0 and bool(
@@ -104,7 +104,7 @@ def replayed(_: Job, plans: Iterator[Accepted], told: dict[str, Any]) -> dict[st
     """The sums of each group over all samples."""
     sums = {path: series.Sums() for path in told["columns"]}
     for counts in told["times"]:
-        cells = {path: Cell() for path in sums}
+        cells = {path: SampleCell() for path in sums}
         for times in counts:
             plan = next(plans)
             for (path, cell), quota in zip(cells.items(), told["quotas"], strict=True):

@@ -173,24 +173,24 @@ def told_apart(found: Sequence[Mapping[str, str]]) -> set[str]:
     return differ - PARTS - (ANEW if len(made) == len(found) else frozenset())
 
 
-class Series(NamedTuple):
+class Metric(NamedTuple):
     """The labels of a series, and its values as they were written, by time."""
 
     labels: Mapping[str, str]
     values: Mapping[float, str]
 
 
-def series_of(answer: Any) -> list[Series]:
+def series_of(answer: Any) -> list[Metric]:
     """The series of a range query. A value that is no number is left out: there is no sample."""
-    return [Series({str(key): str(value) for key, value in each["metric"].items()
+    return [Metric({str(key): str(value) for key, value in each["metric"].items()
                     if key != "__name__"},
                    {instant(at): str(value) for at, value in each["values"]
                     if str(value).lower() not in EMPTY})
             for each in answer["data"]["result"]]
 
 
-def summed(columns: Mapping[str, Sequence[Series]], url: str) -> dict[str, dict[float, str]]:
-    """The values of each column. Series that are parts of one are added up; else a fault."""
+def summed(columns: Mapping[str, Sequence[Metric]], url: str) -> dict[str, dict[float, str]]:
+    """The values of each column. Metric that are parts of one are added up; else a fault."""
     found = {}
     for name, parts in columns.items():
         apart = told_apart([each.labels for each in parts]) if len(parts) > 1 else ()
@@ -212,7 +212,7 @@ def total(words: Sequence[str]) -> str:
     return units.decimal(sum((each[0] for each in parsed if each), Fraction(0)), 12)
 
 
-def without_totals(columns: dict[str, list[Series]]) -> None:
+def without_totals(columns: dict[str, list[Metric]]) -> None:
     """Takes out the series of pods whose containers have series of their own."""
     above = {name.rpartition("/")[0] for name, parts in columns.items()
              if parts[0].labels.get("container")}
@@ -221,9 +221,9 @@ def without_totals(columns: dict[str, list[Series]]) -> None:
             del columns[name]
 
 
-def history_of(found: Sequence[Series], url: str) -> History:
+def history_of(found: Sequence[Metric], url: str) -> History:
     """The samples of series."""
-    columns: dict[str, list[Series]] = {}
+    columns: dict[str, list[Metric]] = {}
     for each in found:
         columns.setdefault(column_of(each.labels, url), []).append(each)
     without_totals(columns)
@@ -241,14 +241,14 @@ def query_of(step: float) -> str:
                        for each in LEAVES)
 
 
-def read(url: str, query: str | None, asked: Range) -> list[Series]:
+def read(url: str, query: str | None, asked: Range) -> list[Metric]:
     """The series of a query, which is cAdvisor's unless it is said."""
     return of_range(url, query or query_of(asked.step), asked, series_of)
 
 
-def by_host(found: Sequence[Series], url: str) -> dict[str, History]:
+def by_host(found: Sequence[Metric], url: str) -> dict[str, History]:
     """The samples of each host, by the label of its name."""
-    hosts: dict[str, list[Series]] = {}
+    hosts: dict[str, list[Metric]] = {}
     for each in found:
         host = next((each.labels[key] for key in TABLE["host"] if each.labels.get(key)), None)
         if host is None:

@@ -11,7 +11,7 @@ if TYPE_CHECKING:
     from arbiter_host.subcommands.base import Subcommand
 
 
-class Place(NamedTuple):
+class Listing(NamedTuple):
     """Where a subcommand is: its module here, its name there, and one line for the list of all."""
 
     module: str
@@ -20,18 +20,18 @@ class Place(NamedTuple):
 
 
 PLACES = {
-    "explain": Place("explain", "EXPLAIN", "why each group gets what it gets"),
-    "diff": Place("diff", "DIFF", "what a change does, or what differs between two plans"),
-    "tune": Place("tune", "TUNE", "settings with which groups get their goals at once"),
-    "recommend": Place("recommend", "RECOMMEND", "propose requests and limits from what was used"),
-    "replay": Place("replay", "REPLAY", "plan many samples of what was used"),
-    "top": Place("top", "TOP", "plan a host again and again: live, alerts, metrics"),
-    "export": Place("export", "EXPORT", "write what a source holds as a script or a host file"),
-    "audit": Place("audit", "AUDIT", "the plan beside what groups used: how far off, and why"),
-    "place": Place("place", "PLACE", "where a pod would go among many hosts"),
-    "apply": Place("apply", "APPLY", "set weights and limits on a host; without --yes only print"),
-    "undo": Place("apply", "UNDO", "bring the settings before `apply` back"),
-    "hold": Place("hold", "HOLD", "hold the plan on a host by limits of each round"),
+    "explain": Listing("explain", "EXPLAIN", "why each group gets what it gets"),
+    "diff": Listing("diff", "DIFF", "what a change does, or what differs between two plans"),
+    "tune": Listing("tune", "TUNE", "settings with which groups get their goals at once"),
+    "recommend": Listing("recommend", "RECOMMEND", "propose requests and limits by what was used"),
+    "replay": Listing("replay", "REPLAY", "plan many samples of what was used"),
+    "top": Listing("top", "TOP", "plan a host again and again: live, alerts, metrics"),
+    "export": Listing("export", "EXPORT", "write what a source holds as a script or a host file"),
+    "audit": Listing("audit", "AUDIT", "the plan beside what groups used: how far off, and why"),
+    "place": Listing("place", "PLACE", "where a pod would go among many hosts"),
+    "apply": Listing("apply", "APPLY", "set weights and limits on a host; prints without --yes"),
+    "undo": Listing("apply", "UNDO", "bring the settings before `apply` back"),
+    "hold": Listing("hold", "HOLD", "hold the plan on a host by limits of each round"),
 }
 
 

@@ -29,7 +29,7 @@ def of_range(asked: argparse.Namespace) -> tuple[list[Look], list[str], set[int]
     """The looks of a range of Prometheus, what is told of them, and those after a gap."""
     if not asked.source:
         raise UsageFault("--used: it belongs to a SOURCE whose groups were measured")
-    server = ranges.Server(asked.used[0], asked.query or "",
+    server = ranges.Prometheus(asked.used[0], asked.query or "",
                            prometheus.range_of(asked.range, asked.step))
     server.check()
     files = load.opened(asked, asked.source)

@@ -31,7 +31,7 @@ MEASURED = ("throttled", "off")
 
 
 def reader(asked: argparse.Namespace,
-           wanted: Sequence[top.Condition]) -> tuple[Callable[[], top.Round], int]:
+           wanted: Sequence[top.Condition]) -> tuple[Callable[[], top.PlannedRound], int]:
     """What reads a round, and the readings that it takes before the first one."""
     by, paths = found_engine(asked), asked.source or [looks.HOST_TREE]
     if len(paths) == 1 and os.path.isdir(paths[0]) and asked.kind in (None, "cgroup"):
@@ -43,7 +43,7 @@ def reader(asked: argparse.Namespace,
     measured = [each.words for each in wanted if each.key in MEASURED]
     if measured:
         raise UsageFault(f"--alert {shown(measured[0])}: trees of cgroups alone are measured")
-    return lambda: top.Round(plan(by, load.load(asked, paths, by))), 0
+    return lambda: top.PlannedRound(plan(by, load.load(asked, paths, by))), 0
 
 
 def run_command(words: Sequence[str], raised: Sequence[top.Alert]) -> None:
@@ -98,7 +98,7 @@ class Watch:
         if self.form != "live":
             self.remarks.tell(note for note in notes if not THROTTLED.search(note))
 
-    def take(self, found: top.Round) -> None:
+    def take(self, found: top.PlannedRound) -> None:
         """Takes a round. A file that cannot be written ends nothing."""
         figures, state = found.figures(), self.state
         self.remark([*found.plan.model.refused, *found.plan.model.notes,
@@ -118,7 +118,7 @@ class Watch:
         if raised and not self.is_lasting:
             raise Alerted(state.held)
 
-    def emit(self, found: top.Round) -> None:
+    def emit(self, found: top.PlannedRound) -> None:
         """Prints a round as its form has it."""
         if self.form == "json":
             output.emit(json.dumps(top.line_of(self.state, found)) + "\n")
