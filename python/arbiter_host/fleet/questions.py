@@ -36,7 +36,7 @@ def fleet_in(options: argparse.Namespace) -> Fleet | None:
     """
     files = load.opened(options, options.source)
     options.kept = dict(files)
-    words = used.words_of(options) if options.asked != "replay" else []
+    words = options.used if options.asked != "replay" else []
     found = hosts.fleet_in(options, files, lambda: used.entries(options) if words else [])
     if found is None:
         return None
@@ -69,7 +69,7 @@ def job_of(options: argparse.Namespace, fleet: Fleet) -> Job:
     reading: dict[str, Any] = {key: getattr(options, key) for key in READING} | {"used": []}
     if fleet.is_cluster:
         reading["kind"] = "kubernetes"
-        if used.words_of(options) and options.asked != "replay":
+        if options.used and options.asked != "replay":
             used.check_want(options)
             reading["want"] = "usage"
     library = options.library

@@ -24,12 +24,6 @@ from arbiter_host.sources.usage import Used
 KEPT = 64
 
 
-def words_of(options: argparse.Namespace) -> list[str]:
-    """The words of `--used`."""
-    words: list[str] = options.used
-    return words
-
-
 def without(options: argparse.Namespace, kind: str) -> argparse.Namespace:
     """The options without `--used`, after they were checked: the source is read as it is."""
     table.check(options, kind)
@@ -38,21 +32,21 @@ def without(options: argparse.Namespace, kind: str) -> argparse.Namespace:
 
 def name(options: argparse.Namespace) -> str:
     """The words, for messages."""
-    return shown(", ".join(words_of(options)))
+    return shown(", ".join(options.used))
 
 
 def is_tree(options: argparse.Namespace) -> bool:
     """Whether the words are folders: a tree of cgroups, or copies of one after another."""
-    words = words_of(options)
-    folders = [each for each in words if os.path.isdir(each)]
-    if folders and len(folders) < len(words):
+    folders = [each for each in options.used if os.path.isdir(each)]
+    if folders and len(folders) < len(options.used):
         raise UsageFault("--used: a tree of cgroups is there alone, or with later copies of it")
     return bool(folders)
 
 
 def tree_of(options: argparse.Namespace) -> str:
     """The tree of cgroups that is named; empty for none."""
-    return words_of(options)[0] if is_tree(options) else ""
+    found: str = options.used[0] if is_tree(options) else ""
+    return found
 
 
 def check_want(options: argparse.Namespace) -> None:
@@ -65,7 +59,7 @@ def check_want(options: argparse.Namespace) -> None:
 
 def check_input(options: argparse.Namespace) -> None:
     """A fault where standard input is meant twice."""
-    many = words_of(options).count("-")
+    many = options.used.count("-")
     source = getattr(options, "source", [])
     if many and "-" in ([source] if isinstance(source, str) else source):
         raise UsageFault("--used -: standard input is the source already")
@@ -107,7 +101,7 @@ def of_file(options: argparse.Namespace, word: str, first: int) -> History:
 def history(options: argparse.Namespace) -> History:
     """The samples of all words, one file after the other."""
     found: list[History] = []
-    for word in words_of(options):
+    for word in options.used:
         if prometheus.is_address(word):
             series = prometheus.read(word, options.query, asked_range(options))
             found.append(prometheus.history_of(series, word))
@@ -127,7 +121,7 @@ def mapped(words: Sequence[str]) -> dict[str, str]:
 
 def is_served(options: argparse.Namespace) -> bool:
     """Whether a server is asked, which may know groups of other hosts too."""
-    return any(map(prometheus.is_address, words_of(options)))
+    return any(map(prometheus.is_address, options.used))
 
 
 def entry_of(column: str, values: tuple[Fraction, ...]) -> Used:
@@ -149,7 +143,7 @@ def entries_of(options: argparse.Namespace, found: History) -> list[Used]:
 
 def entries(options: argparse.Namespace) -> list[Used]:
     """What each container used, by all words."""
-    word, *more = words_of(options)
+    word, *more = options.used
     if not more and not prometheus.is_address(word):
         data = bytes_of(options, word)
         if usage.is_usage(data):
@@ -167,7 +161,7 @@ def one_moment(options: argparse.Namespace, found: list[Used]) -> list[Used]:
 
 def measured_by(options: argparse.Namespace) -> Callable[[Measurable], Owned] | None:
     """What gives a source the use of its groups; None where no option says it."""
-    if not words_of(options):
+    if not options.used:
         return None
     check_want(options)
     check_input(options)
@@ -176,7 +170,7 @@ def measured_by(options: argparse.Namespace) -> Callable[[Measurable], Owned] | 
         if not is_tree(options):
             return source.with_usage(entries(options), name(options))
         times = by_options.times_of(options)
-        return source.with_readings(*looks.measured_at(words_of(options), times, source.folders()))
+        return source.with_readings(*looks.measured_at(options.used, times, source.folders()))
 
     return measured
 
@@ -195,9 +189,9 @@ def of_folder(folder: str) -> Callable[[str], History]:
 
 def by_host(options: argparse.Namespace) -> Callable[[str], History]:
     """The samples of each host by its name: from a folder, one table, or a server."""
-    if len(words_of(options)) != 1:
+    if len(options.used) != 1:
         raise UsageFault("--used: a folder, one table or one server for many hosts")
-    (word,) = words_of(options)
+    (word,) = options.used
     if os.path.isdir(word):
         return of_folder(word)
     if prometheus.is_address(word):
