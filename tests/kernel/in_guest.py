@@ -88,8 +88,8 @@ def main() -> None:
     sys.path.insert(0, str(Path(__file__).parent))
     # what each command imports is there before the first fork
     from arbiter_host.sources import cgroups, script
-    from arbiter_host.subcommands import apply, hold, imports
-    assert apply and hold and imports and cgroups and script
+    from arbiter_host.subcommands import apply, export, hold
+    assert apply and export and hold and cgroups and script
     found = json.loads(Path(sys.argv[1]).read_text(encoding="utf-8"))
     top, others = Path(found["top"]), 0
     print(json.dumps({"phase": "made", "groups": settings(top)}), flush=True)
