@@ -11,8 +11,8 @@ from arbiter import Host
 from arbiter_host import names, units
 from arbiter_host.faults import NothingFound, UsageFault
 from arbiter_host.model import Group, Model
+from arbiter_host.options import WANTS
 
-WANTS = ("usage", "peak", "p95", "psi", "limit", "request", "busy")
 # Those that are taken from what was used.
 OF_USE = WANTS[:4]
 # The greatest part of the time that pressure is taken for: above it the estimate has no meaning.

@@ -19,7 +19,6 @@ MAX_PROCESSORS = 64
 MAX_CAPACITY = 64000
 MAX_GROUPS = 16384
 MAX_DEPTH = 64
-OWN = "(own)"
 
 
 def checked(host: Host) -> Host:

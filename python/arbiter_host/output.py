@@ -54,11 +54,6 @@ def json_text(data: Any) -> str:
                    ord(each) < 0x10000 else each for each in dumped) + "\n"
 
 
-def emit_json(data: Any) -> None:
-    """Writes data as JSON to standard output."""
-    emit(json_text(data))
-
-
 def write_file(path: str, data: str) -> None:
     """Writes a file whole; `-` is standard output."""
     if path == "-":

@@ -12,7 +12,6 @@ from arbiter_host import units
 from arbiter_host.names import cut, padded, width
 from arbiter_host.plan import Plan
 
-UNITS = ("cpu", "m", "%", "slices", "us")
 STANDARD_WIDTH = 120
 # From this width on reasons are whole sentences.
 WIDE = 110

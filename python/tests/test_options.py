@@ -3,8 +3,11 @@ import argparse
 import re
 
 import pytest
-from arbiter_host import options as table
+from arbiter_host import explain, options as table, text
 from arbiter_host.faults import UsageFault
+from arbiter_host.fleet import report
+from arbiter_host.sources.register import READERS
+from arbiter_host.subcommands import PLACES
 
 
 def parsed(subcommand, *words):
@@ -28,6 +31,15 @@ def test_rows_are_of_subcommands_that_are_there():
         for words in (each.helps, each.defaults, each.kinds_of):
             assert set(words) <= set(each.subcommands), each.name
         assert set(each.kinds) <= set(table.ALL), each.name
+
+
+def test_words_are_those_of_what_they_choose():
+    """What options offer is what their readers know."""
+    assert set(table.STATES) == set(explain.ONLY) and set(table.SORTS) == set(explain.SORTS)
+    assert set(table.UNITS) == set(text.UNIT_WORDS) and set(table.KINDS) == set(READERS)
+    assert set(table.RANKS) == set(report.RULES)
+    assert set(table.FORMS) <= set(PLACES) and len(PLACES) == 12
+    assert {each for option in table.TABLE for each in option.subcommands} == set(PLACES)
 
 
 def test_every_dest_has_its_value():
@@ -91,6 +103,6 @@ def test_no_effect_on_a_form_is_refused(words, said):
 def test_readings():
     assert table.readings("10x1s") == (10, "1s")
     assert table.readings("x5min") == (None, "5min")
-    for text in ("10", "x", "0x1s", "10001x1s", "-1x1s"):
+    for words in ("10", "x", "0x1s", "10001x1s", "-1x1s"):
         with pytest.raises(UsageFault):
-            table.readings(text)
+            table.readings(words)
