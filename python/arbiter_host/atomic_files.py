@@ -247,9 +247,33 @@ def place_of(path: str, opens: Callable[[str], int] = own_folder, mode: int = 0o
     return Place(opens(above), name, mode, is_synced)
 
 
-def any_place(path: str) -> Place:
-    """The place of a path whose folder others may change. It is for a new file alone, which
-    replaces none."""
+def any_place(path: str, mode: int = 0o600) -> Place:
+    """The place of a path whose folder others may change. What is written there is a new file, or
+    one that was named by who asked for it."""
     check_path(path)
     above, name = os.path.split(path)
-    return Place(os.open(above or ".", os.O_RDONLY | os.O_DIRECTORY | os.O_CLOEXEC), name)
+    return Place(os.open(above or ".", os.O_RDONLY | os.O_DIRECTORY | os.O_CLOEXEC), name, mode)
+
+
+def new_mode() -> int:
+    """The mode of a new file that the user lets others read."""
+    mask = os.umask(0o077)
+    os.umask(mask)
+    return 0o666 & ~mask
+
+
+def put_file(path: str, data: bytes) -> None:
+    """Writes a plain file whole or not at all, in any folder. A link at its name is replaced, and
+    not followed. What is no plain file, such as a pipe, is written to as it is."""
+    check_path(path)
+    mode = new_mode()
+    with faults(path, ""):
+        with suppress(FileNotFoundError):
+            status = os.stat(path)
+            if not stat.S_ISREG(status.st_mode):
+                with open(path, "wb") as file:
+                    file.write(data)
+                return
+            mode = stat.S_IMODE(status.st_mode)
+        with closing(any_place(path, mode)) as place:
+            place.put(data)

@@ -59,12 +59,9 @@ def write_file(path: str, data: str) -> None:
     if path == "-":
         emit(data)
         return
-    try:
-        with open(path, "w", encoding="utf-8", errors="backslashreplace") as file:
-            file.write(data)
-    except (OSError, ValueError) as error:
-        why = strerror(error) if isinstance(error, OSError) else "no path"
-        raise HostFault(f"{names.shown(path)}: {why}") from error
+    # (a short command writes no file)
+    from arbiter_host.atomic_files import put_file
+    put_file(path, data.encode("utf-8", "backslashreplace"))
 
 
 def write_forms(outputs: Sequence[Output],

@@ -8,9 +8,8 @@ import time
 from pathlib import Path
 
 import pytest
-from arbiter_host import apply, gauges, metrics, names, record
+from arbiter_host import apply, atomic_files, metrics, names, record
 from arbiter_host.atomic_files import Document
-from arbiter_host.audit import written
 from arbiter_host.exports import files
 from arbiter_host.exports.base import MARK
 from arbiter_host.faults import HostFault
@@ -29,38 +28,50 @@ def export(folder):
     files.write(f"{folder}/", [Document("web.service.d/x.conf", f"# {MARK}dropin\n")])
 
 
-def textfile(folder):
-    metrics.put_file(f"{folder}/x.prom", metrics.registry_of(metrics.Figured()))
+def gauges(folder):
+    """Writes metrics as a loop does in each round."""
+    metrics.File(f"{folder}/x.prom").put(metrics.Figured())
 
 
-def audit(folder):
-    written.put([written.Document(f"{folder}/audit.json", "{}", "{")])
-
-
-def kept(folder, kind, name):
-    """Writes a file as a loop does in each round."""
-    file = kind(f"{folder}/{name}")
+def kept(folder):
+    """Writes an undo file as a loop does in each round."""
+    file = record.Record(f"{folder}/undo.json")
     try:
         file.put("text")
     finally:
         file.close()
 
 
+def test_a_file_that_is_asked_for(folder):
+    """It is whole, a link of its name is replaced and not followed, and a device stays one."""
+    (folder / "mine").write_text("mine")
+    (folder / "link").symlink_to(folder / "mine")
+    for name in ("new", "link", "mine"):
+        atomic_files.put_file(f"{folder}/{name}", b"text")
+        assert (folder / name).read_text() == "text" and not (folder / name).is_symlink()
+    (folder / "mine").chmod(0o640)
+    atomic_files.put_file(f"{folder}/mine", b"more")
+    assert (folder / "mine").stat().st_mode & 0o777 == 0o640
+    assert sorted(os.listdir(folder)) == ["link", "mine", "new"]
+    atomic_files.put_file("/dev/null", b"text")
+    for path, why in (("/dev/full", "No space left"), (str(folder), "Is a directory"),
+                      (f"{folder}/none/x", "No such file")):
+        with pytest.raises(HostFault, match=f"^{path}: {why}"):
+            atomic_files.put_file(path, b"text")
+
+
 # Each writes below a folder, or opens it to write there later.
 WRITERS = {
     "lock": lambda folder: closed(record.lock(str(folder))),
     "undo": lambda folder: record.Record(f"{folder}/undo.json").close(),
-    "gauges": lambda folder: gauges.File(f"{folder}/x.prom").close(),
-    "export": export, "textfile": textfile, "audit": audit,
+    "gauges": lambda folder: metrics.File(f"{folder}/x.prom"), "export": export,
 }
 # Each writes a file below a folder.
 PUTS = {
-    "undo of hold": lambda folder: kept(folder, record.Record, "undo.json"),
+    "undo of hold": kept, "gauges": gauges, "export": export,
     "undo of apply": lambda folder: apply.write_synced(f"{folder}/undo.json", "text"),
-    "gauges": lambda folder: kept(folder, gauges.File, "x.prom"),
-    "export": export, "textfile": textfile, "audit": audit,
 }
-COLLECTED = ("gauges", "textfile")
+COLLECTED = ("gauges",)
 each_writer = pytest.mark.parametrize("write", WRITERS.values(), ids=list(WRITERS))
 each_trusted = pytest.mark.parametrize("write", [
     each for name, each in WRITERS.items() if name not in COLLECTED])
@@ -153,7 +164,7 @@ def test_gauges_replace_no_other_file(folder, make):
     make(folder / "hosts")
     before = os.lstat(folder / "hosts")
     with pytest.raises(HostFault):
-        gauges.File(str(folder / "hosts"))
+        metrics.File(str(folder / "hosts"))
     assert os.lstat(folder / "hosts") == before
 
 
@@ -171,13 +182,12 @@ def refuse(*_, **__):
 
 def test_a_full_disk(full):
     """No part of an undo file, or of the gauges, stays."""
-    kept, file = record.Record(str(full / "undo.json")), gauges.File(str(full / "x.prom"))
-    for put in (kept.put, file.put):
+    undo = record.Record(str(full / "undo.json"))
+    for put in (lambda: undo.put("text"), lambda: gauges(full)):
         with pytest.raises(HostFault, match="No space left"):
-            put("text")
+            put()
         assert list(full.iterdir()) == []
-    kept.close()
-    file.close()
+    undo.close()
 
 
 @pytest.mark.parametrize("put", PUTS.values(), ids=list(PUTS))
@@ -192,8 +202,7 @@ def test_nothing_is_left_behind(folder, monkeypatch, put, calls):
     monkeypatch.undo()
     put(folder)
     found, = [path for path in folder.rglob("*") if not path.is_dir()]
-    everybody = put in (PUTS["gauges"], PUTS["textfile"])
-    assert found.stat().st_mode & 0o777 == (0o644 if everybody else 0o600)
+    assert found.stat().st_mode & 0o777 == (0o644 if put is gauges else 0o600)
 
 
 @pytest.mark.parametrize("name, put", [("undo.json.part", "undo of hold"),
