@@ -281,9 +281,10 @@ def looks_at_copies(folders: Sequence[str], host: Host, interval: Fraction) -> I
     last: Look | None = None
     for place, folder in enumerate(folders):
         look = Tree(folder, host).look()
+        look.at = place * interval
         if last is not None:
             check_order(last, look, folder)
-        look.at, last = place * interval, look
+        last = look
         yield look
 
 
