@@ -50,7 +50,7 @@ def copies(folder, count=3):
 
 
 def audited(ctl, *words):
-    """What --json says, and what is warned of."""
+    """What -o json says, and what is warned of."""
     out, err = ctl.run("audit", *words, "-o", "json")
     return json.loads(out), err
 

@@ -299,7 +299,7 @@ def test_top_on_a_terminal(ctl, folder, columns, lines, ending):
     ctl.environment.pop("COLUMNS")
     ctl.environment["TERM"] = "xterm"
     words = ["python3", "-c", command, "/usr/bin/python3", PACKAGE / "arbiterctl", "top", folder,
-             "--want", "busy", "--cpus", "2", "--interval", "100ms"]
+             "--want", "busy", "--cpus", "2", "--read", "x100ms"]
     ended = subprocess.run(words, capture_output=True, timeout=120, env=ctl.environment,
                            check=False)
     assert ended.returncode == 0, ended.stdout[-500:]

@@ -40,7 +40,7 @@ def test_usage_of_pods(ctl, name):
 
 
 def test_usage_from_standard_input(ctl):
-    """`kubectl top pods -A --containers | arbiterctl explain pods.json node.json --usage -`."""
+    """`kubectl top pods -A --containers | arbiterctl explain pods.json node.json --used -`."""
     data = (FIXTURES / "top.txt").read_bytes()
     assert demands_of(ctl, PODS, NODE, "--used", "-", given=data)[0] == TOLD
     # `--sum` prints the sums behind a line.
