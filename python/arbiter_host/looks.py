@@ -302,7 +302,7 @@ def looks_at(folders: Sequence[str], host: Host, times: Times, has_threads: bool
 
 
 @dataclass
-class Watched:
+class OverTime:
     """A tree over time: the first look, the counters of its groups at this and later looks while
     they were there, and the mean seconds from one look to the next."""
 
@@ -321,11 +321,11 @@ class Watched:
         return [path for path, each in self.counters.items() if len(each) < self.looks]
 
 
-def series_of(folders: Sequence[str], host: Host, times: Times) -> Watched:
+def series_of(folders: Sequence[str], host: Host, times: Times) -> OverTime:
     """Reads a tree so often, or each of its copies."""
     looks = looks_at(folders, host, times)
     last = first = next(looks)
-    found = Watched(first, {path: [each.reading for each in counted.values()]
+    found = OverTime(first, {path: [each.reading for each in counted.values()]
                            for path, counted in first.counted.items()}, times.interval)
     for last in looks:
         found.looks += 1

@@ -469,7 +469,7 @@ def test_limits_and_tasks_of_a_range(serve):
         ranges.METRICS["tasks"]: matrix(({"pod": "web"}, values(3, 3, 4)))})
     model = Model(TWO)
     model.add(Group("web"))
-    server = ranges.Prometheus(url, "", prometheus.Range("1000", "1120", 60))
+    server = ranges.Prometheus(url, "", prometheus.QueryRange("1000", "1120", 60))
     found, notes = ranges.looks(server, model)
     assert [each.model.groups["web"].quota for each in found] == [50000, 50000, 70000]
     assert [each.tasks for each in found] == [{"web": 3}, {"web": 3}, {"web": 4}]
@@ -527,7 +527,7 @@ def test_docker_and_folders(serve):
         ({"id": "/system.slice/docker-1.scope", "name": "db"}, values(0, 6)),
         ({"id": "/docker/2", "name": "db"}, values(0, 12)),
         ({"id": "/cache"}, values(0, 18)))})
-    found, _ = ranges.looks(ranges.Prometheus(url, "", prometheus.Range("1", "2", 60)), model)
+    found, _ = ranges.looks(ranges.Prometheus(url, "", prometheus.QueryRange("1", "2", 60)), model)
     risen = {path: next(iter(each.values())).reading.usage
              for path, each in found[1].counted.items()}
     assert risen == {"web": 6 * SECOND, "db": 12 * SECOND, "cache": 18 * SECOND}

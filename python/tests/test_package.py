@@ -56,6 +56,14 @@ def test_functions_are_short_and_have_comments(path):
     assert [node.name for node in public if not ast.get_docstring(node)] == []
 
 
+def test_no_class_name_stands_twice():
+    """A name that two modules give to classes of theirs tells neither."""
+    names = [node.name for path in SOURCES
+             for node in ast.walk(ast.parse(path.read_text(encoding="utf-8")))
+             if isinstance(node, ast.ClassDef)]
+    assert {each for each in names if names.count(each) > 1} == set()
+
+
 def imported(*words):
     """The modules that the parser of some words imports."""
     script = ("import sys; from arbiter_host import command;"

@@ -282,7 +282,7 @@ def answering(raw):
 
 def asked(url):
     """The demands of a range query."""
-    found = prometheus.read(url, "q", prometheus.Range("1", "2", 1))
+    found = prometheus.read(url, "q", prometheus.QueryRange("1", "2", 1))
     return list(prometheus.history_of(found, url).demands("cpu", Host(1)))
 
 

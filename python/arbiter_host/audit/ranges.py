@@ -48,7 +48,7 @@ class Prometheus:
 
     url: str
     selector: str
-    range: prometheus.Range
+    range: prometheus.QueryRange
 
     def check(self) -> None:
         """A fault where words of it are refused."""

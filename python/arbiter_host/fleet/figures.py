@@ -12,7 +12,7 @@ QUANTILES = ("least", "5%", "25%", "median", "75%", "95%", "greatest")
 
 
 @dataclass(frozen=True)
-class Host:
+class HostAnswer:
     """One host's answer."""
 
     name: str
@@ -35,7 +35,7 @@ def number(value: Fraction) -> float:
     return round(float(value), 6)
 
 
-def total(hosts: Iterable[Host], *keys: str) -> Fraction:
+def total(hosts: Iterable[HostAnswer], *keys: str) -> Fraction:
     """The sum of an amount over hosts, in CPUs."""
     return sum((host.of(*keys) for host in hosts), Fraction(0))
 

@@ -6,7 +6,7 @@ from dataclasses import dataclass
 from typing import Any
 
 from arbiter_host.fleet import report
-from arbiter_host.fleet.figures import Host, number
+from arbiter_host.fleet.figures import HostAnswer, number
 from arbiter_host.fleet.hosts import Fleet, Pending
 
 HEADS = ["pod", "requests", "host", "gets", "wants", "others lose", "why"]
@@ -17,13 +17,13 @@ class Placed:
     """A pod and the host that it goes to, or why it goes to none."""
 
     pod: Pending
-    host: Host | None
+    host: HostAnswer | None
     # The answer of the host for the pod.
     answer: dict[str, Any]
     why: str
 
 
-def placed(fleet: Fleet, hosts: Sequence[Host], rule: str) -> list[Placed]:
+def placed(fleet: Fleet, hosts: Sequence[HostAnswer], rule: str) -> list[Placed]:
     """Each pod in order goes to the best host that has room for its request.
 
     What a host gives is as if the pod came alone. Its request stays taken for those behind it.
@@ -42,7 +42,7 @@ def placed(fleet: Fleet, hosts: Sequence[Host], rule: str) -> list[Placed]:
     return found
 
 
-def refusal(place: int, hosts: Sequence[Host], order: Sequence[Host]) -> str:
+def refusal(place: int, hosts: Sequence[HostAnswer], order: Sequence[HostAnswer]) -> str:
     """Why a pod goes nowhere."""
     if not hosts:
         return "no host is answered"

@@ -12,7 +12,7 @@ from typing import Any
 from arbiter_host import change, load, names, options as table, plain_files, progress
 from arbiter_host.faults import HostFault, NothingFound, UsageFault
 from arbiter_host.fleet import answers, hosts, pending, pool, report
-from arbiter_host.fleet.figures import Host
+from arbiter_host.fleet.figures import HostAnswer
 from arbiter_host.fleet.hosts import Fleet, HostFile
 from arbiter_host.fleet.job import Job
 from arbiter_host.fleet.work import Item
@@ -118,17 +118,17 @@ def workers_of(options: argparse.Namespace, fleet: Fleet) -> int:
 
 
 def asked(options: argparse.Namespace, job: Job, fleet: Fleet,
-          samples: Samples | None = None) -> tuple[list[Host], Missing]:
+          samples: Samples | None = None) -> tuple[list[HostAnswer], Missing]:
     """The answers of all hosts, and the hosts that have none with the reasons, by name."""
     engine = engine_of(options.library)
-    workers, found = workers_of(options, fleet), dict[str, Host]()
+    workers, found = workers_of(options, fleet), dict[str, HostAnswer]()
     missing: Missing = []
     items = items_of(fleet.hosts, samples, missing)
     replies = pool.replies(workers, options.scheduler, job.text(), items)
     with progress.bar("hosts", len(fleet.hosts)) as tick, closing(replies):
         for reply in replies:
             try:
-                found[reply.host] = Host(reply.host, answer_of(job, reply, engine))
+                found[reply.host] = HostAnswer(reply.host, answer_of(job, reply, engine))
             except HostFault as fault:
                 missing.append((reply.host, fault.message))
             tick()
@@ -187,7 +187,7 @@ def answer(options: argparse.Namespace, fleet: Fleet) -> None:
     check_answered(fleet, found, missing)
 
 
-def check_answered(fleet: Fleet, found: Sequence[Host], missing: Missing) -> None:
+def check_answered(fleet: Fleet, found: Sequence[HostAnswer], missing: Missing) -> None:
     """A fault where a host is not answered, or where a pod fits on none."""
     if missing:
         raise HostFault(f"hosts that are not answered: {len(missing)} of {len(fleet.hosts)}, the"

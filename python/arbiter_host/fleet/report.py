@@ -7,7 +7,7 @@ from fractions import Fraction
 from typing import Any
 
 from arbiter_host.fleet import figures
-from arbiter_host.fleet.figures import Host, number, total
+from arbiter_host.fleet.figures import HostAnswer, number, total
 from arbiter_host.names import padded, short, shown, width
 from arbiter_host.series import COUNTS
 
@@ -41,6 +41,10 @@ class Report:
     data: dict[str, Any]
 
 
+# Lines, tables, and the same as data.
+Parts = tuple[list[str], list[Table], dict[str, Any]]
+
+
 def cpu(value: Fraction, places: int = 2) -> str:
     """CPUs."""
     return f"{float(value):.{places}f}"
@@ -51,13 +55,13 @@ def signed(value: Fraction) -> str:
     return f"{float(value):+.2f}" if value else "0"
 
 
-def group_words(found: Sequence[Sequence[Any]], host: Host) -> str:
+def group_words(found: Sequence[Sequence[Any]], host: HostAnswer) -> str:
     """The first groups of a list with their amounts."""
     return ", ".join(f"{'the host' if path == '.' else short(shown(path))}"
                      f" ({cpu(host.cpus(amount))})" for path, amount in found[:2])
 
 
-def lack(host: Host) -> Fraction:
+def lack(host: HostAnswer) -> Fraction:
     """CPUs that a host's groups want through their limits and do not get."""
     return host.of("wanted") - host.of("served")
 
@@ -67,7 +71,7 @@ def part(one: Fraction, all_: Fraction) -> str:
     return f"{float(100 * one / all_):.0f}%" if all_ else "-"
 
 
-def plan_lines(hosts: Sequence[Host]) -> Iterator[str]:
+def plan_lines(hosts: Sequence[HostAnswer]) -> Iterator[str]:
     """What `explain` says of the whole fleet."""
     served, wanted, capacity = (total(hosts, key) for key in ("served", "wanted", "capacity"))
     groups = sum(host.answer["groups"] for host in hosts)
@@ -82,12 +86,12 @@ def plan_lines(hosts: Sequence[Host]) -> Iterator[str]:
     yield f"lack of a host in CPUs: {figures.quantile_words(lacks(hosts))}"
 
 
-def lacks(hosts: Sequence[Host]) -> list[Fraction]:
+def lacks(hosts: Sequence[HostAnswer]) -> list[Fraction]:
     """The quantiles of what hosts lack."""
     return figures.quantiles((lack(host), 1) for host in hosts)
 
 
-def plan_row(host: Host) -> list[str]:
+def plan_row(host: HostAnswer) -> list[str]:
     """The row of a host in `explain`."""
     answer = host.answer
     return [host.name, str(answer["cpus"]), cpu(host.of("served")), cpu(host.of("wanted")),
@@ -96,7 +100,7 @@ def plan_row(host: Host) -> list[str]:
             group_words(answer["limiting"], host) or "the demands alone"]
 
 
-def of_plan(hosts: Sequence[Host], _: str) -> tuple[list[str], list[Table], dict[str, Any]]:
+def of_plan(hosts: Sequence[HostAnswer], _: str) -> Parts:
     """The report of `explain`: the hosts that lack most first."""
     ordered = sorted(hosts, key=lambda host: (-lack(host), host.name))
     heads = ["host", "cpus", "served", "wanted", "lack", "use", "groups", "lacking", "starved",
@@ -110,26 +114,26 @@ def of_plan(hosts: Sequence[Host], _: str) -> tuple[list[str], list[Table], dict
                                            [plan_row(host) for host in ordered])], sums
 
 
-def changes(hosts: Sequence[Host]) -> Iterator[tuple[Fraction, int]]:
+def changes(hosts: Sequence[HostAnswer]) -> Iterator[tuple[Fraction, int]]:
     """The changes of all groups, each with its number."""
     for host in hosts:
         for rise, count in host.answer["changes"]:
             yield host.cpus(rise), count
 
 
-def moved(hosts: Sequence[Host], key: str) -> list[tuple[Fraction, str, str]]:
+def moved(hosts: Sequence[HostAnswer], key: str) -> list[tuple[Fraction, str, str]]:
     """The groups of the fleet that gain or lose most."""
     found = [(host.cpus(rise), host.name, path) for host in hosts
              for path, rise in host.answer[key]]
     return sorted(found, key=lambda each: (-abs(each[0]), *each[1:]))[:MOST_MOVED]
 
 
-def lost(host: Host) -> Fraction:
+def lost(host: HostAnswer) -> Fraction:
     """What the groups of a host lose, in CPUs."""
     return host.cpus(-sum(rise * count for rise, count in host.answer["changes"] if rise < 0))
 
 
-def change_row(host: Host) -> list[str]:
+def change_row(host: HostAnswer) -> list[str]:
     """The row of a host in `diff`."""
     answer = host.answer
     before, after = host.of("before", "served"), host.of("after", "served")
@@ -139,7 +143,7 @@ def change_row(host: Host) -> list[str]:
             group_words(answer["gains"], host) or "-", group_words(answer["losses"], host) or "-"]
 
 
-def of_changes(hosts: Sequence[Host], _: str) -> tuple[list[str], list[Table], dict[str, Any]]:
+def of_changes(hosts: Sequence[HostAnswer], _: str) -> Parts:
     """The report of `diff`: the hosts whose groups lose most first."""
     before, after = (total(hosts, key, "served") for key in ("before", "after"))
     found = list(changes(hosts))
@@ -166,21 +170,21 @@ def of_changes(hosts: Sequence[Host], _: str) -> tuple[list[str], list[Table], d
     return lines, tables, data
 
 
-def place_keys(host: Host, pod: dict[str, Any]) -> tuple[Fraction, Fraction]:
+def place_keys(host: HostAnswer, pod: dict[str, Any]) -> tuple[Fraction, Fraction]:
     """What others lose and the pod lacks, and what is left after it, in CPUs."""
     return host.cpus(pod["lost"] + pod["wants"] - pod["gets"]), host.cpus(pod["left"])
 
 
-def ranked(hosts: Sequence[Host], place: int, rule: str) -> list[Host]:
+def ranked(hosts: Sequence[HostAnswer], place: int, rule: str) -> list[HostAnswer]:
     """The hosts that can take a pod, the best first."""
-    def key(host: Host) -> tuple[Fraction, Fraction, str]:
+    def key(host: HostAnswer) -> tuple[Fraction, Fraction, str]:
         harm, left = place_keys(host, host.answer["pods"][place])
         return (harm, -left, host.name) if rule == "least-loss" else (-left, harm, host.name)
 
     return sorted((host for host in hosts if "why" not in host.answer["pods"][place]), key=key)
 
 
-def place_row(host: Host, place: int) -> list[str]:
+def place_row(host: HostAnswer, place: int) -> list[str]:
     """The row of a host for one pod."""
     pod = host.answer["pods"][place]
     return [host.name, cpu(host.cpus(pod["gets"])), cpu(host.cpus(pod["wants"])),
@@ -188,7 +192,7 @@ def place_row(host: Host, place: int) -> list[str]:
             group_words(pod["losers"], host) or "-"]
 
 
-def of_places(hosts: Sequence[Host], rule: str) -> tuple[list[str], list[Table], dict[str, Any]]:
+def of_places(hosts: Sequence[HostAnswer], rule: str) -> Parts:
     """The report of `place`: for each pod the best hosts first."""
     heads = ["host", "gets", "wants", "others lose", "losing", "left", "lose most"]
     lines, tables, best = [f"by {rule}: {RULES[rule]}; amounts are CPUs"], [], {}
@@ -208,19 +212,19 @@ def of_places(hosts: Sequence[Host], rule: str) -> tuple[list[str], list[Table],
     return lines, tables, {"by": rule, "rule": RULES[rule], "best": best}
 
 
-def mean(host: Host, key: str) -> Fraction:
+def mean(host: HostAnswer, key: str) -> Fraction:
     """CPUs that the groups of a host got or wanted, as a mean over all periods."""
     groups = host.answer["groups_of_columns"]
     periods = max((group["periods"] for group in groups), default=1)
     return host.cpus(sum(group[key] for group in groups)) / max(periods, 1)
 
 
-def count(host: Host, key: str) -> int:
+def count(host: HostAnswer, key: str) -> int:
     """A count over all groups of a host."""
     return sum(group[key] for group in host.answer["groups_of_columns"])
 
 
-def series_row(host: Host) -> list[str]:
+def series_row(host: HostAnswer) -> list[str]:
     """The row of a host in `replay`."""
     wanted, got = mean(host, "wanted"), mean(host, "got")
     row = max((group["samples_starved_in_a_row"] for group in host.answer["groups_of_columns"]),
@@ -229,9 +233,9 @@ def series_row(host: Host) -> list[str]:
             *(str(count(host, key)) for key in ("throttled", "bursts", "starved")), str(row)]
 
 
-def of_series(hosts: Sequence[Host], _: str) -> tuple[list[str], list[Table], dict[str, Any]]:
+def of_series(hosts: Sequence[HostAnswer], _: str) -> Parts:
     """The report of `replay`: the hosts that lack most as a mean first."""
-    def key(host: Host) -> tuple[Fraction, str]:
+    def key(host: HostAnswer) -> tuple[Fraction, str]:
         return mean(host, "got") - mean(host, "wanted"), host.name
 
     sums: dict[str, Any] = {f"mean_{each}_cpus": number(sum((mean(host, each) for host in hosts),
@@ -248,12 +252,11 @@ def of_series(hosts: Sequence[Host], _: str) -> tuple[list[str], list[Table], di
     return lines, [Table("Hosts, the greatest lack first", heads, rows)], sums
 
 
-ACTIONS: dict[str, Callable[[Sequence[Host], str],
-                            tuple[list[str], list[Table], dict[str, Any]]]] = {
+ACTIONS: dict[str, Callable[[Sequence[HostAnswer], str], Parts]] = {
     "explain": of_plan, "diff": of_changes, "place": of_places, "replay": of_series}
 
 
-def built(action: str, hosts: Sequence[Host], missing: Sequence[tuple[str, str]],
+def built(action: str, hosts: Sequence[HostAnswer], missing: Sequence[tuple[str, str]],
           rule: str) -> Report:
     """The report of a run. It depends on the answers alone, and not on who gave them when."""
     lines, tables, sums = ACTIONS[action](hosts, rule)

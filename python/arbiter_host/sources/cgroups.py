@@ -6,19 +6,19 @@ from fractions import Fraction
 
 from arbiter import Host
 from arbiter_host import demands, looks, units
-from arbiter_host.looks import Watched, Times
+from arbiter_host.looks import OverTime, Times
 from arbiter_host.model import Model, told_bound
 from arbiter_host.sources import tree_units
 
 
-def own_use(series: Watched, path: str, below: Sequence[str]) -> Fraction:
+def own_use(series: OverTime, path: str, below: Sequence[str]) -> Fraction:
     """What the tasks of a group with children used themselves, in thousandths of a CPU."""
     whole, *parts = (demands.mean(demands.used(series.measured(each), series.seconds))
                      for each in (path, *below))
     return max(whole - sum(parts, Fraction(0)), Fraction(0))
 
 
-def own_notes(model: Model, series: Watched) -> list[str]:
+def own_notes(model: Model, series: OverTime) -> list[str]:
     """Notes of what the tasks of inner groups used, from half a slice on."""
     notes, host = [], model.host
     for path, below in model.children().items():

@@ -95,7 +95,7 @@ def instant(at: Any) -> float:
     return found
 
 
-class Range(NamedTuple):
+class QueryRange(NamedTuple):
     """A time that is asked of a server: epochs or RFC 3339, and a step in seconds."""
 
     start: str
@@ -114,13 +114,13 @@ def moment(text: str) -> str:
     return text
 
 
-def range_of(word: str | None, step: str | None) -> Range:
+def range_of(word: str | None, step: str | None) -> QueryRange:
     """The range of `--range` and `--step`: a time up to now (default 1d), or START/END."""
     try:
         seconds = units.parse_time(step or "1m") / 10**6
         start, mark, end = (word or "1d").partition("/")
         if mark:
-            return Range(moment(start), moment(end), seconds)
+            return QueryRange(moment(start), moment(end), seconds)
         back = units.parse_time(start) / 10**6
     except UsageFault:
         raise
@@ -129,10 +129,10 @@ def range_of(word: str | None, step: str | None) -> Range:
     if not seconds or not back:
         raise UsageFault("--range, --step: above 0")
     now = math.floor(time.time())
-    return Range(f"{now - back:.3f}", str(now), seconds)
+    return QueryRange(f"{now - back:.3f}", str(now), seconds)
 
 
-def of_range(url: str, query: str, asked: Range, parsed: Callable[[Any], Found]) -> Found:
+def of_range(url: str, query: str, asked: QueryRange, parsed: Callable[[Any], Found]) -> Found:
     """What is parsed of the answer to a range query."""
     if not is_address(url):
         raise UsageFault(f"{shown(url)}: not http:// or https://")
@@ -241,7 +241,7 @@ def query_of(step: float) -> str:
                        for each in LEAVES)
 
 
-def read(url: str, query: str | None, asked: Range) -> list[Metric]:
+def read(url: str, query: str | None, asked: QueryRange) -> list[Metric]:
     """The series of a query, which is cAdvisor's unless it is said."""
     return of_range(url, query or query_of(asked.step), asked, series_of)
 

@@ -73,7 +73,7 @@ def bytes_of(options: argparse.Namespace, word: str) -> bytes:
     return plain_files.standard_input() if word == "-" else plain_files.file_bytes(word)
 
 
-def asked_range(options: argparse.Namespace) -> prometheus.Range:
+def asked_range(options: argparse.Namespace) -> prometheus.QueryRange:
     """The range that is asked of a server."""
     return prometheus.range_of(options.range, options.step)
 
