@@ -4,6 +4,7 @@
     fleet_worker.py ADDRESS MODE     a worker: honest, or wrong in one way
 """
 import asyncio
+import json
 import os
 import sys
 import time
@@ -13,11 +14,17 @@ from places import PACKAGE
 
 sys.path[:0] = [str(PACKAGE)]
 from arbiter_host.fleet import work  # noqa: E402
+from arbiter_host.fleet.evidence import packed, unpacked  # noqa: E402
+from arbiter_host.plan import Certified  # noqa: E402
 
 
 def forged(job_text, item):
-    """A host of more CPUs than its plan is of."""
-    return honest(job_text, item).replace(b'"host": [', b'"host": [1')
+    """The last group gets one slice more."""
+    told = json.loads(honest(job_text, item))
+    columns, found = unpacked(told["plans"][0], len(told["paths"][0]))
+    amounts = [found.amounts[0] + 1, *found.amounts[1:-1], found.amounts[-1] + 1]
+    told["plans"] = [packed(columns, Certified(amounts, found.certificate))]
+    return json.dumps(told).encode()
 
 
 def hung(job_text, item):

@@ -279,7 +279,7 @@ def test_a_wrong_worker_of_dask(ctl, folder, site, mode, told):
     status, out, err = ended(begun(ctl, "explain", hosts, "--scheduler", site.address, *JSON))
     found = json.loads(out)
     assert status == 1 and found["answered"] == 0 and len(found["not_answered"]) == 8
-    assert all(told in each["why"] or "CPUs" in each["why"] for each in found["not_answered"]), err
+    assert all(told in each["why"] for each in found["not_answered"]), err
 
 
 def test_a_scheduler_that_goes_away(ctl, folder, site):

@@ -17,8 +17,3 @@ def by_name(job_text, item):
     if item.host.startswith("slow"):
         time.sleep(0.7)
     return work.answered(job_text, item)
-
-
-def forged(job_text, item):
-    """A host of one CPU more than its plan is of."""
-    return work.answered(job_text, item).replace(b'"host": [', b'"host": [1')

@@ -167,10 +167,9 @@ def dask(address: str) -> Iterator[tuple[Executor, int]]:
     if address.startswith("tls:") and not security.get_connection_args("client")["ssl_context"]:
         raise HostFault(f"{shown(address)}: no certificate is set (docs/FLEET.md)")
     try:
-        # What workers answer is taken as bytes. TLS is as the configuration of Dask says.
+        # TLS is as the configuration of Dask says.
         client = distributed.Client(address, set_as_default=False, timeout=ASK_SECONDS,
-                                    security=security,
-                                    deserializers=["dask", "msgpack", "error"])
+                                    security=security)
     except (OSError, ValueError, RuntimeError, TypeError) as error:
         raise HostFault(f"{shown(address)}: {shown(str(error))}") from error
     try:
