@@ -174,7 +174,7 @@ def unlike(root: Root, wanted: Sequence[tuple[str, Settings]]) -> list[str]:
         if now is None:
             words.append(f"{shown(folder)}: is gone")
         elif now != settings:
-            words.append(f"{shown(folder)}: holds {told(now)}, not {told(settings)}")
+            words.append(f"{shown(folder)}: holds {in_words(now)}, not {in_words(settings)}")
     return words
 
 
@@ -200,7 +200,7 @@ def check_host(root: Root, changes_: Sequence[Change]) -> None:
                                    *wrong]))
 
 
-def told(settings: Settings) -> str:
+def in_words(settings: Settings) -> str:
     """Settings in words."""
     weight = f"weight {settings.weight}" if settings.weight else "idle (cpu.idle)"
     return f"{weight}, max {settings.maximum}, burst {settings.burst}"
@@ -453,8 +453,8 @@ def take_back(back: Back, entry: dict[str, Any], is_forced: bool) -> bool:
         # (each setting of a loop stands for itself, since it takes bursts away)
         wanted = (restored if "earlier" in entry else wanted_back)(now, old, written)
     if wanted != old:
-        back.left.append(f"{folder}: holds {told(now)}, which is neither what `apply` found"
-                         f" ({told(old)}) nor what it wrote: what differs is left (--force)")
+        back.left.append(f"{folder}: holds {in_words(now)}, which is neither what `apply` found"
+                         f" ({in_words(old)}) nor what it wrote: what differs is left (--force)")
     if wanted != now:
         back.changes.append(Change(folder, now, wanted))
     return True

@@ -268,7 +268,7 @@ class Loop:
             kept.stands = now
         elif now != kept.stands:
             if kept.is_leaf and not kept.is_left:
-                self.tell([f"{path}: somebody set {apply.told(now)}: its limit is left alone"])
+                self.tell([f"{path}: somebody set {apply.in_words(now)}: its limit is left alone"])
             back = apply.restored(now, kept.old, [kept.stands])
             kept.old, kept.stands = replace(back, weight=kept.old.weight), now
             kept.is_left = kept.is_leaf
@@ -492,7 +492,7 @@ class Loop:
             return
         wanted = apply.restored(now, kept.old, kept.written)
         if wanted != kept.old:
-            self.tell([f"{kept.folder}: somebody set {apply.told(now)}: it is left alone"])
+            self.tell([f"{kept.folder}: somebody set {apply.in_words(now)}: it is left alone"])
         if wanted != now:
             back.changes.append(Change(kept.folder, now, wanted))
 

@@ -162,7 +162,7 @@ class Model:
         return replace(self, groups=groups, notes=list(self.notes), refused=list(self.refused))
 
 
-def told_bound(paths: Sequence[str]) -> list[str]:
+def bound_notes(paths: Sequence[str]) -> list[str]:
     """What is told of groups that keep to CPUs of their own; nothing of none."""
     if not paths:
         return []

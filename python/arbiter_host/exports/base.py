@@ -28,7 +28,7 @@ class Differing(NamedTuple):
     def words(self) -> str:
         """What changes, for a comment: one line."""
         one, two = (apply.settings_of(each) for each in (self.before, self.after))
-        return f"{shown(self.path)}: {apply.told(one)} -> {apply.told(two)}"
+        return f"{shown(self.path)}: {apply.in_words(one)} -> {apply.in_words(two)}"
 
     @property
     def has_weight(self) -> bool:

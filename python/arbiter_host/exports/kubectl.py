@@ -184,9 +184,9 @@ def check_again(draft: Draft, pods: Pods) -> None:
         if path in groups:
             would = apply.settings_of(groups[path])
         if wanted != would:
-            told = f"set {apply.told(would)}" if would else "put it into another class"
-            draft.refuse(path, f"{apply.told(wanted)} is asked for, and Kubernetes would {told}:"
-                         " requests and limits of containers decide it")
+            told = f"set {apply.in_words(would)}" if would else "put it into another class"
+            draft.refuse(path, f"{apply.in_words(wanted)} is asked for, and Kubernetes would"
+                         f" {told}: requests and limits of containers decide it")
 
 
 def check_class(draft: Draft, group: Differing, target: Target) -> None:

@@ -7,7 +7,7 @@ from fractions import Fraction
 from arbiter import Host
 from arbiter_host import demands, looks, units
 from arbiter_host.looks import OverTime, Times
-from arbiter_host.model import Model, told_bound
+from arbiter_host.model import Model, bound_notes
 from arbiter_host.sources import tree_units
 
 
@@ -50,7 +50,7 @@ def read(folders: Sequence[str], host: Host, times: Times = Times(), want: str =
     model = series.first.model
     if not model.groups:
         model.notes.append("no groups with the cpu controller are below this folder")
-    model.notes += told_bound(series.first.bound)
+    model.notes += bound_notes(series.first.bound)
     model.notes += [f"{path}: gone at a later reading" for path in series.gone if path != "."]
     measured = {path: series.measured(path) for path in model.groups}
     demands.set_demands(model, measured, want, series.seconds)

@@ -11,7 +11,7 @@ from arbiter import Host, Library
 from arbiter_host import demands, names, units
 from arbiter_host.demands import Measured, Place
 from arbiter_host.faults import HostFault
-from arbiter_host.model import MAX_CAPACITY, Group, Model, check_count, checked, told_bound
+from arbiter_host.model import MAX_CAPACITY, Group, Model, check_count, checked, bound_notes
 from arbiter_host.names import last_name
 from arbiter_host.owned import NONE, Range, Setting
 from arbiter_host.sources import systemd
@@ -181,7 +181,7 @@ class ContainerSource(Measurable):
         taken: dict[str, set[str]] = {}
         places = {add(model, container, self.library, self.wish, taken): (at, 0)
                   for at, container in enumerate(self.running)}
-        model.notes += told_bound([path for path, (at, _) in places.items() if text(
+        model.notes += bound_notes([path for path, (at, _) in places.items() if text(
             table(self.running[at], "HostConfig"), "CpusetCpus")])
         if self.wish.want == "request" or self.wish.want in demands.OF_USE and not self.known:
             raise HostFault(f"--want {self.wish.want} needs --used: containers have"

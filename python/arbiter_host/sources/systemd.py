@@ -15,7 +15,7 @@ from arbiter import Host, Library
 from arbiter_host import demands, names, units
 from arbiter_host.demands import Measured, Reading, Use
 from arbiter_host.faults import HostFault
-from arbiter_host.model import MAX_DEPTH, Group, Model, checked, told_bound
+from arbiter_host.model import MAX_DEPTH, Group, Model, checked, bound_notes
 from arbiter_host.names import shown
 from arbiter_host.owned import NONE, Owned, Range, Setting
 from arbiter_host.sources.wish import File, Wish
@@ -242,7 +242,7 @@ class UnitSource(Units):
                                       tasks=whole(self.properties[path].get("TasksCurrent", "")))
         if self.has_left_out:
             model.notes.append("units without a group are left out")
-        model.notes += told_bound([path for path in model.groups
+        model.notes += bound_notes([path for path in model.groups
                                    if self.properties.get(path, {}).get("AllowedCPUs")])
         demands.set_demands(model, measured, self.want, self.seconds)
         return model
