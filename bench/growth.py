@@ -12,7 +12,7 @@ A time is processor time, user and system, of whole processes. It is the least o
 script with the measured lines, less the least of the script without them. So other work on the
 machine tells little in it. A run in which a virtual machine's host took part is made again.
 
-Status 1: a cost grows faster than docs/MEASURED.md says, also when it was measured again. Status 2:
+Status 1: a cost grows faster than bench/measured.md says, also when it was measured again. Status 2:
 the program could not be measured. It is no part of ./test.
 """
 import argparse

@@ -179,7 +179,7 @@ def cell(kept: Table, found: Table, row: Row) -> str:
 
 
 def printed(kept: Table, found: Table) -> Iterator[str]:
-    """The table for docs/MEASURED.md."""
+    """The table for bench/measured.md."""
     places = [(shape, groups) for groups, (_, shapes) in SIZES.items() for shape in shapes]
     places = [place for place in places if place in {(row.shape, row.groups) for row in found}]
     yield f"| Work | {' | '.join(f'{shape}, {groups}' for shape, groups in places)} |"

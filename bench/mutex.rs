@@ -1,5 +1,5 @@
 //! Times a period of some processors whose threads draw under one `std::sync::Mutex`, beside which
-//! docs/MEASURED.md has the program's `period`:
+//! bench/measured.md has the program's `period`:
 //!
 //!     rustc -O bench/mutex.rs -o /tmp/mutex && /tmp/mutex
 //!

@@ -39,7 +39,7 @@
  * Memory is asked for after steps 1 and 2: 71 can stand in place of any later answer, and of no earlier one. So of arbiter_check
  * a bad host with amounts of another length than the rows answers 1 to 3, and one with uneven nums, dens and places 50. Of
  * arbiter_check_text 71 can stand in place of any answer.
- * arbiter_name gives the name of each, and of those that arbiter_script writes for lines. docs/NUMBERS.md says what to do about
+ * arbiter_name gives the name of each, and of those that arbiter_script writes for lines. docs/USING.md says what to do about
  * each. Where a call does not answer 0, all that it may write is as it was, but for `row` in step 4 and in arbiter_refused_row.
  *
  * arbiter_slices, arbiter_demand, arbiter_weight_of_shares, arbiter_refused_row, arbiter_name and arbiter_version ask for no
@@ -106,7 +106,7 @@ uint32_t arbiter_check_text(const uint8_t *text, size_t text_length, uint32_t *r
  * root, each with a newline behind it, which no name has: `names_count` bytes.
  *
  * Line refused_lines[i] of the script, where the first is 1, was refused by the number refused_faults[i], and changed nothing:
- * 7 to 9, 11 to 17, 20 to 28, 30, 31, 33, or 80 to 82, as docs/NUMBERS.md has them. There are `refused_count` such lines.
+ * 7 to 9, 11 to 17, 20 to 28, 30, 31, 33, or 80 to 82, as docs/USING.md has them. There are `refused_count` such lines.
  *
  * Answers 50 where the eight columns differ in length, or the two of refused lines do; then 1 to 3; then 71, or 50 where a column
  * is too short. For a text with n newlines n + 2 groups, and never more than 16384, text_length + 1 bytes of names, and n + 1
@@ -207,7 +207,7 @@ uint32_t arbiter_tune(uint64_t processors, uint64_t period_us, uint64_t slice_us
  * Writes to `held` a leaf's limit for the next round, and another group's own limit or ARBITER_NO_LIMIT; to `demands` 1000000 for
  * a hungry leaf and what it used for another; to `amounts` the plan of these demands. The last four columns are the certificate of
  * the amounts, as of arbiter_certify, for the rows with `demands`. No leaf is limited above its own limit, nor below its guarantee,
- * whatever was read. docs/LAWS.md has the rule and its laws. Two plans. */
+ * whatever was read. docs/PROVED.md has the rule and its laws. Two plans. */
 uint32_t arbiter_hold(uint64_t processors, uint64_t period_us, uint64_t slice_us,
                       const uint32_t *parents, size_t parents_length, const uint64_t *weights, size_t weights_length,
                       const uint64_t *limits, size_t limits_length, const uint64_t *used, size_t used_length,

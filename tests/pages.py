@@ -19,10 +19,10 @@ DOCS = ROOT / "docs"
 FENCE = re.compile(r"^```(\S*) ?(.*)$")
 KINDS = ("script", "certified", "command", "python")
 # Pages that have to have something to run.
-PAGES = ("USING.md", "EMBEDDING.md", "NODE.md", "TOOLS.md", "FLEET.md", "LAWS.md", "HOLD.md")
+PAGES = ("USING.md", "EMBEDDING.md", "TOOLS.md", "LINUX.md")
 # test_library.py runs its examples that have files, up to their answers.
 EMBEDDING = "EMBEDDING.md"
-FILES = ("c", "toml", "rust")
+FILES = ("c",)
 
 
 @dataclass
@@ -127,7 +127,7 @@ def code_names() -> set:
 def table_rows() -> list:
     """The rows of the table of numbers: (number, name, by, when, what to do)."""
     rows = []
-    for line in (DOCS / "NUMBERS.md").read_text(encoding="utf-8").splitlines():
+    for line in (DOCS / "USING.md").read_text(encoding="utf-8").splitlines():
         cells = [cell.strip() for cell in line.strip().strip("|").split("|")]
         if re.fullmatch(r"\d+", cells[0]) and line.startswith("|") and len(cells) > 3:
             rows.append((int(cells[0]), *cells[1:]))

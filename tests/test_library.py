@@ -90,7 +90,7 @@ def calls(library):
 
 @functools.lru_cache(maxsize=None)
 def names() -> dict:
-    """The name of each number of the header, from docs/NUMBERS.md."""
+    """The name of each number of the header, from docs/USING.md."""
     return {row[0]: row[1] for row in pages.table_rows() if row[0] in NUMBERS}
 
 
@@ -561,7 +561,7 @@ def test_changed_texts(calls, program, changed_texts):
 
 def test_names(calls):
     """The name of each number of the header, and of no other."""
-    same(set(names()), NUMBERS, "numbers in docs/NUMBERS.md")
+    same(set(names()), NUMBERS, "numbers in docs/USING.md")
     same(c.NAME_ROOM, 1 + max(map(len, names().values())), "room for each name")
     powers = [2**bits + low for bits in range(10, 32) for low in (0, 1, 71)]
     for number in [*range(1000), *powers, 2**32 - 1]:
@@ -804,9 +804,7 @@ def embedded(name):
     raise ValueError(f"docs/{pages.EMBEDDING} has no example with {name}")
 
 
-EXAMPLES = {"two-groups.c": ["cc", "pkg-config"], "two_groups.py": ["python3"],
-            "Cargo.toml": ["cargo", "rustc", "pkg-config"], "questions.py": ["python3"],
-            "units.py": ["python3"]}
+EXAMPLES = {"two-groups.c": ["cc", "pkg-config"], "two_groups.py": ["python3"]}
 
 
 @pytest.mark.parametrize("name", EXAMPLES)

@@ -20,7 +20,7 @@ PAGES = TOP_PAGES + [f"docs/{path.name}" for path in sorted((ROOT / "docs").glob
 SHORT = ("README.md", "docs/ARCHITECTURE.md", "docs/USING.md")
 GREATEST_WORDS = 30
 # Pages whose references to clauses and definitions are held to the sources, and how many they have.
-REFERRING = {"docs/PROVED.md": 20, "docs/ARCHITECTURE.md": 20, "docs/LAWS.md": 20}
+REFERRING = {"docs/PROVED.md": 40, "docs/ARCHITECTURE.md": 20}
 REFERENCE = re.compile(r"`(?:(\w+)/)?((?:\w+/)*\w+\.(rt|antt)):(\w+)(?:\.(\w+))?`(?: of (\w+))?")
 LINK = re.compile(r"\]\(([^)#\s]+)(#[^)]*)?\)")
 # A heading of another page: [USING.md](USING.md), 'The files'
@@ -37,12 +37,13 @@ def crates() -> list:
     return [line.split(":")[0].split()[0] for line in lines if line and not line.startswith("#")]
 
 
-def test_docs_are_small():
-    """The pages of docs/ have at most 260 KB: a page says what holds today. Data are beside them."""
-    sizes = {str(path.relative_to(ROOT)): path.stat().st_size
-             for path in (ROOT / "docs").rglob("*.md")}
-    assert sum(sizes.values()) <= 260 * 1024, sorted(sizes.items(), key=lambda item: -item[1])
-    assert sizes["docs/KERNEL.md"] <= 6 * 1024, "who runs a host reads it in ten minutes"
+def test_pages_are_small():
+    """At most ten pages, those of docs/ of at most 150 KB: a page says what holds today."""
+    pages = [ROOT / "README.md", *(ROOT / "docs").glob("**/*.md")]
+    sizes = {str(path.relative_to(ROOT)): path.stat().st_size for path in pages}
+    assert len(sizes) <= 10
+    assert sum(sizes.values()) - sizes["README.md"] <= 150 * 1024, sizes
+    assert sizes["README.md"] <= 8 * 1024
 
 
 # Links
@@ -70,14 +71,14 @@ def test_pages_that_are_named():
     ended = run(words, cwd=ROOT)
     same((ended.status, ended.err), (0, b""), "git grep")
     named = set(ended.out.decode().split())
-    assert len(named) > 10
+    assert len(named) >= 7
     same(sorted(page for page in named if not (ROOT / page).exists()), [], "pages that are not")
 
 
 @pytest.mark.parametrize("page", PAGES)
 def test_paths(page):
     """Each path from the top of the repository that a page names is there, but what is made."""
-    folders = "bench|crates|docs|examples|python|scripts|share|tests|tools"
+    folders = "bench|crates|docs|examples|independent|python|scripts|share|tests"
     named = [path for path in re.findall(rf"`((?:{folders})/[\w./-]+)`", text_of(page))
              if "/out/" not in path]
     same([path for path in named if not (ROOT / path).exists()], [], "paths to nothing")
@@ -96,7 +97,7 @@ def test_files_of_the_walk():
 def test_functions_of_the_walk():
     """Each function that the way of a line names is in some crate."""
     text = text_of("docs/ARCHITECTURE.md")
-    walk = text[text.index("## The way of a `plan` line"):text.index("## Rules")]
+    walk = text[text.index("## The way of a `plan` line"):text.index("## The Python package")]
     named = {name for name in re.findall(r"`(?:\w+::)?([a-z_]+)`", walk)} - {"plan", "period"}
     assert len(named) >= 15
     sources = "\n".join(path.read_text(encoding="utf-8")
@@ -200,12 +201,10 @@ def test_references_are_refused():
 
 
 def test_one_time_of_the_first_run():
-    """The pages and the scripts tell one time of the first ./arbiter: a minute."""
+    """README and the scripts tell one time of the first ./arbiter: a minute."""
     said = re.search(r"^checked build: (\d+) min", text_of("scripts/times"), re.M)
     same(said.group(1), "1", "scripts/times")
-    times = r"(?:about|takes)\s+(half a minute|a minute|\d+ seconds)"
-    told = {name: re.findall(times, text_of(name)) for name in ("README.md", "docs/BUILDING.md")}
-    same({name: set(found) for name, found in told.items()}, {name: {"a minute"} for name in told})
+    assert "about a minute at the first call" in text_of("README.md")
 
 
 def test_each_crate_is_described():

@@ -101,20 +101,13 @@ def test_tests_are_there():
 
 
 def test_what_no_run_reaches():
-    """BUILDING has each file of tests of the crates of tests, and none that is not there."""
-    page = text_of("docs/BUILDING.md")
-    table = page[page.index("## What no run reaches"):page.index("## What a test costs")]
-    there = {(path.parts[-3], path.stem) for path in ROOT.glob("crates/bw_*_tests/src/*.rt")
+    """DEVELOPING names each crate of tests, and tests of the programs that are there."""
+    page = text_of("docs/DEVELOPING.md")
+    part = page[page.index("## What no run reaches"):page.index("## Measuring")]
+    there = {path.parts[-3] for path in ROOT.glob("crates/*_tests/src/*.rt")
              if "#[test]" in path.read_text(encoding="utf-8")}
-    assert len(there) >= 20
-    named = {(crate, name) for crate, names in re.findall(r"(bw_\w+_tests) ((?:`\w+`,? ?)+)", table)
-             for name in re.findall(r"\w+", names)}
-    same(sorted(named), sorted(there), "files of tests")
-    words = [*re.findall(r"`(test_\w+\.py)`", table), *re.findall(r"`(test_\w+)`", table)]
-    tests = "".join(path.read_text(encoding="utf-8") for path in (ROOT / "tests").glob("test_*.py"))
-    same([word for word in words if not (ROOT / "tests" / word).is_file()
-          and f"\ndef {word}(" not in tests], [], "tests")
-    assert '"a period of 64 processors"' in tests
+    assert len(there) >= 4
+    same(sorted(set(re.findall(r"\bbw_\w+_tests\b", part))), sorted(there), "crates of tests")
 
 
 def test_edits_are_there():

@@ -91,9 +91,9 @@ def test_tables_are_written_into_a_page():
 
 
 def test_page_has_the_tables_of_the_runs():
-    """docs/HOLD.md has both tables, and says how many runs there are."""
+    """docs/kernel/hold.txt has both tables, and says how many runs there are."""
     found = held_page.read([str(held_page.RUNS)])
-    text = (ROOT / "docs/HOLD.md").read_text(encoding="utf-8")
+    text = (ROOT / "docs/kernel/hold.txt").read_text(encoding="utf-8")
     assert "\n".join(held_page.of_page(found)) in text
     assert f"{len(found)} runs" in text
 

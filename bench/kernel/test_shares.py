@@ -302,7 +302,7 @@ def test_told_runs_are_read():
 
 
 def test_page_has_the_table_of_all_runs():
-    """docs/KERNEL.md and docs/kernel/hosts.txt have what the runs give."""
+    """docs/LINUX.md and docs/kernel/hosts.txt have what the runs give."""
     found = kinds.all_seen()
     assert "\n".join(kinds.rows(found)) in kinds.PAGE.read_text(encoding="utf-8")
     assert kinds.HOSTS.read_text(encoding="utf-8") == "\n".join(kinds.hosts(found)) + "\n"

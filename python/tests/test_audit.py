@@ -574,7 +574,7 @@ def kept_audit(engine, name):
 
 
 def test_kept_runs_are_as_far_off(engine):
-    """Each run is as far off as docs/KERNEL.md was made of. There the share is that of the time
+    """Each run is as far off as docs/LINUX.md was made of. There the share is that of the time
     that other tasks left, which used at most half a percent of it."""
     for name, host in kept.kept()["hosts"].items():
         audit, runs = kept_audit(engine, name)
@@ -593,7 +593,7 @@ def test_kept_runs_are_as_far_off(engine):
     # a limit that binds, and as many tasks as CPUs: most within a point
     ("two-nested", 0, 1), ("trial-71-two-cpus-limit", 0, 1), ("trial-61-two-cpus-weights", 0, 1)])
 def test_rows_of_the_page(engine, name, least, most):
-    """The group that was most off is as far off as the row of docs/KERNEL.md says."""
+    """The group that was most off is as far off as the row of docs/LINUX.md says."""
     audit, _ = kept_audit(engine, name)
     worst = max(abs(each.off) for found in audit.intervals for each in found.cells.values())
     assert least <= worst / 10 <= most

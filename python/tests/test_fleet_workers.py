@@ -325,7 +325,7 @@ def certificate(folder, name):
 
 
 def test_a_scheduler_with_tls(ctl, folder):
-    """As docs/FLEET.md sets it: without a certificate no host is answered."""
+    """As docs/TOOLS.md sets it: without a certificate no host is answered."""
     pytest.importorskip("distributed")
     certificate(folder, "ca")
     secured = {"DASK_DISTRIBUTED__COMM__REQUIRE_ENCRYPTION": "True",

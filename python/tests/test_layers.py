@@ -1,5 +1,6 @@
 """The graph of imports: each module stands in a layer, and leans on no layer above it."""
 import ast
+import re
 
 import pytest
 from places import PACKAGE
@@ -98,3 +99,27 @@ def test_no_module_leans_on_itself():
         free = {name for name, others in below.items() if not others & below.keys() - {name}}
         assert free, sorted(below)
         below = {name: others for name, others in below.items() if name not in free}
+
+
+PAGE = (PACKAGE.parent / "docs/ARCHITECTURE.md").read_text(encoding="utf-8")
+
+
+@pytest.mark.parametrize("layer", ORDER)
+def test_page_has_the_layer(layer):
+    """docs/ARCHITECTURE.md has the modules of each layer."""
+    row = re.search(rf"^\| {layer} \| (.*) \|$", PAGE, re.M)
+    parts = {name for name in FEATURE if LAYER[name] == layer}
+    assert row, layer
+    assert set(re.findall(r"`(\w+)`", row[1])) == {*LAYERS[layer].split(), *parts}
+
+
+def test_rules_are_there():
+    """Each function and test that a Python row of the rules names is in its file."""
+    named = re.findall(r"`([\w/]+\.py):(\w+)`", PAGE[PAGE.index("## Rules"):])
+    assert len(named) >= 10
+    tests = (PACKAGE / "tests", PACKAGE.parent / "tests/kernel")
+    for file, name in named:
+        folders = tests if file.startswith("test_") else (PACKAGE / "arbiter_host",)
+        texts = [(folder / file).read_text(encoding="utf-8") for folder in folders
+                 if (folder / file).is_file()]
+        assert any(f"def {name}(" in text for text in texts), f"{file}:{name}"

@@ -28,7 +28,7 @@ SETS = {
     "review": "others, which made the rule for limits",
     "trial": "an earlier trial, which changed nothing",
     "chance": "ten hosts by chance, run after all that",
-    "again": "four hosts of docs/HOLD.md, ten runs or more each, later still",
+    "again": "four hosts of docs/LINUX.md, ten runs or more each, later still",
     "eight": "eight CPUs with two caches, of which the model knows nothing",
 }
 

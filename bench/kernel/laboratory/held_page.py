@@ -1,4 +1,4 @@
-"""Tables of docs/HOLD.md from the files of `laboratory.held --save`.
+"""Tables of docs/kernel/hold.txt from the files of `laboratory.held --save`.
 
     PYTHONPATH=tests:bench/kernel /usr/bin/python3 -m laboratory.held_page [--write] [FILE..]
 
@@ -25,10 +25,10 @@ from laboratory.page import kernel_of, off
 
 Saved = dict[str, Any]
 RUNS = Path(__file__).resolve().parents[1] / "runs/hold.jsonl.gz"
-PAGE = Path(__file__).resolve().parents[3] / "docs/HOLD.md"
+PAGE = Path(__file__).resolve().parents[3] / "docs/kernel/hold.txt"
 # The scenario whose demands change, which has a table of its own.
 STEP = "two-step"
-# The ways that have columns in docs/HOLD.md.
+# The ways that have columns in docs/kernel/hold.txt.
 PAGE_WAYS = ["weights", "limits-1s", "loop", "loop-1s"]
 # Cells have the served part of a plan if it is less.
 NEARLY_ALL = 0.995
@@ -143,7 +143,7 @@ def rounds(saved: Saved) -> Iterator[str]:
 
 
 def of_page(found: list[Saved]) -> list[str]:
-    """The two tables of docs/HOLD.md: scenarios, and all ways."""
+    """The two tables of docs/kernel/hold.txt: scenarios, and all ways."""
     steady = [each for each in found if each["scenario"] != STEP]
     return [*rows(steady, "Scenario", PAGE_WAYS), "", *sums(steady, "Way", list(WAYS))]
 

@@ -1,4 +1,4 @@
-"""How far off groups were by kind of host: a table of docs/KERNEL.md, and docs/kernel/hosts.txt.
+"""How far off groups were by kind of host: a table of docs/LINUX.md, and docs/kernel/hosts.txt.
 
     PYTHONPATH=tests:bench/kernel /usr/bin/python3 -m laboratory.kinds [--write]
 
@@ -22,7 +22,7 @@ from laboratory import exact, held_page, kept
 from laboratory.__main__ import SCENARIOS
 
 DOCS = Path(__file__).resolve().parents[3] / "docs"
-PAGE, HOSTS, RUNS = DOCS / "KERNEL.md", DOCS / "kernel/hosts.txt", DOCS / "kernel/runs.txt"
+PAGE, HOSTS, RUNS = DOCS / "LINUX.md", DOCS / "kernel/hosts.txt", DOCS / "kernel/runs.txt"
 Host = dict[str, Any]
 # Kinds of groups, in the words of the page, and why they are off on several CPUs.
 KINDS = {
@@ -177,7 +177,7 @@ def hosts(found: list[Seen]) -> Iterator[str]:
     yield "# How far off groups were, by host"
     yield ""
     yield ("Written by `laboratory.kinds`, whose first lines say from what. Cells are as those of"
-           " docs/KERNEL.md: 9 of 10 groups, the most, the most in parts.")
+           " docs/LINUX.md: 9 of 10 groups, the most, the most in parts.")
     yield ""
     yield "| Host | CPUs | kind | groups | off |"
     yield "|---|---|---|---|---|"

@@ -165,7 +165,7 @@ def dask(address: str) -> Iterator[tuple[Executor, int]]:
     warnings.filterwarnings("ignore", module="distributed")
     security = distributed.Security()
     if address.startswith("tls:") and not security.get_connection_args("client")["ssl_context"]:
-        raise HostFault(f"{shown(address)}: no certificate is set (docs/FLEET.md)")
+        raise HostFault(f"{shown(address)}: no certificate is set (docs/TOOLS.md)")
     try:
         # TLS is as the configuration of Dask says.
         client = distributed.Client(address, set_as_default=False, timeout=ASK_SECONDS,

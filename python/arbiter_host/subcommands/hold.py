@@ -246,5 +246,5 @@ EXAMPLES = (
 )
 HOLD = Subcommand("hold",
                   "Holds the plan on a host with cgroup v2: each round it reads what each group"
-                  " used, and with --yes writes limits for the next one. docs/HOLD.md says when it"
+                  " used, and with --yes writes limits for the next one. docs/LINUX.md says when it"
                   " helps.", add_words, run, DETAILS, EXAMPLES)

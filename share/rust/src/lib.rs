@@ -159,7 +159,7 @@ pub struct Script {
 /// What a call answers in place of 0.
 #[derive(Clone, Copy, Debug, PartialEq, Eq)]
 pub struct Fault {
-    /// Its number, as `docs/NUMBERS.md` has it.
+    /// Its number, as `docs/USING.md` has it.
     pub number: u32,
     /// The row of the group that has it, where one has.
     pub row: Option<u32>,
