@@ -185,7 +185,7 @@ def test_examples_run(ctl, examples, server, command):
     ended = subprocess.run(["bash", "-c", example_command(command, examples)], cwd=examples,
                            capture_output=True, env=ctl.environment, timeout=60, check=False)
     assert (ended.returncode, b"Traceback" in ended.stderr) == (0, False), ended.stderr.decode()
-    made = re.search(r"(?: -o | --undo | --as \S+ --to )(\S+)", command.rpartition("|")[2])
+    made = re.search(r"(?: -o \w+=| --undo )(\S+)", command.rpartition("|")[2])
     assert (examples / made.group(1)).stat().st_size if made else ended.stdout
 
 
