@@ -144,10 +144,10 @@ def own_folder() -> str:
 def own_group() -> Identity | None:
     """The group in which this process runs, by whatever path it is reached."""
     try:
-        found = os.stat(own_folder())
+        status = os.stat(own_folder())
     except OSError:
         return None
-    return found.st_dev, found.st_ino
+    return status.st_dev, status.st_ino
 
 
 def is_trusted(folder: str) -> bool:
@@ -354,19 +354,19 @@ class Loop:
         for_all = [False, *(path in used and used[path].asks_for_all(host.processors)
                             for path in model.groups)]
         with asking("no limits"):
-            found = self.engine.library.hold(host, Columns.of(asks), for_all)
-        asked = [row._replace(demand=demand) for row, demand in zip(rows, found.demands)]
+            held = self.engine.library.hold(host, Columns.of(asks), for_all)
+        asked = [row._replace(demand=demand) for row, demand in zip(rows, held.demands)]
         with asking("the check refused the plan"):
-            self.engine.library.check(host, Columns.of(asked), found.amounts, found.certificate)
+            self.engine.library.check(host, Columns.of(asked), held.amounts, held.certificate)
         limits, told = {}, {}
         for row, path in enumerate(model.groups, 1):
-            limit = found.limits[row]
+            limit = held.limits[row]
             if path in used and limit is not None:
                 limits[path], kept = limit, self.groups[path]
                 hungry = used[path].hungry
                 lacks = (kept.planned or 0) - rows[row].demand if hungry else 0
-                kept.planned = found.amounts[row]
-                told[path] = {"want": found.demands[row], "plan": found.amounts[row],
+                kept.planned = held.amounts[row]
+                told[path] = {"want": held.demands[row], "plan": held.amounts[row],
                               "used": rows[row].demand, "limit": limit, "hungry": hungry,
                               "unserved": max(lacks, 0)}
         return Written(limits, self.weights(model, limits, told), told)
@@ -379,10 +379,10 @@ class Loop:
         most = self.host.period_us // self.host.slice_us
         parts = {path: weights.of_leaf(limit, self.tasks[path] * most)
                  for path, limit in limits.items()}
-        found = weights.of_tree(model, parts)
+        written = weights.of_tree(model, parts)
         for path, line in told.items():
-            line["weight"] = found[path]
-        return found
+            line["weight"] = written[path]
+        return written
 
     def limited(self, path: str, kept: Kept, limit: int) -> Settings:
         """What is written for a limit: what stood where that allows no more, and what stands where
@@ -404,25 +404,25 @@ class Loop:
             return stands
         return replace(old, quota=most, period=period, burst=0)
 
-    def target_of(self, path: str, kept: Kept, found: Written) -> Settings:
+    def target_of(self, path: str, kept: Kept, written: Written) -> Settings:
         """What a group is to hold. A leaf without a limit of the rule holds what it holds."""
         if kept.is_left:
             return kept.old
-        if path in found.limits:
-            target = self.limited(path, kept, found.limits[path])
+        if path in written.limits:
+            target = self.limited(path, kept, written.limits[path])
         elif kept.is_leaf:
             return kept.stands
         else:
             target = kept.old
         if not kept.stands.weight:
             return target
-        return replace(target, weight=found.weights.get(path, target.weight))
+        return replace(target, weight=written.weights.get(path, target.weight))
 
-    def write(self, found: Written) -> int:
+    def write(self, written: Written) -> int:
         """Writes a round, after what stood is on the disk. Returns how many groups changed."""
         changed = []
         for path, kept in self.groups.items():
-            kept.target = self.target_of(path, kept, found)
+            kept.target = self.target_of(path, kept, written)
             changed += [kept] if kept.target != kept.stands else []
         if self.record is None:
             return 0
@@ -456,8 +456,8 @@ class Loop:
     def is_of_others(self, kept: Kept) -> bool:
         """Whether users that are not trusted may set the limit of a group. What they set there must
         end no loop."""
-        found = self.root.status(kept.folder, "cpu.max")
-        return found is None or safe_files.is_of_others(found, 0o022)
+        status = self.root.status(kept.folder, "cpu.max")
+        return status is None or safe_files.is_of_others(status, 0o022)
 
     def undo_text(self) -> str:
         """What stood in each group, and what it may hold by this loop."""

@@ -87,13 +87,13 @@ def owned_of(model: Model) -> Owned:
 
 def rule_of(target: str, headroom: str) -> Rule:
     """The rule of two words such as `p95` and `15%`."""
-    found = TARGET.fullmatch("p100" if target == "max" else target)
-    if not found or not 1 <= int(found.group(1)) <= 100:
+    match = TARGET.fullmatch("p100" if target == "max" else target)
+    if not match or not 1 <= int(match.group(1)) <= 100:
         raise UsageFault(f"--target {names.shown(target)}: p1 to p100, or max")
     parsed = units.number_and_unit(headroom)
     if parsed is None or parsed[1] not in ("%", "") or parsed[0] > MOST_HEADROOM * 100:
         raise UsageFault(f"--headroom {names.shown(headroom)}: 0% to {MOST_HEADROOM * 100}%")
-    return Rule(int(found.group(1)), parsed[0] / 100)
+    return Rule(int(match.group(1)), parsed[0] / 100)
 
 
 def of_history(model: Model, history: History, unit: str,
@@ -103,7 +103,7 @@ def of_history(model: Model, history: History, unit: str,
     An empty cell is no sample.
     """
     kind, values = owned_of(model), dict[str, list[Fraction]]()
-    missing, found = [], [each.demands(unit, model.host) for each in history.samples]
+    missing, samples = [], [each.demands(unit, model.host) for each in history.samples]
     for column in history.columns:
         paths = kind.named(mapping.get(column, column))
         if len(paths) != 1:
@@ -112,7 +112,7 @@ def of_history(model: Model, history: History, unit: str,
         if paths[0] in values:
             raise HostFault(f"column {names.shown(column)}: another one is of the same"
                             f" {kind.noun}")
-        values[paths[0]] = [each[column] for each in found if column in each]
+        values[paths[0]] = [each[column] for each in samples if column in each]
     told = [f"columns of no {kind.noun} here, {usage.some(missing)}"] if missing else []
     return {path: Use(tuple(each)) for path, each in values.items() if each}, told
 
@@ -149,49 +149,49 @@ def recommended(engine: Engine, model: Model, uses: Mapping[str, Use], rule: Rul
     own = [path for path in model.groups if path in uses and (paths is None or path in paths)]
     if not own:
         raise NothingFound(f"nothing was seen of any {kind.noun} that is chosen")
-    found = [proposal(kind, path, uses[path], rule) for path in own]
-    changed = kind.changed([each for one in found for each in one.settings]).model()
+    proposals = [proposal(kind, path, uses[path], rule) for path in own]
+    changed = kind.changed([each for one in proposals for each in one.settings]).model()
     asked = [demands.percentile(uses[path].values, rule.percent) if path in uses else None
              for path in model.groups]
     before = plan(engine, asking(model.copy(), asked))
     after = plan(engine, asking(changed, asked))
     chosen = [now for was, now in zip(before.groups, after.groups) if was.path in set(own)]
     totals, then = kind.totals(), owned_of(changed).totals()
-    return Recommendation(rule, tuple(found), before, after,
+    return Recommendation(rule, tuple(proposals), before, after,
                           tuple(each.path for each in chosen),
                           tuple(guarantees(after, chosen)),
                           (totals[0], then[0]) if totals and then else None,
                           totals[1] if totals else None, kind.noun, kind.keys)
 
 
-def words_of(found: Proposal) -> list[str]:
+def words_of(one: Proposal) -> list[str]:
     """The words of `--set` that make a proposal."""
-    return [f"{found.title}.{each.key}={each.value}" for each in found.settings]
+    return [f"{one.title}.{each.key}={each.value}" for each in one.settings]
 
 
-def setting_data(found: Proposal, keys: Sequence[str]) -> dict[str, Any]:
+def setting_data(one: Proposal, keys: Sequence[str]) -> dict[str, Any]:
     """The settings of a proposal as people write them, now and then."""
-    then = {each.key: each.value for each in found.settings}
-    return {key: {"now": now, "then": then.get(key)} for key, now in zip(keys, found.words)}
+    then = {each.key: each.value for each in one.settings}
+    return {key: {"now": now, "then": then.get(key)} for key, now in zip(keys, one.words)}
 
 
-def as_data(found: Recommendation) -> dict[str, Any]:
+def as_data(advice: Recommendation) -> dict[str, Any]:
     """The recommendation as data. Amounts are thousandths of a CPU."""
-    gets = [plan_.by_path() for plan_ in (found.before, found.after)]
-    requests, rows = found.requests or (None, None), []
-    for each, path, owed in zip(found.proposals, found.paths, found.guaranteed):
+    gets = [plan_.by_path() for plan_ in (advice.before, advice.after)]
+    requests, rows = advice.requests or (None, None), []
+    for each, path, owed in zip(advice.proposals, advice.paths, advice.guaranteed):
         rows.append({
-            found.noun: each.title, "used_millicpu": float(each.used),
+            advice.noun: each.title, "used_millicpu": float(each.used),
             "most_millicpu": float(each.most), "throttled": each.is_throttled,
             "request_millicpu": each.now.request, "limit_millicpu": each.now.limit,
             "recommended": {"request_millicpu": each.then.request,
                             "limit_millicpu": each.then.limit},
-            "gets_now_millicpu": found.before.millicpu(gets[0][each.path].gets),
-            "gets_millicpu": found.after.millicpu(gets[1][path].gets),
-            "wants_millicpu": found.after.millicpu(gets[1][path].want),
-            "guaranteed_millicpu": found.after.millicpu(owed), "set": words_of(each),
-            "settings": setting_data(each, found.keys)})
-    return {"percent": found.rule.percent, "headroom": float(found.rule.headroom),
-            "engine": found.after.by, "requests_millicpu": requests[0],
+            "gets_now_millicpu": advice.before.millicpu(gets[0][each.path].gets),
+            "gets_millicpu": advice.after.millicpu(gets[1][path].gets),
+            "wants_millicpu": advice.after.millicpu(gets[1][path].want),
+            "guaranteed_millicpu": advice.after.millicpu(owed), "set": words_of(each),
+            "settings": setting_data(each, advice.keys)})
+    return {"percent": advice.rule.percent, "headroom": float(advice.rule.headroom),
+            "engine": advice.after.by, "requests_millicpu": requests[0],
             "recommended_requests_millicpu": requests[1],
-            "allocatable_millicpu": found.allocatable, f"{found.noun}s": rows}
+            "allocatable_millicpu": advice.allocatable, f"{advice.noun}s": rows}

@@ -82,10 +82,10 @@ def least_of(key: str, word: str | None) -> Fraction:
     if key == "starved":
         raise HostFault("starved has no number")
     if key == "throttled":
-        found = units.number_and_unit(word)
-        if found is None or found[1] != "%" or found[0] > 100:
+        parsed = units.number_and_unit(word)
+        if parsed is None or parsed[1] != "%" or parsed[0] > 100:
             raise HostFault(f"{word!r} is no part of the periods: write 5%")
-        return found[0] / 100
+        return parsed[0] / 100
     return units.parse_cpu(word)
 
 
@@ -135,16 +135,16 @@ class PlannedRound:
                        group.is_starved, not group.children)
 
 
-def alerts(found: Sequence[GroupFigures], wanted: Sequence[Condition]) -> list[Alert]:
+def alerts(figures: Sequence[GroupFigures], wanted: Sequence[Condition]) -> list[Alert]:
     """The alerts of a round."""
-    return [Alert(each.words, figures.path) for each in wanted for figures in found
-            if each.holds(figures)]
+    return [Alert(each.words, group.path) for each in wanted for group in figures
+            if each.holds(group)]
 
 
-def missing(found: Sequence[GroupFigures], wanted: Sequence[Condition]) -> list[str]:
+def missing(figures: Sequence[GroupFigures], wanted: Sequence[Condition]) -> list[str]:
     """What is to be told of conditions whose group is not there."""
     return [f"--alert {each.words}: no group {each.group} is there" for each in wanted
-            if not any(map(each.is_of, found))]
+            if not any(map(each.is_of, figures))]
 
 
 class Watched:
@@ -197,11 +197,11 @@ class State:
                 if count >= self.needed[each.condition]]
 
 
-def line_of(state: State, found: PlannedRound) -> dict[str, Any]:
+def line_of(state: State, round_: PlannedRound) -> dict[str, Any]:
     """The line of JSON of a round."""
-    root = found.plan.root
-    return {"round": state.rounds, "wanted_cpus": float(found.plan.thousandths(root.want) / 1000),
-            "planned_cpus": float(found.plan.thousandths(root.gets) / 1000),
+    root = round_.plan.root
+    return {"round": state.rounds, "wanted_cpus": float(round_.plan.thousandths(root.want) / 1000),
+            "planned_cpus": float(round_.plan.thousandths(root.gets) / 1000),
             "alerts": [{"alert": each.condition, "group": each.group} for each in state.held]}
 
 

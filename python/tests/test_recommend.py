@@ -159,6 +159,8 @@ def test_a_throttled_container(ctl, folder):
     nginx = f"{pod}/cri-containerd-{'a1' * 32}.scope"
     for copy, factor in (("a", 0), ("b", 1)):
         trees.root2(folder / copy)
+        for above in reversed(Path(nginx).parents[:-1]):
+            trees.group2(folder / copy / above, usage=3 * 10**6 * factor)
         trees.group2(folder / copy / nginx, usage=3 * 10**6 * factor, periods=100 * factor,
                      throttled=50 * factor, waited=9 * 10**6 * factor)
     words = (PODS, NODE, "--used", folder / "a", "--used", folder / "b", "--read", "x10s")

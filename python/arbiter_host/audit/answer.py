@@ -104,10 +104,10 @@ def length_words(intervals: Sequence[Interval]) -> str:
     return f"intervals: {len(intervals)}, each of {span} s"
 
 
-def head(found: Ranked) -> Iterator[str]:
+def head(ranked: Ranked) -> Iterator[str]:
     """The lines above the table."""
-    intervals = found.audit.intervals
-    yield text.host_words(found.audit.plan)
+    intervals = ranked.audit.intervals
+    yield text.host_words(ranked.audit.plan)
     yield f"{length_words(intervals)}; the proved check accepted each plan"
     yield ("off: what a group used less its plan, in hundredths of a CPU and in parts of the plan")
     unplanned = [each.unplanned for each in intervals if each.unplanned is not None]
@@ -123,17 +123,17 @@ def cells_of(row: AuditRow) -> list[str]:
             short(shown(row.path))]
 
 
-def busy(found: Ranked) -> list[AuditRow]:
+def busy(ranked: Ranked) -> list[AuditRow]:
     """The rows of groups that used something, or were planned something."""
-    return [row for row in found.rows if row.average.used or row.average.planned]
+    return [row for row in ranked.rows if row.average.used or row.average.planned]
 
 
-def foot(found: Ranked) -> Iterator[str]:
+def foot(ranked: Ranked) -> Iterator[str]:
     """The lines below the table."""
-    idle = len(found.rows) - len(busy(found))
+    idle = len(ranked.rows) - len(busy(ranked))
     if idle:
         yield f"groups that used nothing: {idle}"
-    for why in found.why_not:
+    for why in ranked.why_not:
         yield f"placement is not known: {why}"
 
 
@@ -142,10 +142,10 @@ def number(value: Fraction | None) -> float | None:
     return None if value is None else round(float(value), 6)
 
 
-def off_data(found: Off) -> dict[str, Any]:
+def off_data(off: Off) -> dict[str, Any]:
     """What was used and planned, in CPUs, and off in hundredths of one and as a part."""
-    return {"used_cpus": number(found.used / 1000), "plan_cpus": number(found.planned / 1000),
-            "off_hundredths": number(found.off / HUNDREDTH), "off_part": number(found.part)}
+    return {"used_cpus": number(off.used / 1000), "plan_cpus": number(off.planned / 1000),
+            "off_hundredths": number(off.off / HUNDREDTH), "off_part": number(off.part)}
 
 
 def column(cells: Sequence[Cell | None], key: str) -> list[Any]:
@@ -173,19 +173,19 @@ def row_data(row: AuditRow, intervals: Sequence[Interval]) -> dict[str, Any]:
             "cause": row.cause, **cells_data(row.cells)}
 
 
-def host_data(found: Ranked) -> dict[str, int]:
+def host_data(ranked: Ranked) -> dict[str, int]:
     """The host of the plans."""
-    host = found.audit.plan.model.host
+    host = ranked.audit.plan.model.host
     return {"processors": host.processors, "period_usec": host.period_us,
             "slice_usec": host.slice_us}
 
 
-def as_data(found: Ranked) -> dict[str, Any]:
+def as_data(ranked: Ranked) -> dict[str, Any]:
     """An audit as data."""
-    audit = found.audit
+    audit = ranked.audit
     intervals = [{"from": each.name, "seconds": number(each.seconds),
                   "unplanned_millicpu": number(each.unplanned)} for each in audit.intervals]
-    return {"host": host_data(found), "check": "accepted", "engine": audit.plan.by,
+    return {"host": host_data(ranked), "check": "accepted", "engine": audit.plan.by,
             "intervals": intervals, "notes": audit.notes,
-            "placement": {"not_known": found.why_not or None},
-            "groups": [row_data(row, audit.intervals) for row in found.rows]}
+            "placement": {"not_known": ranked.why_not or None},
+            "groups": [row_data(row, audit.intervals) for row in ranked.rows]}

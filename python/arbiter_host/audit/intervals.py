@@ -37,22 +37,22 @@ def settings_of(model: Model) -> list[tuple[object, ...]]:
 def collected(seen: Iterable[Look], count: int = 0) -> list[Look]:
     """Looks as a list, of which so many are to come. Equal settings are kept once, and looks at
     a tree are named by the seconds since the first."""
-    found: list[Look] = []
+    looks_: list[Look] = []
     for each in seen:
         if not each.model.groups:
             raise HostFault("no groups with the cpu controller are below this folder")
-        if found and each.at <= found[-1].at:
+        if looks_ and each.at <= looks_[-1].at:
             raise HostFault("the clock went back between two looks: begin again")
-        if found and settings_of(found[-1].model) == settings_of(each.model):
-            notes = dict.fromkeys([*found[-1].model.notes, *each.model.notes])
-            each.model, each.model.notes = found[-1].model, list(notes)
-        found.append(each)
-        many = max(count, len(found))
+        if looks_ and settings_of(looks_[-1].model) == settings_of(each.model):
+            notes = dict.fromkeys([*looks_[-1].model.notes, *each.model.notes])
+            each.model, each.model.notes = looks_[-1].model, list(notes)
+        looks_.append(each)
+        many = max(count, len(looks_))
         if many * len(each.model.groups) > MOST_COUNTED:
             raise HostFault(f"{many} looks at {len(each.model.groups)} groups are too many: take"
                             " fewer readings, or a longer --step")
-        each.name = each.name or f"{units.decimal(each.at - found[0].at, 1)} s"
-    return found
+        each.name = each.name or f"{units.decimal(each.at - looks_[0].at, 1)} s"
+    return looks_
 
 
 @dataclass(frozen=True)
@@ -136,11 +136,11 @@ def asking_of(group: Group, span: Span, tasks: int | None, model: Model,
 
 def with_demands(model: Model, wanted: dict[str, tuple[Fraction, int | None]]) -> Model:
     """A model in which these leaves alone ask for something: thousandths of a CPU, and tasks."""
-    found = model.copy()
-    for path, group in found.groups.items():
+    after = model.copy()
+    for path, group in after.groups.items():
         group.demand, group.tasks = wanted.get(path, (Fraction(0), None))
         group.saved = 0
-    return found
+    return after
 
 
 def model_of(interval: Interval) -> Model:
@@ -214,21 +214,21 @@ def told_holes(intervals: Sequence[Interval]) -> list[str]:
 
 def notes_of(seen: Sequence[Look], intervals: Sequence[Interval]) -> list[str]:
     """What is told of all looks and intervals."""
-    found = told_holes(intervals)
+    notes = told_holes(intervals)
     if all(each.reading.pressure is None for look in seen for of_path in look.counted.values()
            for each in of_path.values()):
-        found.append("pressure is not measured: a group that waited is taken to have had what it"
+        notes.append("pressure is not measured: a group that waited is taken to have had what it"
                      " wanted")
     waited = {path: None for interval in intervals for path, cell in interval.cells.items()
               if cell.may_be_hungry}
     if waited:
-        found.append("groups that waited, and may have wanted more than they used (--want psi),"
+        notes.append("groups that waited, and may have wanted more than they used (--want psi),"
                      f" {some([shown(path) for path in waited])}")
     changed = sum(one.model is not two.model for one, two in zip(seen, seen[1:]))
     if changed:
-        found.append(f"groups or settings changed in intervals: {changed}; those of their ends are"
+        notes.append(f"groups or settings changed in intervals: {changed}; those of their ends are"
                      " taken")
-    return found
+    return notes
 
 
 def audited(engine: Engine, seen: Sequence[Look], want: str | None, away: set[int],

@@ -74,23 +74,23 @@ def below(folder: str) -> list[str] | None:
     def refuse(error: OSError) -> None:
         raise HostFault(f"{names.shown(str(error.filename))}: {strerror(error)}") from error
 
-    found: list[str] = []
+    paths: list[str] = []
     for top, folders, files in os.walk(folder, onerror=refuse):
         if not TREE_FILES.isdisjoint(files):
             return None
         folders[:] = [each for each in folders if not each.startswith(".")]
-        found += [os.path.join(top, each) for each in files if not each.startswith(".")]
-        if len(found) > MOST_FILES:
+        paths += [os.path.join(top, each) for each in files if not each.startswith(".")]
+        if len(paths) > MOST_FILES:
             raise HostFault(f"{names.shown(folder)}: more than {MOST_FILES} files")
-    return found
+    return paths
 
 
 def items_of(path: str, data: bytes) -> list[dict[str, Any]]:
     """The objects of JSON with several nodes; none of any other file."""
     if data[:64].lstrip(b"\xef\xbb\xbf \t\r\n")[:1] != b"{" or len(NODE.findall(data)) < 2:
         return []
-    found = tables(loads(data, names.shown(path)), "items")
-    return found if sum(each.get("kind") == "Node" for each in found) > 1 else []
+    items = tables(loads(data, names.shown(path)), "items")
+    return items if sum(each.get("kind") == "Node" for each in items) > 1 else []
 
 
 def paths_of(path: str, data: bytes) -> list[str]:
@@ -115,14 +115,14 @@ def stem(path: str) -> str:
 
 def named(paths: Sequence[str], folder: str) -> list[HostFile]:
     """The hosts in order of their names: their paths from a folder on, without endings."""
-    found: dict[str, HostFile] = {}
+    files: dict[str, HostFile] = {}
     for path in paths:
         name = names.shown(stem(os.path.relpath(path, folder)))
-        if name in found:
-            raise UsageFault(f"two hosts of the name {name}: {names.shown(found[name].path)},"
+        if name in files:
+            raise UsageFault(f"two hosts of the name {name}: {names.shown(files[name].path)},"
                              f" {names.shown(path)}")
-        found[name] = HostFile(name, path)
-    return [found[name] for name in sorted(found)]
+        files[name] = HostFile(name, path)
+    return [files[name] for name in sorted(files)]
 
 
 def check_alone(files: Sequence[load.Opened]) -> None:
@@ -193,14 +193,14 @@ def of_cluster(word: str, items: Sequence[dict[str, Any]], used: Sequence[Used] 
         elif not kubernetes.has_ended(pod):
             (lost if place else pending).append(pod)
     metrics = metrics_of(used, want or "usage")
-    found = [host_of(word, nodes[name], of_node[name], metrics) for name in sorted(nodes)]
+    hosts_ = [host_of(word, nodes[name], of_node[name], metrics) for name in sorted(nodes)]
     here = {title(pod) for each in of_node.values() for pod in each}
     told = {"pods of nodes that are not in it, left out": list(map(title, lost)),
             "used by pods that no node here has": [name for name in metrics if name not in here]}
     notes = [f"{words}: {some(list(map(names.shown, each)))}"
              for words, each in told.items() if each]
-    return Fleet([host for host, _ in found], tuple(map(pending_of, pending)),
-                 {host.name: room for host, room in found if room is not None}, tuple(notes))
+    return Fleet([host for host, _ in hosts_], tuple(map(pending_of, pending)),
+                 {host.name: room for host, room in hosts_ if room is not None}, tuple(notes))
 
 
 def value_of(amounts: Sequence[Fraction], want: str) -> Fraction:
@@ -212,17 +212,17 @@ def value_of(amounts: Sequence[Fraction], want: str) -> Fraction:
 
 def metrics_of(used: Sequence[Used], want: str) -> dict[str, dict[str, Any]]:
     """What was used as objects of metrics-server, by the title of the pod."""
-    found: dict[str, dict[str, Any]] = {}
+    metrics: dict[str, dict[str, Any]] = {}
     for each in used:
         if not (each.namespace and each.pod and each.container):
             raise HostFault(f"{each.title}: of a cluster usage is told by namespace, pod and"
                             " container: kubectl top pods -A --containers")
-        metrics = found.setdefault(f"{each.namespace}/{each.pod}", {
+        entry = metrics.setdefault(f"{each.namespace}/{each.pod}", {
             "kind": "PodMetrics", "metadata": {"namespace": each.namespace, "name": each.pod},
             "containers": []})
         nano = math.ceil(value_of(each.amounts, want) * 10**6)
-        metrics["containers"].append({"name": each.container, "usage": {"cpu": f"{nano}n"}})
-    return found
+        entry["containers"].append({"name": each.container, "usage": {"cpu": f"{nano}n"}})
+    return metrics
 
 
 def title(pod: dict[str, Any]) -> str:
@@ -245,7 +245,7 @@ def host_of(word: str, node: dict[str, Any], of_node: Sequence[dict[str, Any]],
 
 def pending_of(pod: dict[str, Any]) -> Pending:
     """A pod that no node has yet."""
-    found = pods.pod_of(pod, [])
+    read = pods.pod_of(pod, [])
     data = json.dumps({**pod, "kind": "Pod"}).encode()
-    shape = replace(found, namespace="", name="", uid="")
-    return Pending(names.shown(found.title), found.amounts.request or 0, data, shape)
+    shape = replace(read, namespace="", name="", uid="")
+    return Pending(names.shown(read.title), read.amounts.request or 0, data, shape)

@@ -37,15 +37,15 @@ def fleet_in(options: argparse.Namespace) -> Fleet | None:
     files = load.opened(options, options.source)
     options.kept = dict(files)
     words = options.used if options.asked != "replay" else []
-    found = hosts.fleet_in(options, files, lambda: used.entries(options) if words else [])
-    if found is None:
+    fleet = hosts.fleet_in(options, files, lambda: used.entries(options) if words else [])
+    if fleet is None:
         return None
     table.check(options, table.HOSTS)
-    if words and not found.is_cluster:
+    if words and not fleet.is_cluster:
         raise UsageFault("--used is of the pods of a cluster: other hosts have none")
-    for note in found.notes:
+    for note in fleet.notes:
         warn(f"{names.shown(files[0][0])}: {note}")
-    return found
+    return fleet
 
 
 def check_sets(words: Sequence[str]) -> None:
@@ -96,10 +96,10 @@ def is_of(column: str, pods: frozenset[str]) -> bool:
     return column in pods or column.rpartition("/")[0] in pods
 
 
-def items_of(found: Sequence[HostFile], samples: Samples | None,
+def items_of(files: Sequence[HostFile], samples: Samples | None,
              missing: Missing) -> Iterator[Item]:
     """What is sent of each host. One that cannot be read is missing."""
-    for host in found:
+    for host in files:
         try:
             data = plain_files.file_bytes(host.path, True) if host.data is None else host.data
             yield Item(host.name, host.path, data, samples(host) if samples else None)
@@ -121,20 +121,20 @@ def asked(options: argparse.Namespace, job: Job, fleet: Fleet,
           samples: Samples | None = None) -> tuple[list[HostAnswer], Missing]:
     """The answers of all hosts, and the hosts that have none with the reasons, by name."""
     engine = engine_of(options.library)
-    workers, found = workers_of(options, fleet), dict[str, HostAnswer]()
+    workers, answers = workers_of(options, fleet), dict[str, HostAnswer]()
     missing: Missing = []
     items = items_of(fleet.hosts, samples, missing)
     replies = pool.replies(workers, options.scheduler, job.text(), items)
     with progress.bar("hosts", len(fleet.hosts)) as tick, closing(replies):
         for reply in replies:
             try:
-                found[reply.host] = HostAnswer(reply.host, answer_of(job, reply, engine))
+                answers[reply.host] = HostAnswer(reply.host, answer_of(job, reply, engine))
             except HostFault as fault:
                 missing.append((reply.host, fault.message))
             tick()
-    known = {*found, *(name for name, _ in missing)}
+    known = {*answers, *(name for name, _ in missing)}
     missing += [(host.name, pool.GONE) for host in fleet.hosts if host.name not in known]
-    return [found[name] for name in sorted(found)], sorted(missing)
+    return [answers[name] for name in sorted(answers)], sorted(missing)
 
 
 def answer_of(job: Job, reply: pool.Reply, engine: Engine) -> dict[str, Any]:
@@ -145,14 +145,14 @@ def answer_of(job: Job, reply: pool.Reply, engine: Engine) -> dict[str, Any]:
 
 
 def with_pending(options: argparse.Namespace, job: Job, fleet: Fleet,
-                 found: report.Report) -> report.Report:
+                 told: report.Report) -> report.Report:
     """The report of a cluster's plan, with where its pods go that no node has yet."""
     if options.asked != "explain" or not fleet.pending:
-        return found
+        return told
     pods = [[f"{each.title}.json", base64.b64encode(each.data).decode()]
             for each in fleet.shapes().values()]
     placing, _ = asked(options, replace(job, action="place", pods=pods), fleet)
-    return pending.added(found, pending.placed(fleet, placing, options.rank), options.rank)
+    return pending.added(told, pending.placed(fleet, placing, options.rank), options.rank)
 
 
 FORMS = ("text", "json", "html")
@@ -160,11 +160,11 @@ FORMS = ("text", "json", "html")
 
 def outputs_of(options: argparse.Namespace) -> list[table.Output]:
     """The forms and files that are asked for. A fault for a form that many hosts have not."""
-    found = table.outputs(options)
-    for form, _ in found:
+    outputs = table.outputs(options)
+    for form, _ in outputs:
         if form not in FORMS:
             raise UsageFault(f"-o {form}: of many hosts there is {', '.join(FORMS)}")
-    return found
+    return outputs
 
 
 def answered(options: argparse.Namespace) -> bool:
@@ -179,21 +179,21 @@ def answer(options: argparse.Namespace, fleet: Fleet) -> None:
     """Asks each host of a fleet, and reports."""
     outputs, job = outputs_of(options), job_of(options, fleet)
     samples = samples_of(options, fleet) if options.asked == "replay" else None
-    found, missing = asked(options, job, fleet, samples)
-    made = report.built(options.asked, found, missing, options.rank)
+    answers, missing = asked(options, job, fleet, samples)
+    made = report.built(options.asked, answers, missing, options.rank)
     told = with_pending(options, job, fleet, made)
     write_forms(outputs, {"text": lambda: report.text(told, options.everything),
                           "json": lambda: json_text(told.data), "html": lambda: report.page(told)})
-    check_answered(fleet, found, missing)
+    check_answered(fleet, answers, missing)
 
 
-def check_answered(fleet: Fleet, found: Sequence[HostAnswer], missing: Missing) -> None:
+def check_answered(fleet: Fleet, answers: Sequence[HostAnswer], missing: Missing) -> None:
     """A fault where a host is not answered, or where a pod fits on none."""
     if missing:
         raise HostFault(f"hosts that are not answered: {len(missing)} of {len(fleet.hosts)}, the"
                         f" first {missing[0][0]}: {missing[0][1]}")
-    pods = [host.answer.get("pods", []) for host in found]
+    pods = [host.answer.get("pods", []) for host in answers]
     for each in zip(*pods):
         if all("why" in pod for pod in each):
-            raise NothingFound(f"{names.shown(each[0]['pod'])}: no host of {len(found)} takes it,"
-                               f" as {found[0].name}: {each[0]['why']}")
+            raise NothingFound(f"{names.shown(each[0]['pod'])}: no host of {len(answers)} takes it,"
+                               f" as {answers[0].name}: {each[0]['why']}")

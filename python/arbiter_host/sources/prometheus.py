@@ -87,12 +87,12 @@ def is_address(word: str) -> bool:
 def instant(at: Any) -> float:
     """The time of a value, in seconds. A ValueError for one that is none."""
     try:
-        found = float(at)
+        seconds = float(at)
     except OverflowError as error:
         raise ValueError(at) from error
-    if not math.isfinite(found):
+    if not math.isfinite(seconds):
         raise ValueError(at)
-    return found
+    return seconds
 
 
 class QueryRange(NamedTuple):
@@ -160,17 +160,17 @@ def column_of(labels: Mapping[str, str], url: str) -> str:
                     " --query 'sum by (pod) (..)' leaves one")
 
 
-def told_apart(found: Sequence[Mapping[str, str]]) -> set[str]:
+def told_apart(labels: Sequence[Mapping[str, str]]) -> set[str]:
     """The labels in which series of one name differ so that they may be the same use twice.
 
     Parts of a use differ in `PARTS`. Where each has an `id` of its own, a container was made anew.
     """
-    if len({tuple(sorted(each.items())) for each in found}) < len(found):
+    if len({tuple(sorted(each.items())) for each in labels}) < len(labels):
         return {"nothing"}
-    keys = {key for each in found for key in each}
-    differ = {key for key in keys if len({each.get(key) for each in found}) > 1}
-    made = {(each["id"], each.get("cpu")) for each in found if each.get("id")}
-    return differ - PARTS - (ANEW if len(made) == len(found) else frozenset())
+    keys = {key for each in labels for key in each}
+    differ = {key for key in keys if len({each.get(key) for each in labels}) > 1}
+    made = {(each["id"], each.get("cpu")) for each in labels if each.get("id")}
+    return differ - PARTS - (ANEW if len(made) == len(labels) else frozenset())
 
 
 class Metric(NamedTuple):
@@ -191,7 +191,7 @@ def series_of(answer: Any) -> list[Metric]:
 
 def summed(columns: Mapping[str, Sequence[Metric]], url: str) -> dict[str, dict[float, str]]:
     """The values of each column. Metric that are parts of one are added up; else a fault."""
-    found = {}
+    sums = {}
     for name, parts in columns.items():
         apart = told_apart([each.labels for each in parts]) if len(parts) > 1 else ()
         if apart:
@@ -199,9 +199,9 @@ def summed(columns: Mapping[str, Sequence[Metric]], url: str) -> dict[str, dict[
                             f" in {', '.join(sorted(map(shown, apart)))}: choose by --query, as"
                             " 'sum by (namespace, pod, container) (..)'")
         times = dict.fromkeys(at for each in parts for at in each.values)
-        found[name] = {at: total([each.values[at] for each in parts if at in each.values])
+        sums[name] = {at: total([each.values[at] for each in parts if at in each.values])
                        for at in times}
-    return found
+    return sums
 
 
 def total(words: Sequence[str]) -> str:
@@ -221,10 +221,10 @@ def without_totals(columns: dict[str, list[Metric]]) -> None:
             del columns[name]
 
 
-def history_of(found: Sequence[Metric], url: str) -> History:
+def history_of(metrics: Sequence[Metric], url: str) -> History:
     """The samples of series."""
     columns: dict[str, list[Metric]] = {}
-    for each in found:
+    for each in metrics:
         columns.setdefault(column_of(each.labels, url), []).append(each)
     without_totals(columns)
     values = summed(columns, url)
@@ -246,10 +246,10 @@ def read(url: str, query: str | None, asked: QueryRange) -> list[Metric]:
     return of_range(url, query or query_of(asked.step), asked, series_of)
 
 
-def by_host(found: Sequence[Metric], url: str) -> dict[str, History]:
+def by_host(metrics: Sequence[Metric], url: str) -> dict[str, History]:
     """The samples of each host, by the label of its name."""
     hosts: dict[str, list[Metric]] = {}
-    for each in found:
+    for each in metrics:
         host = next((each.labels[key] for key in TABLE["host"] if each.labels.get(key)), None)
         if host is None:
             raise HostFault(f"{shown(url)}: a series without a label of its host:"

@@ -68,9 +68,9 @@ class History(NamedTuple):
             yield each.name, {**(holes if each.is_whole else {}), **each.demands(unit, host)}
 
 
-def joined(found: Iterable[History]) -> History:
+def joined(histories: Iterable[History]) -> History:
     """Histories one after another."""
-    every = list(found)
+    every = list(histories)
     return History(list(dict.fromkeys(name for each in every for name in each.holes)),
                    [sample for each in every for sample in each.samples])
 
@@ -124,14 +124,14 @@ def rows_of(text: str, name: str) -> list[tuple[int, list[str]]]:
     if lines[0].strip().lower().startswith("sep="):
         text, begin = lines[1] if len(lines) > 1 else "", 1
     reader = csv.reader(io.StringIO(text, newline=""), delimiter=delimiter_of(text.split("\n")[0]))
-    found = []
+    rows = []
     try:
         for row in reader:
             if any(cell.strip() for cell in row):
-                found.append((reader.line_num + begin, [cell.strip() for cell in row]))
+                rows.append((reader.line_num + begin, [cell.strip() for cell in row]))
     except csv.Error as error:
         raise HostFault(f"{name}:{reader.line_num + begin}: {error}") from error
-    return found
+    return rows
 
 
 def checked_rows(data: bytes, name: str) -> tuple[list[str], list[tuple[int, list[str]]]]:
@@ -174,13 +174,13 @@ def read_csv(data: bytes, name: str, first: int = 0) -> History:
     is_timed = bool(head) and (head[0].lower() in ("", *TIMES) or head[0].lower().endswith("time"))
     groups = head[1:] if is_timed else head
     check_names(groups, f"{name}:1")
-    found: list[Sample] = []
+    read: list[Sample] = []
     for number, row in rows:
         cells = {column: cell for column, cell in zip(groups, row[len(head) - len(groups):])
                  if cell.lower() not in EMPTY}
-        title = time_name(row[0]) if is_timed else str(first + len(found) + 1)
-        found.append(Sample(title, cells, f"{name}:{number}"))
-    return History(groups, found)
+        title = time_name(row[0]) if is_timed else str(first + len(read) + 1)
+        read.append(Sample(title, cells, f"{name}:{number}"))
+    return History(groups, read)
 
 
 def read_pairs(data: bytes, name: str, first: int = 0) -> History:
@@ -188,7 +188,7 @@ def read_pairs(data: bytes, name: str, first: int = 0) -> History:
 
     They are numbered from `first + 1` on.
     """
-    found: list[Sample] = []
+    read: list[Sample] = []
     lines = decoded(data, name).split("\n")
     for number, line in enumerate(lines[:-1] if lines[-1] == "" else lines, 1):
         words, where = line.split(), f"{name}:{number}"
@@ -198,8 +198,8 @@ def read_pairs(data: bytes, name: str, first: int = 0) -> History:
             raise HostFault(f"{where}: not pairs of a group and a number")
         check_names(words[::2], where)
         cells = dict(zip(words[::2], words[1::2]))
-        found.append(Sample(str(first + len(found) + 1), cells, where, False))
-    return History([], found)
+        read.append(Sample(str(first + len(read) + 1), cells, where, False))
+    return History([], read)
 
 
 def read(data: bytes, path: str, first: int = 0) -> History:
@@ -209,13 +209,13 @@ def read(data: bytes, path: str, first: int = 0) -> History:
 
 def places(head: Sequence[str], where: str) -> list[int]:
     """Where the columns of one table of hosts are, in the order time, host, group, demand."""
-    low, found = [each.lower() for each in head], []
+    low, columns_ = [each.lower() for each in head], []
     for key, known in TABLE.items():
         at = next((low.index(name) for name in known if name in low), None)
         if at is None:
             raise HostFault(f"{where}:1: no column {key}: time, host, group, demand")
-        found.append(at)
-    return found
+        columns_.append(at)
+    return columns_
 
 
 def read_table(data: bytes, name: str) -> dict[str, History]:
@@ -225,11 +225,11 @@ def read_table(data: bytes, name: str) -> dict[str, History]:
     if not head:
         raise HostFault(f"{name}: no sample")
     order = places(head, name)
-    found: dict[str, History] = {}
+    tables: dict[str, History] = {}
     by_time: dict[tuple[str, str], dict[str, str]] = {}
     for number, row in rows:
         time, host, group, demand = (row[at] for at in order)
-        history = found.setdefault(host, History([], []))
+        history = tables.setdefault(host, History([], []))
         if (host, time) not in by_time:
             by_time[host, time] = {}
             history.samples.append(Sample(time_name(time), by_time[host, time],
@@ -241,4 +241,4 @@ def read_table(data: bytes, name: str) -> dict[str, History]:
             history.holes.append(group)
         if demand.lower() not in EMPTY:
             by_time[host, time][group] = demand
-    return found
+    return tables

@@ -83,14 +83,14 @@ def amount_of(word: str, where: str) -> Fraction:
 def columns_of(head: str, name: str) -> list[str]:
     """The entries' names of the columns of `kubectl top pods`; empty for other columns."""
     words = head.split()
-    found = [COLUMNS.get(each, "") for each in words]
-    if "cpu" not in found or "name" not in found:
+    columns = [COLUMNS.get(each, "") for each in words]
+    if "cpu" not in columns or "name" not in columns:
         raise HostFault(f"{name}:1: no usage as `kubectl top pods -A --containers`, metrics-server"
                         " or `docker stats --no-stream` prints it")
-    if "pod" not in found:
+    if "pod" not in columns:
         # Without --containers NAME is the pod.
-        found[found.index("name")] = "pod"
-    return found
+        columns[columns.index("name")] = "pod"
+    return columns
 
 
 def of_table(lines: Sequence[str], begin: int, name: str) -> Iterator[Used]:
@@ -159,26 +159,26 @@ def of_stats(entries: Sequence[Any], name: str) -> Iterator[Used]:
 
 def lines_of(data: bytes, name: str) -> list[Any]:
     """The values of JSON with one value in each line; a fault names the line."""
-    found = []
+    lines = []
     for number, line in enumerate(data.split(b"\n"), 1):
         if line.strip():
             try:
-                found.append(json.loads(line.decode("utf-8-sig")))
+                lines.append(json.loads(line.decode("utf-8-sig")))
             except (ValueError, RecursionError) as error:
                 raise HostFault(f"{name}:{number}: no JSON that can be read:"
                                 f" {shown(cut(str(error), 80))}") from error
-    return found
+    return lines
 
 
 def of_json(data: bytes, name: str) -> Iterator[Used]:
     """The entries of JSON."""
     values = lines_of(data, name) if b'"CPUPerc"' in data else [loads(data, name)]
     if len(values) == 1 and isinstance(values[0], dict):
-        found = values[0]
-        if text(found, "kind") == "PodMetricsList" or isinstance(found.get("items"), list):
-            return of_metrics(tables(found, "items"), name)
-        if text(found, "kind") == "PodMetrics":
-            return of_metrics([found], name)
+        value = values[0]
+        if text(value, "kind") == "PodMetricsList" or isinstance(value.get("items"), list):
+            return of_metrics(tables(value, "items"), name)
+        if text(value, "kind") == "PodMetrics":
+            return of_metrics([value], name)
     if len(values) == 1 and isinstance(values[0], list):
         values = values[0]
     return of_stats(values, name)
@@ -188,17 +188,17 @@ def read(data: bytes, name: str) -> list[Used]:
     """The entries of a file of usage."""
     if len(data) > MAX_BYTES:
         raise HostFault(f"{name}: more than {MAX_BYTES >> 20} MiB")
-    found: list[Used] = []
+    entries: list[Used] = []
     for each in of_text(data, name) if is_text(data) else of_json(data, name):
-        if len(found) >= MOST_ENTRIES:
+        if len(entries) >= MOST_ENTRIES:
             raise HostFault(f"{name}: more than {MOST_ENTRIES} containers")
         if each.amounts[0] > units.MAX_CPUS:
             raise HostFault(f"{name}: {each.title}: {float(each.amounts[0]):g}m is no usage of a"
                             " host")
-        found.append(each)
-    if not found:
+        entries.append(each)
+    if not entries:
         raise HostFault(f"{name}: it names no container")
-    return found
+    return entries
 
 
 def some(titles: Sequence[str]) -> str:

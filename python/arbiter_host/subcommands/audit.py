@@ -37,8 +37,8 @@ def of_range(asked: argparse.Namespace) -> tuple[list[Look], list[str], set[int]
     model = load.model_of(used.without(asked, kind), files, found_engine(asked))
     load.warn(model, source_name(asked.source))
     model = model.with_host(host_of(asked)(model.host))
-    found, notes = ranges.looks(server, model)
-    return intervals.collected(found), notes, ranges.gaps(found)
+    looks_, notes = ranges.looks(server, model)
+    return intervals.collected(looks_), notes, ranges.gaps(looks_)
 
 
 def times_of(asked: argparse.Namespace, is_live: bool) -> Times:
@@ -82,30 +82,30 @@ def audited(asked: argparse.Namespace) -> Ranked:
     return answer.ranked(audit)
 
 
-def lines_of(found: Ranked) -> list[tuple[str, str]]:
+def lines_of(ranked: Ranked) -> list[tuple[str, str]]:
     """The lines of an audit. What is not explained is red."""
-    rows = answer.busy(found)
+    rows = answer.busy(ranked)
     table = [list(answer.HEADS), *(answer.cells_of(row) for row in rows)]
     styles = ["bold", *("red" if row.cause == NOTHING else "" for row in rows)]
     lines = text.table(table, [len(answer.HEADS) - 1])
-    return [*((line, "") for line in answer.head(found)), ("", ""), *zip(lines, styles),
-            *((line, "") for line in answer.foot(found))]
+    return [*((line, "") for line in answer.head(ranked)), ("", ""), *zip(lines, styles),
+            *((line, "") for line in answer.foot(ranked))]
 
 
-def page_of(found: Ranked, title: str) -> str:
+def page_of(ranked: Ranked, title: str) -> str:
     """The same as a page."""
     from arbiter_host.audit import page
-    return page.page(found, title)
+    return page.page(ranked, title)
 
 
 def run(asked: argparse.Namespace) -> None:
     """Measures how far off the plan is, and writes the answers."""
     outputs, name = options.outputs(asked), source_name(asked.source or [looks.HOST_TREE])
-    found = audited(asked)
-    load.warn(Model(notes=found.audit.notes), name)
-    write_forms(outputs, {"text": lambda: lines_of(found),
-                          "json": lambda: json_text(answer.as_data(found)),
-                          "html": lambda: page_of(found, f"Audit of {name}")})
+    ranked = audited(asked)
+    load.warn(Model(notes=ranked.audit.notes), name)
+    write_forms(outputs, {"text": lambda: lines_of(ranked),
+                          "json": lambda: json_text(answer.as_data(ranked)),
+                          "html": lambda: page_of(ranked, f"Audit of {name}")})
 
 
 def add_words(parser: argparse.ArgumentParser) -> None:

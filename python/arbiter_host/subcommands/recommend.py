@@ -26,13 +26,13 @@ def loaded(options: argparse.Namespace, by: Engine) -> Model:
 def uses_of(options: argparse.Namespace, model: Model) -> dict[str, Use]:
     """What was seen of each group: with the source, or of units in samples beside it."""
     owned = recommend.owned_of(model)
-    found = owned.seen()
+    seen = owned.seen()
     if options.used and owned.noun == "unit":
         uses, told = recommend.of_history(model, used.history(options), options.unit,
                                           used.mapped(options.map))
         model.notes += told
-        return found | uses
-    return found
+        return seen | uses
+    return seen
 
 
 def run(options: argparse.Namespace) -> None:
@@ -42,11 +42,11 @@ def run(options: argparse.Namespace) -> None:
     model = loaded(options, by)
     uses = uses_of(options, model)
     load.warn(model, source_name(options.source))
-    found = recommend.recommended(by, model, uses, rule, choosing.chosen(model, options))
-    change.warned(model, found.after.model)
+    advice = recommend.recommended(by, model, uses, rule, choosing.chosen(model, options))
+    change.warned(model, advice.after.model)
     count = max((len(use.values) for use in uses.values()), default=0)
-    output.write_forms(outputs, {"text": lambda: lines_of(found, count),
-                                 "json": lambda: output.json_text(recommend.as_data(found))})
+    output.write_forms(outputs, {"text": lambda: lines_of(advice, count),
+                                 "json": lambda: output.json_text(recommend.as_data(advice))})
 
 
 def cells(each: Proposal, keys: tuple[str, str]) -> list[str]:
@@ -55,42 +55,42 @@ def cells(each: Proposal, keys: tuple[str, str]) -> list[str]:
     return [word for key, now in zip(keys, each.words) for word in (now, then.get(key, "-"))]
 
 
-def totals_line(found: Recommendation) -> list[tuple[str, str]]:
+def totals_line(advice: Recommendation) -> list[tuple[str, str]]:
     """What all pods request, if groups have requests. It is red where the node has less."""
-    if found.requests is None:
+    if advice.requests is None:
         return []
-    of_node = "" if found.allocatable is None else f", of {found.allocatable}m that the node has"
-    is_more = found.allocatable is not None and found.allocatable < found.requests[1]
-    return [(f"requests of all pods: {found.requests[0]}m now, {found.requests[1]}m then{of_node}",
-             "red" if is_more else "")]
+    of_node = "" if advice.allocatable is None else f", of {advice.allocatable}m that the node has"
+    is_more = advice.allocatable is not None and advice.allocatable < advice.requests[1]
+    now, then = advice.requests
+    return [(f"requests of all pods: {now}m now, {then}m then{of_node}", "red" if is_more else "")]
 
 
-def lines_of(found: Recommendation, count: int) -> list[tuple[str, str]]:
+def lines_of(advice: Recommendation, count: int) -> list[tuple[str, str]]:
     """The lines of `recommend`. A container that is short then is red."""
-    percent, headroom = found.rule.percent, float(found.rule.headroom * 100)
-    groups = found.after.by_path()
-    rows = [["used", "most", found.keys[0], "then", found.keys[1], "then", "gets", "guaranteed",
-             found.noun]]
+    percent, headroom = advice.rule.percent, float(advice.rule.headroom * 100)
+    groups = advice.after.by_path()
+    rows = [["used", "most", advice.keys[0], "then", advice.keys[1], "then", "gets", "guaranteed",
+             advice.noun]]
     styles = ["bold"]
-    for each, path, owed in zip(found.proposals, found.paths, found.guaranteed):
+    for each, path, owed in zip(advice.proposals, advice.paths, advice.guaranteed):
         group = groups[path]
         mark = "*" if each.is_throttled else ""
         rows.append([f"{float(each.used):.0f}m", f"{float(each.most):.0f}m{mark}",
-                     *cells(each, found.keys), text.amount(found.after, group.gets, "m") + "m",
-                     text.amount(found.after, owed, "m") + "m",
+                     *cells(each, advice.keys), text.amount(advice.after, group.gets, "m") + "m",
+                     text.amount(advice.after, owed, "m") + "m",
                      cut(short(shown(each.title)), 100)])
         styles.append("red" if group.gets < group.want else "")
-    short_ = [shown(each.title) for each, path in zip(found.proposals, found.paths)
+    short_ = [shown(each.title) for each, path in zip(advice.proposals, advice.paths)
               if groups[path].gets < groups[path].want]
     many = f"{count} sample" + ("s" if count > 1 else "")
-    lines = [(text.host_words(found.after), ""),
+    lines = [(text.host_words(advice.after), ""),
              (f"p{percent} of at most {many}, and {headroom:g}% on top; the proved check accepted"
               " the plan", ""),
-             *totals_line(found),
+             *totals_line(advice),
              (f"short when each uses this at once: {len(short_)}"
               + (f" ({few(short_, 3)})" if short_ else ""), "red" if short_ else ""),
              ("", ""), *zip(text.table(rows, (len(rows[0]) - 1,)), styles)]
-    if any(each.is_throttled for each in found.proposals):
+    if any(each.is_throttled for each in advice.proposals):
         lines.append(("* throttled at its limit: it wanted more than it used", ""))
     return lines
 

@@ -25,8 +25,8 @@ def shown_groups(options: argparse.Namespace, model: Model) -> list[str]:
     """The groups that are chosen, in order; `.` is the host itself. Empty for those of columns."""
     rest = [each for each in options.group if each != "."]
     host = ["."] if len(rest) < len(options.group) else []
-    found = choosing.chosen(model, argparse.Namespace(**{**vars(options), "group": rest}))
-    return host + [path for path in model.groups if path in (found or ())]
+    paths = choosing.chosen(model, argparse.Namespace(**{**vars(options), "group": rest}))
+    return host + [path for path in model.groups if path in (paths or ())]
 
 
 def replayed(options: argparse.Namespace, by: Engine) -> Series:
@@ -58,11 +58,11 @@ def run(options: argparse.Namespace) -> None:
         return
     if any(form == "html" for form, _ in outputs):
         raise UsageFault("-o html: of one host there is text, json, csv and svg")
-    found = replayed(options, found_engine(options))
-    output.write_forms(outputs, {"text": lambda: series.as_text(found, options.unit),
-                                 "csv": lambda: series.as_csv(found, options.unit),
-                                 "json": lambda: series.as_json(found, options.unit),
-                                 "svg": lambda: series.picture(found)})
+    series_ = replayed(options, found_engine(options))
+    output.write_forms(outputs, {"text": lambda: series.as_text(series_, options.unit),
+                                 "csv": lambda: series.as_csv(series_, options.unit),
+                                 "json": lambda: series.as_json(series_, options.unit),
+                                 "svg": lambda: series.picture(series_)})
 
 
 def add_words(parser: argparse.ArgumentParser) -> None:
