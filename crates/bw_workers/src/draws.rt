@@ -103,7 +103,8 @@ impl<'a, G: Gate> Draws<'a, G> {
         ensures counted { self.new.nth ≡ draws_in (calls_of self.new.seat) }
     {
         let begun = tell_before(self.gate, &self.seat, self.nth);
-        let reply = ask(rt, lock, self.door, &mut self.seat, PoolCall::Draw { leaf, ask: 1 });
+        let call = PoolCall::Draw { leaf, ask: 1 };
+        let reply = ask(rt, lock, self.door, &mut self.seat, call);
         tell_after(self.gate, &self.seat, begun);
         self.nth += 1;
         reply
@@ -125,7 +126,8 @@ impl<'a, G: Gate> Draws<'a, G> {
         ensures nth { self.new.nth ≡ self.old.nth }
         ensures counted { self.new.nth ≡ draws_in (calls_of self.new.seat) }
     {
-        ask(rt, lock, self.door, &mut self.seat, PoolCall::GiveBack { leaf, n: 1 })
+        let call = PoolCall::GiveBack { leaf, n: 1 };
+        ask(rt, lock, self.door, &mut self.seat, call)
     }
 
     /// Whether the leaf uses its slices.
