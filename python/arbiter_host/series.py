@@ -15,7 +15,7 @@ from fractions import Fraction
 from arbiter_host import demands, svg, text, units
 from arbiter_host.faults import HostFault, UsageFault
 from arbiter_host.model import Model
-from arbiter_host.names import cut, padded, short, shown, width
+from arbiter_host.names import cut, short, shown
 from arbiter_host.plan import Engine, Plan, plan
 from arbiter_host.sources.samples import History
 from arbiter_host.units import Slices
@@ -271,18 +271,9 @@ def summary_rows(series: Series, unit: str) -> list[list[str]]:
     return rows
 
 
-def summary_lines(series: Series, unit: str) -> Iterator[str]:
-    """The sums of each group as a table. `wanted` and `got` are means."""
-    rows = summary_rows(series, unit)
-    widths = [max(map(width, column)) for column in zip(*rows)]
-    for row in rows:
-        yield "  ".join([padded(row[0], widths[0]),
-                         *(each.rjust(widths[at]) for at, each in enumerate(row) if at)])
-
-
 def as_text(series: Series, unit: str) -> str:
-    """The sums as text."""
-    return "".join(f"{line}\n" for line in summary_lines(series, unit))
+    """The sums of each group as a table. `wanted` and `got` are means."""
+    return "".join(f"{line}\n" for line in text.table(summary_rows(series, unit), (0,)))
 
 
 def records(series: Series, unit: str) -> Iterator[dict[str, object]]:

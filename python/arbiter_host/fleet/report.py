@@ -6,9 +6,10 @@ from dataclasses import dataclass
 from fractions import Fraction
 from typing import Any
 
+from arbiter_host import text as layout
 from arbiter_host.fleet import figures
 from arbiter_host.fleet.figures import HostAnswer, number, total
-from arbiter_host.names import padded, short, shown, width
+from arbiter_host.names import short, shown
 from arbiter_host.series import COUNTS
 
 # The rules of `--rank`, told in the report.
@@ -274,17 +275,13 @@ def is_number(cell: str) -> bool:
     return cell == "-" or cell.lstrip("+-")[:1].isdigit()
 
 
-def table_lines(table: Table, has_all: bool) -> Iterator[str]:
+def table_lines(table: Table, has_all: bool) -> list[str]:
     """A table as text, of at most MOST_ROWS rows unless all are asked for."""
     rows = table.rows if has_all else table.rows[:MOST_ROWS]
-    widths = [max(map(width, column)) for column in zip(table.heads, *rows)]
-    left = [at == 0 or not all(map(is_number, column)) for at, column in enumerate(zip(*rows))]
-    for row in [table.heads, *rows]:
-        yield "  ".join(padded(each, widths[at]) if left[at] else
-                        " " * (widths[at] - width(each)) + each
-                        for at, each in enumerate(row)).rstrip()
-    if len(rows) < len(table.rows):
-        yield f"and {len(table.rows) - len(rows)} more (--all)"
+    left = [at for at, column in enumerate(zip(*rows)) if at == 0
+            or not all(map(is_number, column))]
+    more = len(table.rows) - len(rows)
+    return layout.table([table.heads, *rows], left) + ([f"and {more} more (--all)"] if more else [])
 
 
 def text(report: Report, has_all: bool) -> str:
