@@ -250,7 +250,10 @@ def test_either_driver_is_found(ctl, folder):
 def test_peaks_are_measured(ctl, folder):
     """Three copies: 1 and then 4 seconds of 10 are a peak of 400m and a mean of 250m."""
     node_tree(folder, {NGINX: 1})
-    trees.group2(folder / "c" / NGINX, usage=5 * 10**6)
+    trees.root2(folder / "c")
+    parts = NGINX.split("/")
+    for at in range(1, len(parts) + 1):
+        trees.group2(folder / "c" / "/".join(parts[:at]), usage=5 * 10**6)
     words = [*(word for name in "abc" for word in ("--used", folder / name)), "--read", "x10s"]
     for want, wanted in (("peak", "400m"), ("p95", "400m"), ("usage", "250m")):
         found, _ = demands_of(ctl, PODS, NODE, *words, "--want", want)

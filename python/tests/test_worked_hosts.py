@@ -94,13 +94,13 @@ demand system.slice/web.service 30
 demand user.slice 10
 """
 HOST_TOLD = [
-    ".: its own tasks used 20m of a CPU, which is left out (--own puts it in)",
+    ".: its own tasks used 20m of a CPU, which is left out",
     "system.slice/backup%20job.service: its name on the host is 'backup job.service'",
     "system.slice/idle.service: idle (cpu.weight 0): 1 is taken",
     "system.slice/web.service: its quota is 30.5 slices: 30 are kept",
     "system.slice/web.service: throttled in 60 of 100 periods: it wanted more than it used"
     " (--want psi)",
-    "system.slice: its own tasks used 15.1m of a CPU, which is left out (--own puts it in)",
+    "system.slice: its own tasks used 15.1m of a CPU, which is left out",
     "user.slice: its 1 groups have no cpu.weight (the cpu controller is not enabled for them): it"
     " stands as one group",
 ]
@@ -130,17 +130,11 @@ def test_host_of_services(ctl, folder):
     wanted[wanted.index(next(each for each in wanted if each.startswith("system.slice: ")))] = next(
         each for each in told if each.startswith("system.slice: its own tasks used 15"))
     assert told == wanted
-    own, _ = ctl.run(*words, "--own")
-    assert "mkdir (own)\n" in own and "demand (own) 2\n" in own
-    assert "mkdir system.slice/(own)\n" in own and "demand system.slice/(own) 2\n" in own
-    shallow, _ = ctl.run(*words, "--depth-read", "1")
-    assert "# ! system.slice: 4 groups below it are deeper than 1\n" in shallow
-    assert "demand system.slice 48\n" in shallow
 
 
 def test_the_program_takes_the_script(ctl, folder, program):
     """Each line of an import is answered by `ok`."""
-    out, _ = ctl.run(*host_copies(folder), "--own")
+    out, _ = ctl.run(*host_copies(folder))
     said = program.run(["run", "--processors", "4", "--slice", "1000"], out.encode()).out
     assert set(said.decode().split("\n")) == {"ok", ""}
 
