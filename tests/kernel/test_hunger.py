@@ -63,16 +63,16 @@ def drawn(numbers):
     for number in range(1, numbers.randint(1, 5)):
         waited = near(numbers, passed // numbers.choice((100, 40, 20, 3)))
         ran = max(0, passed - waited - near(numbers, min(waited, passed // 20)))
-        start = hunger.Task(numbers.randint(0, 5) * SECOND, numbers.randint(0, 5) * SECOND)
-        now[number] = hunger.Task(start.ran + ran, start.waited + waited)
+        start = hunger.TaskTimes(numbers.randint(0, 5) * SECOND, numbers.randint(0, 5) * SECOND)
+        now[number] = hunger.TaskTimes(start.ran + ran, start.waited + waited)
         if numbers.random() < 0.8:
             before[number] = start
         if numbers.random() < 0.1:
-            now[number] = hunger.Task(ran, start.waited)
+            now[number] = hunger.TaskTimes(ran, start.waited)
     ran = sum(each.ran for each in hunger.rises(before, now))
     used = near(numbers, ran * numbers.choice((20, 38, 19)) // 19 // 1000)
     waited = near(numbers, passed // numbers.choice((100, 2, 1)) // 1000)
-    return before, now, hunger.Round(passed, used, waited, numbers.random() < 0.2)
+    return before, now, hunger.RoundTimes(passed, used, waited, numbers.random() < 0.2)
 
 
 def test_both_rules_are_one(answer):

@@ -77,13 +77,16 @@ def let_go(executor: Executor) -> None:
     """
     items: Any = getattr(executor, "_call_queue", None)
     if items is not None:
-        items._reader.close()
+        # The executor's own thread may be closing it too.
+        with suppress(OSError):
+            items._reader.close()
 
 
 @contextmanager
 def processes(count: int) -> Iterator[Executor]:
     """Processes of this machine. All are ended behind it, whatever they work at."""
     # A new interpreter would look for modules in the folder that this one was called in.
+    before = os.environ.get("PYTHONSAFEPATH")
     os.environ["PYTHONSAFEPATH"] = "1"
     found = ProcessPoolExecutor(count, multiprocessing.get_context("spawn"), begin_worker)
     try:
@@ -95,6 +98,8 @@ def processes(count: int) -> Iterator[Executor]:
         raise
     finally:
         found.shutdown(cancel_futures=True)
+        if before is None:
+            os.environ.pop("PYTHONSAFEPATH", None)
 
 
 def given(executor: Executor, width: int, job_text: str,
