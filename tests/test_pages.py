@@ -22,6 +22,8 @@ GREATEST_WORDS = 30
 # Pages whose references to clauses and definitions are held to the sources, and how many they have.
 REFERRING = {"docs/PROVED.md": 40, "docs/ARCHITECTURE.md": 20}
 REFERENCE = re.compile(r"`(?:(\w+)/)?((?:\w+/)*\w+\.(rt|antt)):(\w+)(?:\.(\w+))?`(?: of (\w+))?")
+# One more clause of the function before it: `host.rt:new.ok`, `.err`
+FURTHER = re.compile(r"(?<=, )`\.(\w+)`")
 LINK = re.compile(r"\]\(([^)#\s]+)(#[^)]*)?\)")
 # A heading of another page: [USING.md](USING.md), 'The files'
 HEADING = re.compile(r"\]\(([^)#\s]+\.md)\), '((?:[^'\"]|\"[^\"]*\")+)'")
@@ -135,16 +137,23 @@ def is_in_specs(text: str, name: str, field: str) -> bool:
 
 def references(page: str) -> list:
     """The references of a page or table: crate, file, kind, name, clause or field, as written."""
+    return references_in(text_of(page), crates())
+
+
+def references_in(text: str, known: list) -> list:
+    """The references of a text. The crate is that of the last heading, unless it is written."""
     crate, found = "", []
-    known = crates()
-    for line in text_of(page).splitlines():
-        if line.startswith("## "):
-            crate = line[3:].strip()
-        for match in REFERENCE.finditer(line):
-            first, file, kind, name, clause, other = match.groups()
+    for line in text.splitlines():
+        if line.startswith("#"):
+            crate = next((word for word in re.findall(r"\w+", line) if word in known), crate)
+        last = ("", "", "", "")
+        for match in re.finditer(f"{REFERENCE.pattern}|{FURTHER.pattern}", line):
+            first, file, kind, name, clause, other, further = match.groups()
             if first and first not in known:
                 first, file = "", f"{first}/{file}"
-            found.append((first or other or crate, file, kind, name, clause, match.group()))
+            if not further:
+                last = (first or other or crate, file, kind, name)
+            found.append((*last, clause or further, match.group()))
     return found
 
 
@@ -186,6 +195,17 @@ def test_files_of_rules():
              for path in [*ROOT.glob(f"crates/*/{folder}/*"), *ROOT.glob(f"tests/{folder}/*")]}
     assert len(others) >= 20
     same([name for name in others if name not in there], [], "wrong bodies and cases")
+
+
+def test_references_are_read():
+    """A crate is that of the heading or the one that is written; a further clause is of the last."""
+    text = ("# Laws (bw_tree)\n`a.rt:new.ok`, `.err`, `bw_stat/b/c.rt:get`\n## Of one group\n"
+            "`B.antt:IsB.x` of bw_pool, `d/e.rt:put`. `.rt` is no clause.\n, `.lost`\n")
+    found = [reference[:-1] for reference in references_in(text, ["bw_tree", "bw_stat", "bw_pool"])]
+    same(found, [("bw_tree", "a.rt", "rt", "new", "ok"), ("bw_tree", "a.rt", "rt", "new", "err"),
+                 ("bw_stat", "b/c.rt", "rt", "get", None), ("bw_pool", "B.antt", "antt", "IsB", "x"),
+                 ("bw_tree", "d/e.rt", "rt", "put", None), ("", "", "", "", "lost")], "references")
+    assert not is_there("", "", "", "", "lost")
 
 
 def test_references_are_refused():
