@@ -1,8 +1,7 @@
 """Holds the plan on a host: each round reads what was used, and writes limits by the proved rule.
 
 The rule is the library's call `arbiter_hold`. Each group is open from its first reading to the
-last writing. What stood is in a synced file before the first writing to it, and is put back at the
-end.
+last writing. Its old settings are fsynced before the first write, and restored at the end.
 """
 from __future__ import annotations
 

@@ -198,8 +198,7 @@ fn book_row(
     }
 }
 
-// Counts a period for a group whose counters are looked up. Apart from the loop, which is then
-// short.
+// Counts a period for a group whose counters are looked up. Out of line, to keep the loop small.
 #[inline(never)]
 fn book_by_id(
     stats: &mut IndexMap<u64, Stat>,

@@ -69,7 +69,7 @@ class Draft:
     # What the form cannot say, and what is to be told beside, in words.
     refused: list[str] = field(default_factory=list)
     told: list[str] = field(default_factory=list)
-    # The paths, before and after, of groups that the form takes to be one.
+    # Paths of groups that moved, before and after, since their pod's class changed.
     moved: set[str] = field(default_factory=set)
 
     def common(self) -> Iterator[Differing]:
