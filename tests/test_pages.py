@@ -228,6 +228,13 @@ def test_one_time_of_the_first_run():
     assert "about a minute at the first call" in text_of("README.md")
 
 
+def test_packages_of_the_tests():
+    """CONTRIBUTING has the packages that ./test installs for pytest, in one line."""
+    listed = re.search(r"^packages=\(([^)]*)\)", text_of("scripts/pytest.sh"), re.M).group(1).split()
+    assert len(listed) >= 8
+    assert f"`apt-get install {' '.join(listed)}`" in text_of("CONTRIBUTING.md")
+
+
 def test_each_crate_is_described():
     """ARCHITECTURE names each crate."""
     architecture = text_of("docs/ARCHITECTURE.md")

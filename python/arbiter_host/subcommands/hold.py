@@ -220,11 +220,12 @@ DETAILS = (
     " cpu.weight too: 100 d / (1.01 - d) where the limit lets each task of a group use the part d"
     " of a CPU. A group with children has the sum of theirs. The plan is that of the operator's own"
     " weights. A weight that somebody sets meanwhile is such a one.",
-    "What stood is in the undo file, synced, before a group is first written. It is put back at the"
-    " end, at SIGTERM, SIGINT and SIGHUP (not under nohup), after two failed readings in a row and"
-    " after a failed writing. Then the undo file is removed. A loop that was killed is undone by"
-    " `arbiterctl undo FILE --yes`. A jump of the clock over more than five rounds and five seconds"
-    " is a failed reading. A writing that fails in a group of another user ends no loop.",
+    "The old settings are synced to the undo file before a group is first written. They are"
+    " restored at the end, at SIGTERM, SIGINT and SIGHUP (not under nohup), after two failed"
+    " readings in a row and after a failed writing. Then the undo file is removed. A loop that was"
+    " killed is undone by `arbiterctl undo FILE --yes`. A jump of the clock over more than five"
+    " rounds and five seconds is a failed reading. A writing that fails in a group of another user"
+    " ends no loop.",
     "Each round is a line of JSON: want, plan, used and limit of each group in slices, whether it"
     " is hungry, and what a hungry group lacked of the plan that stood (unserved). `missed` is the"
     " number of rounds missed before it. -o openmetrics=FILE has the same in CPUs. Groups that come"
