@@ -19,7 +19,7 @@ make_checker() {
   independent/build "${checker%/*}" >&2
 }
 
-# What is installed: a file of the clone or the target of a link, its place below DIR, and its mode
+# Installed files: a file of the clone or the target of a link, its place below DIR, and its mode
 # or the word link.
 find_installed() {
   of_library

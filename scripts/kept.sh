@@ -1,5 +1,5 @@
 # shellcheck shell=bash
-# What this machine keeps outside the sources: the checked build, and how long commands took.
+# Files that this machine keeps outside the sources: the checked build, and times of commands.
 
 # Sets `here` to the folder for it, or to nothing if there is none that can be written.
 find_here() {

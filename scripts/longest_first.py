@@ -19,7 +19,7 @@ import time
 from crates import crates, with_all_below
 from kit import kit_module
 
-# What a proof took on the machine of the last measurement.
+# Time of a proof on the machine of the last measurement.
 MEASURED = "scripts/gate.tsv"
 # Seconds of a crate that was not measured.
 USUAL = 60

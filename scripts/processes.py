@@ -4,7 +4,7 @@ import time
 from typing import NamedTuple
 
 TICK = os.sysconf("SC_CLK_TCK")
-# What a process of the kit does for a crate. Edits begin with a check of the crate as it stands.
+# Task of a process of the kit for a crate. Edits begin with a check of the crate as it stands.
 PROOF, TESTS, BASE, EDITS = KINDS = ("proof", "tests", "base of the edits", "edits")
 LINK, RUN = "linking", "runs"
 

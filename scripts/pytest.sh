@@ -29,10 +29,10 @@ need_packages() {
   for tool in "${tools[@]}"; do
     command -v "$tool" >/dev/null || missing+=("$tool")
   done
-  # What short guests need. Their kernel is had by apt-get where no earlier run has unpacked one.
+  # Packages of short guests. Their kernel is had by apt-get where no earlier run has unpacked one.
   command -v qemu-system-x86_64 >/dev/null || missing+=(qemu-system-x86)
   command -v busybox >/dev/null || missing+=(busybox-static)
-  # What clang-14 links a program with sanitizers and a fuzzer to.
+  # The library that clang-14 links a program with sanitizers and a fuzzer to.
   compgen -G '/usr/lib/llvm-14/lib/clang/*/lib/linux/libclang_rt.fuzzer-*.a' >/dev/null ||
     missing+=(libclang-rt-14-dev)
   # shellcheck disable=SC2206,SC2154

@@ -41,7 +41,7 @@ class By(Enum):
 
 @dataclass(frozen=True)
 class Settings:
-    """What the files of a group hold. The quota and the burst are microseconds."""
+    """Contents of the files of a group. The quota and the burst are microseconds."""
 
     weight: int
     quota: int | None
@@ -74,7 +74,7 @@ class Step:
     old: str
     new: str
     unit: str = ""
-    # How the properties of the unit are set.
+    # Way in which the properties of the unit are set.
     by: By = By.RUNTIME
 
     def words(self, root: Root) -> str:
@@ -146,7 +146,7 @@ def number(text: str) -> int:
 
 
 def current(root: Root, folder: str, takes_idle: bool = False) -> Settings:
-    """What the files of a group hold now. A fault for an idle group, or with `takes_idle` weight
+    """Contents of the files of a group now. A fault for an idle group, or with `takes_idle` weight
     0."""
     weight, words = root.read(folder, "cpu.weight"), root.read(folder, "cpu.max").split()
     burst = root.read(folder, "cpu.max.burst")
@@ -159,7 +159,7 @@ def current(root: Root, folder: str, takes_idle: bool = False) -> Settings:
 
 
 def standing(root: Root, folder: str) -> Settings | None:
-    """What the files of a group hold now, weight 0 for an idle one; None if the group is gone."""
+    """Contents of the files of a group now, weight 0 for an idle one; None if the group is gone."""
     try:
         return current(root, folder, takes_idle=True)
     except Gone:
@@ -268,7 +268,7 @@ def of_units(steps: Sequence[Step]) -> set[str]:
 
 
 def after_step(stands: Settings, wanted: Settings, step: Step) -> Settings:
-    """What stands in a group after one step to what is wanted."""
+    """The settings of a group after one step to the wanted ones."""
     if step.file == "cpu.max":
         return replace(stands, quota=wanted.quota, period=wanted.period)
     if step.file == "cpu.weight":
@@ -322,7 +322,7 @@ def passing(steps: Sequence[Step]) -> list[str]:
 
 
 def systemctl(words: Sequence[str]) -> str:
-    """What systemctl prints; a fault with its own words."""
+    """Output of systemctl; a fault with its own words."""
     try:
         ended = subprocess.run(["systemctl", *words], capture_output=True, text=True, check=False,
                                errors="replace", stdin=subprocess.DEVNULL, timeout=SECONDS)
@@ -383,7 +383,7 @@ class Back:
     root: Root
     by: By
     changes: list[Change] = field(default_factory=list)
-    # What is left alone, in words: groups that are gone, and values that somebody else set.
+    # Parts that are left alone, in words: groups that are gone, and values that somebody else set.
     left: list[str] = field(default_factory=list)
 
     def steps(self, by_files: Container[str] = ()) -> list[Step]:

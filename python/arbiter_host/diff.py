@@ -1,4 +1,4 @@
-"""What differs between two plans, from the first to the second."""
+"""Differences between two plans, from the first to the second."""
 from __future__ import annotations
 
 from collections.abc import Iterator
@@ -38,7 +38,7 @@ def differing(one: Plan, two: Plan, view: View = View()) -> list[Pair]:
 
 
 def facts(plan: Plan, group: Planned) -> tuple[Any, ...]:
-    """What is compared of a group, in thousandths of a CPU: hosts may have other slices."""
+    """Compared amounts of a group, in thousandths of a CPU: hosts may have other slices."""
     limit = None if group.limit is None else plan.thousandths(group.limit)
     return (plan.thousandths(group.gets), plan.thousandths(group.want), limit, group.weight,
             explain.why(plan, group, True))

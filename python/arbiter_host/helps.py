@@ -24,7 +24,7 @@ ENVIRONMENT = {
     "COLUMNS": "Columns of the answers, in place of the terminal's.",
     "NO_COLOR": "If it is set, answers have no colours.",
 }
-# What a source is, by its kind.
+# Description of a source, by its kind.
 KINDS = {kind: READERS[kind].about for kind in options.KINDS}
 
 

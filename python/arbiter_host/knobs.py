@@ -31,7 +31,7 @@ class Knob(NamedTuple):
     now: int | str | None
     least: int | str | None
     plan: Plan | None
-    # What is said of it beside the groups that pay.
+    # Remark on it beside the groups that pay.
     told: str = ""
     # Whether it is a setting that people own.
     is_owned: bool = False
@@ -105,7 +105,7 @@ class Knobs:
                          of_host)
 
     def owned(self) -> Iterator[Callable[[], Knob]]:
-        """What finds the least of each setting of the group that people own."""
+        """Searches for the least of each setting of the group that people own."""
         source = self.model.owned
         meant = source.meant(self.path) if source else []
         if source is not None and len(meant) == 1:

@@ -25,7 +25,7 @@ from arbiter_host.faults import HostFault, UsageFault, strerror
 from arbiter_host.names import shown
 from arbiter_host.top import Alert, GroupFigures
 
-# What the first lines of a file hold.
+# First lines of a file.
 MARK = "# HELP arbiter_"
 # Seconds in which a reader has to ask, and those in which it has to take the answer.
 SECONDS = 5
@@ -163,7 +163,7 @@ class Handler(WSGIRequestHandler):
         """Logs nothing."""
 
     def get_environ(self) -> dict[str, Any]:
-        """What is asked, with the time of the reader."""
+        """The environment of a request, with the time of the reader."""
         return {**super().get_environ(), TIME: self.server.time}  # type: ignore[attr-defined]
 
 
@@ -212,7 +212,7 @@ class Server(WSGIServer):
 
 
 class Server6(Server):
-    """The same for IPv6."""
+    """A server for IPv6."""
 
     address_family = socket.AF_INET6
 
@@ -250,7 +250,7 @@ def guarded(collector: Collector) -> Callable[..., Any]:
         if environ["PATH_INFO"] != "/metrics" or environ["REQUEST_METHOD"] != "GET":
             start("404 Not Found", [("Content-Type", "text/plain")])
             return [b"/metrics\n"]
-        # What making the answer takes is none of the reader's time.
+        # The time to make the answer is none of the reader's.
         environ[TIME].end()
         found = app(environ, start)
         environ[TIME].begin()

@@ -102,7 +102,7 @@ class Model:
 
     host: Host = field(default_factory=Host)
     groups: dict[str, Group] = field(default_factory=dict)
-    # What the source could not say or the model cannot hold, in words.
+    # Parts that the source could not say or the model cannot hold, in words.
     notes: list[str] = field(default_factory=list)
     # Lines of a script that were refused, in words.
     refused: list[str] = field(default_factory=list)
@@ -110,7 +110,7 @@ class Model:
     names_host: bool = False
     # Conversions that the source knows, which are those of its host.
     slices: Slices | None = None
-    # What the source has read, where people own settings of it.
+    # The source as it was read, where people own settings of it.
     owned: Owned | None = None
 
     def add(self, group: Group) -> Group:
@@ -148,7 +148,7 @@ class Model:
         return rows
 
     def with_host(self, host: Host) -> Model:
-        """The same groups on another host. What was saved up is kept in time, rounded down."""
+        """These groups on another host. Saved-up quota is kept in time, rounded down."""
         before = self.host
         groups = {}
         for path, group in self.groups.items():
@@ -157,13 +157,13 @@ class Model:
         return replace(self, host=host, groups=groups)
 
     def copy(self) -> Model:
-        """The same model, whose groups can be changed."""
+        """A copy of the model, whose groups can be changed."""
         groups = {path: replace(group) for path, group in self.groups.items()}
         return replace(self, groups=groups, notes=list(self.notes), refused=list(self.refused))
 
 
 def bound_notes(paths: Sequence[str]) -> list[str]:
-    """What is told of groups that keep to CPUs of their own; nothing of none."""
+    """A warning of groups that keep to CPUs of their own, if there are any."""
     if not paths:
         return []
     return [f"bound to CPUs: {names.listed(paths)}: each keeps to its own CPUs, so what others"

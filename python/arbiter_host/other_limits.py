@@ -149,7 +149,7 @@ class Lowering:
         return replace(self.goals, before=self.goals.plan_of(self.model(limits)))
 
     def changes(self, limits: Limits) -> list[NewSetting]:
-        """What some limits change."""
+        """The changes of some limits."""
         return [NewSetting(cap.path, cap.key, cap.now, cap.written(limits[place]))
                 for place, cap in enumerate(self.caps) if place in limits]
 

@@ -1,4 +1,4 @@
-"""What the command prints and writes: text, styled lines, JSON, files."""
+"""Output of the command: text, styled lines, JSON, files."""
 from __future__ import annotations
 
 import os

@@ -45,7 +45,7 @@ class Range(NamedTuple):
     """
 
     key: str
-    # What the setting is now, as it is written.
+    # Present value of the setting, as it is written.
     now: str
     parts: Sequence[tuple[int, int]]
     # A number as the setting is written.
@@ -64,7 +64,7 @@ class Amounts:
 
 @dataclass(frozen=True)
 class Owned:
-    """What a source has read, with the settings of it that people own."""
+    """A source as it was read, with the settings of it that people own."""
 
     # Factors of demands, as --scale has them.
     scales: tuple[str, ...] = field(default=(), kw_only=True)
@@ -96,15 +96,15 @@ class Owned:
         return []
 
     def changed(self, settings: Sequence[Setting]) -> Owned:
-        """The same with other settings. Paths are those of the model as it is."""
+        """This source with other settings. Paths are those of the model as it is."""
         raise NotImplementedError
 
     def on_host(self, host: Host) -> Owned:
-        """The same on another host."""
+        """This source on another host."""
         raise NotImplementedError
 
     def ranges(self, path: str) -> list[Range]:
-        """What can be asked for of one group: of the setting that weighs it, then of the other."""
+        """Settings that can be asked for of one group: the one that weighs it, then the other."""
         raise NotImplementedError
 
     def joined(self, _: Owned) -> Owned | None:
@@ -112,11 +112,11 @@ class Owned:
         return None
 
     def weighing(self, path: str) -> Range:
-        """What can be asked for of the setting that weighs a group."""
+        """Values that can be asked for of the setting that weighs a group."""
         return self.ranges(path)[0]
 
     def limiting(self, path: str) -> Range:
-        """What can be asked for of the setting that limits a group."""
+        """Values that can be asked for of the setting that limits a group."""
         return self.ranges(path)[1]
 
     @property
@@ -169,7 +169,7 @@ class Owned:
                 if value is not None]
 
     def totals(self) -> tuple[int, int | None] | None:
-        """What all groups request, and what there is for them; None where no request is known."""
+        """Requests of all groups, and the CPU for them; None where no request is known."""
         return None
 
 

@@ -181,7 +181,7 @@ class Drawing:
                 yield svg.line((x, y), (x + INDENT - 6, y), svg.BRANCH)
 
     def bar(self, entry: Entry, y: float) -> Iterator[str]:
-        """What a group wants and gets, and its limit."""
+        """Bars of a group: want, amount and limit."""
         tall = ROW - 8
         yield svg.box((self.left, y + 4), (self.x(entry.want) - self.left, tall), svg.WANTS)
         gets = max(self.x(entry.gets) - self.left, 1.5 if entry.gets else 0)
@@ -208,7 +208,7 @@ class Drawing:
 
 
 def legend(y: float) -> Iterator[str]:
-    """What the colours mean."""
+    """Legend of the colours."""
     x = float(EDGE)
     for name, colour in (("gets", svg.GETS), ("wants", svg.WANTS)):
         yield svg.box((x, y - 10), (14, 12), colour)

@@ -18,7 +18,7 @@ from arbiter_host.names import shown
 
 FOLDER = "/run/arbiter"
 LOCK = "hold.lock"
-# How often a lock is tried, and the seconds between.
+# Number of tries of a lock, and the seconds between.
 TURNS, PATIENCE = 5, 0.1
 # Bytes of the path of a tree.
 MOST_TOP = 4096

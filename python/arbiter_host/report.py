@@ -26,7 +26,7 @@ def title_of(group: Planned) -> str:
 
 
 def request_of(plan: Plan, group: Planned, unit: str) -> str:
-    """What a group requests; empty where the source has no requests."""
+    """Request of a group; empty where the source has no requests."""
     asked, host = group.group.request if group.group else None, plan.model.host
     if asked is None:
         return ""

@@ -372,7 +372,7 @@ def strips(cells: Sequence[SampleCell], top: float, x: Callable[[float], float])
 
 
 def legend(y: float) -> Iterator[str]:
-    """What the colours mean."""
+    """Legend of the colours."""
     x = float(EDGE)
     entries = [("gets", svg.GETS, 12), ("wants", svg.WANTS, 12)]
     entries += [(name, colour, STRIP) for _, name, colour in FLAGS]

@@ -27,7 +27,7 @@ class GroupFigures:
     title: str
     plan: Fraction
     want: Fraction
-    # What it used, and the part of its periods in which it was throttled.
+    # Its use, and the part of its periods in which it was throttled.
     got: Fraction | None
     throttled: Fraction | None
     is_starved: bool
@@ -39,7 +39,7 @@ class GroupFigures:
         return None if self.got is None else self.got - self.plan
 
     def value(self, key: str, is_named: bool = False) -> Fraction | None:
-        """What a condition compares; None where nothing was measured for it.
+        """The number that a condition compares; None where nothing was measured for it.
 
         Groups with children are compared by `throttled`, and where a condition names them.
         """
@@ -142,7 +142,7 @@ def alerts(figures: Sequence[GroupFigures], wanted: Sequence[Condition]) -> list
 
 
 def missing(figures: Sequence[GroupFigures], wanted: Sequence[Condition]) -> list[str]:
-    """What is to be told of conditions whose group is not there."""
+    """Warnings of conditions whose group is not there."""
     return [f"--alert {each.words}: no group {each.group} is there" for each in wanted
             if not any(map(each.is_of, figures))]
 
@@ -173,7 +173,7 @@ class Watched:
 
 
 class State:
-    """What goes on from round to round: the number of rounds, and alerts that stand."""
+    """State between rounds: the number of rounds, and alerts that hold."""
 
     def __init__(self, wanted: Sequence[Condition]) -> None:
         self.wanted, self.rounds = wanted, 0

@@ -38,11 +38,11 @@ class Raised:
         return self.goals.plan_of(self.model)
 
     def only(self, rows: Sequence[int]) -> Raised:
-        """The same with the settings of some rows alone."""
+        """These settings, of some rows alone."""
         return replace(self, settings={row: self.settings[row] for row in rows})
 
     def with_value(self, row: int, of: Range, value: int) -> Raised:
-        """The same with another value of the setting of a row."""
+        """These settings with another value in a row."""
         setting = Setting(self.goals.before.groups[row].path, of.key, of.written(value))
         return replace(self, settings={**self.settings, row: setting})
 
@@ -59,7 +59,7 @@ class Raised:
         return row, changed.weighing(list(changed.plain().groups)[row - 1])
 
     def raised(self, goal: Goal) -> Raised | str:
-        """The same with the least value that meets one goal, or why there is none."""
+        """These settings with the least value that meets one goal, or why there is none."""
         known = self.range_of(goal)
         if isinstance(known, str):
             return known
@@ -71,8 +71,8 @@ class Raised:
         return self.with_value(row, of, value)
 
     def weighed(self, group: Planned, weight: int) -> Raised | None:
-        """The same with the least setting of a group that gives it a weight at least, and no other
-        group another weight."""
+        """These settings with the least one of a group that gives it a weight at least, and changes
+        no other group's weight."""
         if not self.source.has(group.path) or "request" in self.source.keys:
             return None
         of = self.source.weighing(group.path)
@@ -85,7 +85,7 @@ class Raised:
         return None if value is None else self.with_value(group.row, of, value)
 
     def changes(self) -> list[NewSetting]:
-        """What the settings change."""
+        """The changes of the settings."""
         return [NewSetting(setting.path, setting.key, now, setting.value)
                 for setting in (self.settings[row] for row in sorted(self.settings))
                 if (now := self.source.weighing(setting.path).now) != setting.value]

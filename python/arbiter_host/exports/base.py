@@ -1,4 +1,4 @@
-"""What all forms share: a change, the groups that differ, refusals, and files as texts."""
+"""Parts that all forms share: a change, the groups that differ, refusals, and files as texts."""
 from __future__ import annotations
 
 from collections.abc import Callable, Iterator, Sequence
@@ -13,7 +13,7 @@ from arbiter_host.names import shown
 from arbiter_host.safe_files import Root
 from arbiter_host.sources.pods import kubelets
 
-# What the first line of each file that is written holds.
+# First line of each file that is written.
 MARK = "Written by arbiterctl apply -o "
 
 
@@ -26,7 +26,7 @@ class Differing(NamedTuple):
 
     @property
     def words(self) -> str:
-        """What changes, for a comment: one line."""
+        """The change, for a comment: one line."""
         one, two = (apply.settings_of(each) for each in (self.before, self.after))
         return f"{shown(self.path)}: {apply.in_words(one)} -> {apply.in_words(two)}"
 
@@ -66,7 +66,7 @@ class Draft:
     runtime: str
     # Reads files as the first source was read.
     reread: Callable[[Sequence[load.Opened]], Model]
-    # What the form cannot say, and what is to be told beside, in words.
+    # Parts that the form cannot say, and warnings, in words.
     refused: list[str] = field(default_factory=list)
     told: list[str] = field(default_factory=list)
     # Paths of groups that moved, before and after, since their pod's class changed.

@@ -25,7 +25,7 @@ from arbiter_host.sources.data import loads, table, tables, text
 from arbiter_host.sources.kubernetes import is_pod, items_of
 from arbiter_host.sources.pods import MIRROR
 
-# What a name of an object may be, so that it can be a part of a file's name and of a command.
+# Form of a name of an object that can be a part of a file's name and of a command.
 NAME = re.compile(r"[a-z0-9]([-a-z0-9.]{0,251}[a-z0-9])?")
 # Kinds whose template of pods may be changed, and their versions.
 OWNERS = {"Deployment": "apps/v1", "StatefulSet": "apps/v1", "DaemonSet": "apps/v1",
@@ -34,7 +34,7 @@ HASH = "pod-template-hash"
 
 
 class Target(NamedTuple):
-    """What a patch is of."""
+    """The object of a patch."""
 
     kind: str
     namespace: str
@@ -71,7 +71,7 @@ def deployment_of(pod: dict[str, Any], name: str, items: Sequence[dict[str, Any]
 
 
 def target_of(pod: dict[str, Any], items: Sequence[dict[str, Any]]) -> Target:
-    """What owns a pod as far up as its template may be changed; else the pod."""
+    """Owner of a pod as far up as its template may be changed; else the pod."""
     kind, name = controller_of(pod)
     if kind == "ReplicaSet":
         above = deployment_of(pod, name, items)
@@ -220,7 +220,7 @@ def add(draft: Draft, patches: dict[Target, dict[str, Any]], target: Target,
 
 
 def command_of(target: Target, file: str) -> str:
-    """How a patch is applied."""
+    """Command that applies a patch."""
     more = " --subresource resize" if target.kind == "Pod" else ""
     return (f"# kubectl -n {target.namespace} patch {target.kind.lower()} {target.name}{more}"
             f" --patch-file {file}\n")

@@ -20,7 +20,7 @@ from arbiter_host.subcommands.base import Subcommand, found_engine, source_name
 
 
 def host_of(asked: argparse.Namespace) -> Callable[[Host], Host]:
-    """What makes the host of the plans: as fine as can be, unless an option names it."""
+    """Maker of the host of the plans: as fine as can be, unless an option names it."""
     is_named = asked.period is not None or asked.slice is not None
     return (lambda host: host) if is_named else intervals.fine
 
@@ -42,7 +42,7 @@ def of_range(asked: argparse.Namespace) -> tuple[list[Look], list[str], set[int]
 
 
 def times_of(asked: argparse.Namespace, is_live: bool) -> Times:
-    """How often a tree is read, or how long after one copy the next was made."""
+    """Time between two readings of a tree, or between two copies."""
     if asked.read is None:
         raise UsageFault("--read: how often and how long this tree is read, such as --read 13x5s"
                          if is_live else "--read: the time from one copy to the next, such as"
@@ -93,7 +93,7 @@ def lines_of(ranked: Ranked) -> list[tuple[str, str]]:
 
 
 def page_of(ranked: Ranked, title: str) -> str:
-    """The same as a page."""
+    """The table as a page."""
     from arbiter_host.audit import page
     return page.page(ranked, title)
 

@@ -17,13 +17,13 @@ class Subcommand(NamedTuple):
     """One subcommand: its name, its help, its words, and what it does with them."""
 
     name: str
-    # What it does, in sentences.
+    # Its description, in sentences.
     description: str
     add_words: Callable[[argparse.ArgumentParser], None]
     run: Callable[[argparse.Namespace], None]
     # More paragraphs of its help and its man page.
     details: tuple[str, ...] = ()
-    # What an example does, and its command.
+    # Description of an example, and its command.
     examples: tuple[tuple[str, str], ...] = ()
 
     @property

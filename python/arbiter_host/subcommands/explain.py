@@ -12,7 +12,7 @@ from arbiter_host.subcommands.base import Subcommand, loaded_plan, source_name, 
 
 
 def shown_view(options: argparse.Namespace, plan: Plan) -> View:
-    """What is shown of a plan, with what the groups are guaranteed where that is asked for."""
+    """A plan as it is shown, with guarantees where they are asked for."""
     view = view_of(options, choosing.chosen(plan.model, options))
     if not options.guaranteed:
         return view
@@ -29,19 +29,19 @@ def lines(plan: Plan, view: View) -> Styled:
 
 
 def data(plan: Plan, view: View) -> str:
-    """The same as JSON."""
+    """A plan as JSON."""
     outlook = placement.outlook(plan.model)
     return json_text(explain.with_placement(plan, explain.as_data(plan, view), outlook))
 
 
 def page(options: argparse.Namespace, plan: Plan, view: View) -> str:
-    """The same as a page."""
+    """A plan as a page."""
     from arbiter_host import report
     return report.page(plan, view, f"Plan of {source_name(options.source)}")
 
 
 def drawing(plan: Plan, view: View) -> str:
-    """The same as a picture."""
+    """A plan as a picture."""
     from arbiter_host import picture
     return picture.picture(plan, view)
 

@@ -24,7 +24,7 @@ def loaded(options: argparse.Namespace, by: Engine) -> Model:
 
 
 def uses_of(options: argparse.Namespace, model: Model) -> dict[str, Use]:
-    """What was seen of each group: with the source, or of units in samples beside it."""
+    """Readings of each group: with the source, or of units in samples beside it."""
     owned = recommend.owned_of(model)
     seen = owned.seen()
     if options.used and owned.noun == "unit":
@@ -50,13 +50,13 @@ def run(options: argparse.Namespace) -> None:
 
 
 def cells(each: Proposal, keys: tuple[str, str]) -> list[str]:
-    """What weighs a group and what limits it, now and then, as people write them."""
+    """Settings that weigh and limit a group, now and then, as people write them."""
     then = {setting.key: setting.value for setting in each.settings}
     return [word for key, now in zip(keys, each.words) for word in (now, then.get(key, "-"))]
 
 
 def totals_line(advice: Recommendation) -> list[tuple[str, str]]:
-    """What all pods request, if groups have requests. It is red where the node has less."""
+    """Sum of the requests of all pods, if groups have any. It is red where the node has less."""
     if advice.requests is None:
         return []
     of_node = "" if advice.allocatable is None else f", of {advice.allocatable}m that the node has"

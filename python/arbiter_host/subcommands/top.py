@@ -32,7 +32,7 @@ MEASURED = ("throttled", "off")
 
 def reader(asked: argparse.Namespace,
            wanted: Sequence[top.Condition]) -> tuple[Callable[[], top.PlannedRound], int]:
-    """What reads a round, and the readings that it takes before the first one."""
+    """Reader of a round, and the readings that it takes before the first one."""
     by, paths = found_engine(asked), asked.source or [looks.HOST_TREE]
     if len(paths) == 1 and os.path.isdir(paths[0]) and asked.kind in (None, "cgroup"):
         options.check(asked, "cgroup")
@@ -61,7 +61,7 @@ def run_command(words: Sequence[str], raised: Sequence[top.Alert]) -> None:
 
 
 class Watch:
-    """What is done after each round: metrics, its line or lines, and its alerts."""
+    """Ends each round: metrics, its line or lines, and its alerts."""
 
     def __init__(self, asked: argparse.Namespace, form: str, file: str) -> None:
         self.asked, self.form = asked, form
@@ -128,7 +128,7 @@ class Watch:
 
 
 def shown_view(asked: argparse.Namespace, plan: Plan) -> View:
-    """What is shown of a plan."""
+    """A plan as it is shown."""
     return view_of(asked, choosing.chosen(plan.model, asked))
 
 

@@ -16,7 +16,7 @@ from arbiter_host.plan import Plan, plan
 from arbiter_host.subcommands.base import Subcommand, found_engine, source_name
 from arbiter_host.tune import Tuned
 
-# What goals are measured by.
+# Demands under which goals are met.
 MEASURES = {False: "by today's demands", True: "whatever the others ask for"}
 # The groups that pay which are named; the others are counted.
 NAMED = 3
