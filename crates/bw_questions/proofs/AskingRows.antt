@@ -1,16 +1,16 @@
 -- The groups with other demands: an instance of one tree, with equal weights and limits.
-use Rattle.std.proofs.Common.{◌≡◌, ℕ, ◌<◌, ◌≤◌, List, Bool, true, false, None, Some, length}
-use Rattle.std.proofs.Common.{refl, ap, sym, ◌∙◌, arith, inl, inr, ◌+◌, zero, suc, get_or, ◌∷◌, []}
+use Rattle.std.proofs.Common.{◌≡◌, ℕ, ◌<◌, ◌≤◌, List, Bool, true, false, Some, length}
+use Rattle.std.proofs.Common.{refl, ap, ◌∙◌, arith, inl, inr, ◌+◌, zero, suc, get_or, ◌∷◌, []}
 use Rattle.std.specs.Prelude.{map, replicate, ◌&&◌, if◌then◌else◌}
 use Rattle.std.specs.List.{range_with_len}
-use Rattle.std.proofs.lemmas.Bool.{cases_lt, cases_Bool}
+use Rattle.std.proofs.lemmas.Bool.{cases_Bool}
 use Rattle.std.proofs.lemmas.List.{get_or_default}
 use Rattle.std.proofs.lemmas.List.FromFn.{get_or-map-range_with_len, length-map-range_with_len}
 use Rattle.std.proofs.lemmas.List.FromFn.{get_or-range_with_len, length-range_with_len}
 use Rattle.bw_model.specs.declared.row.Row.{Row}
 use Rattle.bw_model.specs.declared.limits.TheConstants.{MAX_DEMAND}
-use Rattle.bw_model.specs.Groups.{Groups, IsInstance, AreTreeRows, no_row, parent_of, row_of}
-use Rattle.bw_model.specs.Groups.{weight_of, demand_of, limit_of, is_leaf, depth_of}
+use Rattle.bw_model.specs.Groups.{Groups, IsInstance, no_row, parent_of, row_of}
+use Rattle.bw_model.specs.Groups.{weight_of, demand_of, limit_of, is_leaf}
 use Rattle.bw_model.specs.Plan.{IsPlan}
 use Rattle.bw_model.proofs.CallerLemmas.{get_or_within}
 use Rattle.bw_change_laws.proofs.CallerLemmas.{planned, AreAlike, limits_same}

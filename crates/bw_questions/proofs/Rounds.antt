@@ -16,10 +16,10 @@ use Rattle.bw_change_laws.specs.Asked.{IsBusier, IsBusierAt}
 use Rattle.bw_change_laws.proofs.CallerLemmas.{leaf_same, only_cuts, serve_no_more, unused_changes}
 use Rattle.bw_questions.specs.Guarantee.{IsAskedOtherwise}
 use Rattle.bw_questions.specs.HeldRule.{IsRound, asking, demand_where, everyone, headroom, is_hungry}
-use Rattle.bw_questions.specs.HeldRule.{leaf_limit, own_limit, round_limit, round_of}
+use Rattle.bw_questions.specs.HeldRule.{leaf_limit, own_limit, round_limit, round_of, with_eighth}
 use Rattle.bw_questions.specs.Reading.{IsSameButDemands, IsTrueReading, limit_at, admitted_at, admitted}
 use Rattle.bw_questions.specs.HeldLaws.{NoneBelowItsGuarantee, GuaranteeIsAdmitted, NoneAboveItsLimit}
-use Rattle.bw_questions.specs.HeldLaws.{IsWithinPlan, LimitsAdmitThePlan}
+use Rattle.bw_questions.specs.HeldLaws.{IsWithinPlan, LimitsAdmitThePlan, AskedIsAdmittedAsPlanned}
 use Rattle.bw_change_laws.proofs.CallerLemmas.{same_tree, weights_same}
 use Rattle.bw_questions.proofs.AskingRows.{as_many, demand_at, asking_alike, asking_limits}
 use Rattle.bw_questions.proofs.AskingRows.{where-IsInstance, round-IsInstance, everyone-IsInstance}
@@ -108,6 +108,13 @@ floor_le row hungry floor amount = elim (leaf_cases row hungry floor amount) [
 
 headroom_le : (row : Row) (own : ℕ) → row.limit ≡ Some own → headroom row ≤ own
 headroom_le row own e = rw e (omega arith)
+
+headroom_room : (row : Row) → headroom row ≤ with_eighth row.demand
+headroom_room row = (elim row.limit as (λ o. row.limit ≡ o
+    → headroom row ≤ with_eighth row.demand) [
+      | None ↦ λ e. rw e (omega arith)
+      | Some own ↦ λ e. rw e (omega arith)
+    ]) refl
 
 headroom_ge : (row : Row) (n : ℕ) → n ≤ row.demand
     → ((own : ℕ) → row.limit ≡ Some own → n ≤ own) → n ≤ headroom row
@@ -312,6 +319,131 @@ all_admitted plans used wants hungry demands amounts limits leaf vu round vw sam
     none_below plans used wants hungry demands amounts limits leaf (demand_of wants.rows leaf) vu
     round vw same below is is_guaranteed in
     omega (arith, admits wants limits leaf found.0 is found.1, found.2)
+
+-- A round beside what it asked for, whatever was read.
+module _ (used : Groups) (hungry : List Bool) (demands amounts : List ℕ)
+    (limits : List (Option ℕ)) (vu : IsInstance used)
+    (round : IsRound used hungry demands amounts limits) (l : ℕ) (below : l < length used.rows)
+    (leaf : is_leaf used.rows l ≡ true) where
+  v_asked : IsInstance (round_of used hungry)
+  v_asked = round-IsInstance used vu hungry
+
+  v_full : IsInstance (everyone used)
+  v_full = everyone-IsInstance used vu
+
+  asked_same : IsSameButDemands used (round_of used hungry)
+  asked_same = same_asking used (λ g. demand_where used.rows (is_hungry hungry g) g)
+
+  full_same : IsSameButDemands used (everyone used)
+  full_same = same_asking used (λ g. demand_where used.rows true g)
+
+  full_most : (h : ℕ) → h < length used.rows → is_leaf used.rows h ≡ true
+      → demand_of (everyone used).rows h ≡ MAX_DEMAND
+  full_most h h_in leaf_h = asked_most used (λ _. true) h h_in leaf_h refl
+
+  asked_leaf : is_leaf (round_of used hungry).rows l ≡ true
+  asked_leaf = leaf_same used.rows (round_of used hungry).rows asked_same.tree l ∙ leaf
+
+  asked_below : l < length (round_of used hungry).rows
+  asked_below = omega (arith, below, asked_same.tree.as_many)
+
+  full_busier : IsBusier (round_of used hungry) (everyone used)
+  full_busier = busier_by (round_of used hungry) (everyone used) v_asked
+      (joined (round_of used hungry) used (everyone used)
+      (turned used (round_of used hungry) asked_same) full_same) (λ h h_in leaf_h.
+      let low : demand_of (round_of used hungry).rows h ≤ MAX_DEMAND = v_asked.demands h h_in in
+      let high : demand_of (everyone used).rows h ≡ MAX_DEMAND =
+      full_most h (omega (arith, h_in, asked_same.tree.as_many))
+      (sym (leaf_same used.rows (round_of used hungry).rows asked_same.tree h) ∙ leaf_h) in
+      omega (arith, low, high))
+
+  -- The floor is no more than the plan, as far as it is asked for.
+  floor_planned : min (demand_of (round_of used hungry).rows l) (get_or round.floors l 0)
+      ≤ get_or amounts l 0
+  floor_planned =
+      serve_no_more (round_of used hungry) (everyone used) l amounts round.floors v_asked v_full
+      full_busier round.amounts_are round.floors_are asked_below asked_leaf
+
+  planned_asked : get_or amounts l 0 ≤ demand_of (round_of used hungry).rows l
+  planned_asked =
+      within_demand (round_of used hungry) v_asked amounts round.amounts_are l asked_below asked_leaf
+
+  floor_most : get_or round.floors l 0 ≤ MAX_DEMAND
+  floor_most =
+      let fits : get_or round.floors l 0 ≤ demand_of (everyone used).rows l =
+      within_demand (everyone used) v_full round.floors round.floors_are l
+      (omega (arith, below, full_same.tree.as_many))
+      (leaf_same used.rows (everyone used).rows full_same.tree l ∙ leaf) in
+      omega (arith, fits, full_most l below leaf)
+
+  -- What a limit admits of what was asked.
+  asked_admits : admitted_at (round_of used hungry) limits l
+      ≡ min (demand_of (round_of used hungry).rows l)
+      (leaf_limit (row_of used.rows l) (is_hungry hungry l) (get_or round.floors l 0)
+      (get_or amounts l 0))
+  asked_admits =
+      admits (round_of used hungry) limits l
+      (leaf_limit (row_of used.rows l) (is_hungry hungry l) (get_or round.floors l 0)
+      (get_or amounts l 0)) asked_leaf
+      (limit_found used hungry demands amounts limits round l below leaf)
+
+  asked_planned : admitted_at (round_of used hungry) limits l ≡ get_or amounts l 0
+  asked_planned = elim (leaf_cases (row_of used.rows l) (is_hungry hungry l)
+      (get_or round.floors l 0) (get_or amounts l 0)) [
+        | inl held ↦ omega (arith, asked_admits, held.0, floor_planned, planned_asked)
+        | inr free ↦
+            let own : demand_of (round_of used hungry).rows l ≡ demand_of used.rows l =
+            asked_own used (is_hungry hungry) l below free.1 in
+            let more : demand_of used.rows l ≤ get_or amounts l 0 = free.2 in
+            let room : get_or amounts l 0 ≤ headroom (row_of used.rows l) =
+            headroom_ge (row_of used.rows l) (get_or amounts l 0)
+            (omega (arith, own, planned_asked))
+            (λ limit e. within_limit (round_of used hungry) v_asked amounts round.amounts_are l
+            limit asked_below
+            (asking_limits used (λ g. demand_where used.rows (is_hungry hungry g) g) l
+            ∙ own_limit_is used vu l limit e)) in
+            omega (arith, asked_admits, free.0, room, own, more, planned_asked)
+      ]
+
+  asked_hungry : is_hungry hungry l ≡ true
+      → leaf_limit (row_of used.rows l) (is_hungry hungry l) (get_or round.floors l 0)
+      (get_or amounts l 0) ≡ get_or amounts l 0
+  asked_hungry yes' = elim (leaf_cases (row_of used.rows l) (is_hungry hungry l)
+      (get_or round.floors l 0) (get_or amounts l 0)) [
+        | inl held ↦
+            let most : demand_of (round_of used hungry).rows l ≡ MAX_DEMAND =
+            asked_most used (is_hungry hungry) l below leaf yes' in
+            omega (arith, held.0, floor_planned, floor_most, most)
+        | inr free ↦ absurd (both_ways _ free.1 yes')
+      ]
+
+  asked_other : is_hungry hungry l ≡ false
+      → leaf_limit (row_of used.rows l) (is_hungry hungry l) (get_or round.floors l 0)
+      (get_or amounts l 0)
+      ≤ max (get_or round.floors l 0) (with_eighth (demand_of used.rows l))
+  asked_other no' = elim (leaf_cases (row_of used.rows l) (is_hungry hungry l)
+      (get_or round.floors l 0) (get_or amounts l 0)) [
+        | inl held ↦
+            let own : demand_of (round_of used hungry).rows l ≡ demand_of used.rows l =
+            asked_own used (is_hungry hungry) l below no' in
+            let room : demand_of used.rows l ≤ with_eighth (demand_of used.rows l) =
+            omega arith in
+            omega (arith, held.0, own, planned_asked, room)
+        | inr free ↦
+            let room : headroom (row_of used.rows l) ≤ with_eighth (demand_of used.rows l) =
+            headroom_room (row_of used.rows l) in
+            omega (arith, free.0, room)
+      ]
+
+pub admitted_as_planned : AskedIsAdmittedAsPlanned
+admitted_as_planned used hungry demands amounts limits l vu round below leaf = record {
+  limit = leaf_limit (row_of used.rows l) (is_hungry hungry l) (get_or round.floors l 0)
+      (get_or amounts l 0);
+  found = limit_found used hungry demands amounts limits round l below leaf;
+  asked = asked_planned used hungry demands amounts limits vu round l below leaf;
+  of_hungry = asked_hungry used hungry demands amounts limits vu round l below leaf;
+  of_others = asked_other used hungry demands amounts limits vu round l below leaf;
+}
 
 -- After a true reading of the wants.
 module _ (used wants : Groups) (hungry : List Bool) (demands amounts : List ℕ)

@@ -11,9 +11,10 @@ use Rattle.bw_plan.specs.Laws.{ThereIsOnePlan}
 use Rattle.bw_change_laws.specs.Asked.{IsBusier}
 use Rattle.bw_change_laws.proofs.CallerLemmas.{leaf_same, serve_no_more, unused_changes}
 use Rattle.bw_questions.specs.HeldRule.{asking, demand_where, is_hungry, round_of}
-use Rattle.bw_questions.specs.Reading.{IsSameButDemands, IsTrueReading, IsServed, admitted_at}
-use Rattle.bw_questions.specs.Rounds.{AreLimits, IsRun, UsesThePlan, is_whole, whole_count, PlanStays}
-use Rattle.bw_questions.specs.Rounds.{NothingElseStays, PlanIsReached}
+use Rattle.bw_questions.specs.Reading.{IsSameButDemands, IsTrueReading, IsServed, ReadsNoLess}
+use Rattle.bw_questions.specs.Reading.{admitted_at}
+use Rattle.bw_questions.specs.Rounds.{AreLimits, IsRun, ServesThePlan, is_whole, whole_count}
+use Rattle.bw_questions.specs.Rounds.{WantsGiveThePlan, PlanStays, NothingElseStays, PlanIsReached}
 use Rattle.bw_questions.proofs.AskingRows.{where-IsInstance, round-IsInstance}
 use Rattle.bw_questions.proofs.Counts.{count, count_is, count_le, count_more, missing, filled}
 use Rattle.bw_questions.proofs.Leaves.{within_demand}
@@ -44,10 +45,10 @@ whole_from wants xs l leaf enough =
     rw (leaf, le-leb (demand_of wants.rows l) (get_or xs l 0) enough) refl
 
 -- One round, and what the host serves in it.
-module _ (wants used next : Groups) (hungry next_hungry : List Bool) (limits : List (Option ℕ))
+module _ (wants used : Groups) (hungry : List Bool) (limits : List (Option ℕ)) (next : ℕ → ℕ)
     (planned : List ℕ) (vw : IsInstance wants) (is_plan : IsPlan wants planned)
     (reading : IsTrueReading wants used hungry) (are : AreLimits used hungry limits)
-    (served : IsServed wants limits next next_hungry) where
+    (serves : IsServed wants limits next) where
   v_round : IsInstance (round_of used hungry)
   v_round = round-IsInstance used reading.valid hungry
 
@@ -61,15 +62,15 @@ module _ (wants used next : Groups) (hungry next_hungry : List Bool) (limits : L
       (leaf_same wants.rows (round_of used hungry).rows same.tree l ∙ leaf)
 
   next_is : (l : ℕ) → l < length wants.rows → is_leaf wants.rows l ≡ true
-      → demand_of next.rows l ≡ admitted_at wants limits l
+      → next l ≡ admitted_at wants limits l
   next_is l below leaf =
-      served.whole
+      serves.whole
       (within_plan used wants hungry are.0 are.1 limits planned vw reading are.2 is_plan).fits l
       below leaf
 
   -- Where the leaves that the plan serves whole are not hungry, the plan is served next.
   serves_plan : ((l : ℕ) → l < length wants.rows → is_whole wants planned l ≡ true
-      → is_hungry hungry l ≡ false) → UsesThePlan wants planned next
+      → is_hungry hungry l ≡ false) → ServesThePlan wants planned next
   serves_plan full l below leaf =
       next_is l below leaf
       ∙ admitted_planned used wants hungry are.0 are.1 limits planned vw reading are.2 is_plan fits
@@ -95,57 +96,94 @@ module _ (wants used next : Groups) (hungry next_hungry : List Bool) (limits : L
       ]
 
   -- A leaf whose want the round plans is not hungry next.
-  pub next_sated : (l : ℕ) → l < length wants.rows → is_leaf wants.rows l ≡ true
-      → demand_of wants.rows l ≤ get_or are.1 l 0 → is_hungry next_hungry l ≡ false
-  next_sated l below leaf enough =
-      sated wants next next_hungry served.reading l below leaf
-      (next_is l below leaf
-      ∙ whole_at used wants hungry are.0 are.1 limits planned vw reading are.2 is_plan l below leaf
-      enough)
+  pub next_sated : (after : Groups) (after_hungry : List Bool)
+      → IsTrueReading wants after after_hungry → ReadsNoLess wants next after → (l : ℕ)
+      → l < length wants.rows → is_leaf wants.rows l ≡ true
+      → demand_of wants.rows l ≤ get_or are.1 l 0 → is_hungry after_hungry l ≡ false
+  next_sated after after_hungry true_after no_less l below leaf enough =
+      let all : admitted_at wants limits l ≡ demand_of wants.rows l =
+      whole_at used wants hungry are.0 are.1 limits planned vw reading are.2 is_plan l below leaf
+      enough in
+      sated wants after after_hungry true_after l below leaf
+      (omega (
+        arith,
+        next_is l below leaf,
+        all,
+        no_less l below leaf,
+        true_after.no_more l below leaf,
+      ))
 
-  stays : UsesThePlan wants planned used → UsesThePlan wants planned next
-  stays uses = serves_plan (λ l below whole.
-      let parts : (is_leaf wants.rows l ≡ true) × (demand_of wants.rows l ≤ get_or planned l 0) =
-      whole_parts wants planned l whole in
-      sated wants used hungry reading l below parts.0
-      (omega (arith, uses l below parts.0, parts.1, reading.no_more l below parts.0)))
+  all_wanted : ((l : ℕ) → l < length wants.rows → is_leaf wants.rows l ≡ true
+      → demand_of used.rows l ≡ demand_of wants.rows l) → ServesThePlan wants planned next
+  all_wanted all = serves_plan (λ l below whole.
+      let leaf : is_leaf wants.rows l ≡ true = (whole_parts wants planned l whole).0 in
+      sated wants used hungry reading l below leaf (all l below leaf))
 
-  nothing_else : ((l : ℕ) → l < length wants.rows → is_leaf wants.rows l ≡ true
-      → demand_of next.rows l ≡ demand_of used.rows l) → UsesThePlan wants planned used
-  nothing_else same l below leaf =
-      sym (same l below leaf) ∙ next_is l below leaf
-      ∙ admitted_planned used wants hungry are.0 are.1 limits planned vw reading are.2 is_plan fits
-      l below leaf
-    where
-      fits : (h : ℕ) → h < length wants.rows → is_leaf wants.rows h ≡ true
-          → get_or are.1 h 0 ≤ demand_of wants.rows h
-      fits h h_in leaf_h = elim (cases_Bool (is_hungry hungry h)) [
-        | inr no' ↦
-            omega (
-              arith,
-              amounts_fit h h_in leaf_h,
-              asks_own used wants hungry are.0 are.1 limits planned vw reading are.2 is_plan h h_in
-                  leaf_h no',
-            )
-        | inl yes' ↦
-            let less : demand_of used.rows h < demand_of wants.rows h =
-            ltb-true (demand_of used.rows h) (demand_of wants.rows h)
-            (sym (reading.flags h h_in leaf_h) ∙ yes') in
-            let below_amount : min (demand_of wants.rows h) (get_or are.1 h 0)
-            ≤ admitted_at wants limits h =
-            not_above used wants hungry are.0 are.1 limits planned vw reading are.2 is_plan h h_in
-            leaf_h yes' in
-            omega (arith, less, below_amount, next_is h h_in leaf_h, same h h_in leaf_h)
-      ]
+  module _ (served : ℕ → ℕ) (no_less : ReadsNoLess wants served used) where
+    stays : ServesThePlan wants planned served → ServesThePlan wants planned next
+    stays serves_it = serves_plan (λ l below whole.
+        let parts : (is_leaf wants.rows l ≡ true)
+        × (demand_of wants.rows l ≤ get_or planned l 0) =
+        whole_parts wants planned l whole in
+        sated wants used hungry reading l below parts.0
+        (omega (
+          arith,
+          serves_it l below parts.0,
+          parts.1,
+          no_less l below parts.0,
+          reading.no_more l below parts.0,
+        )))
+
+    nothing_else : ((l : ℕ) → l < length wants.rows → is_leaf wants.rows l ≡ true
+        → next l ≡ served l) → ServesThePlan wants planned served
+    nothing_else same l below leaf =
+        sym (same l below leaf) ∙ next_is l below leaf
+        ∙ admitted_planned used wants hungry are.0 are.1 limits planned vw reading are.2 is_plan
+        fits l below leaf
+      where
+        fits : (h : ℕ) → h < length wants.rows → is_leaf wants.rows h ≡ true
+            → get_or are.1 h 0 ≤ demand_of wants.rows h
+        fits h h_in leaf_h = elim (cases_Bool (is_hungry hungry h)) [
+          | inr no' ↦
+              omega (
+                arith,
+                amounts_fit h h_in leaf_h,
+                asks_own used wants hungry are.0 are.1 limits planned vw reading are.2 is_plan h
+                    h_in leaf_h no',
+              )
+          | inl yes' ↦
+              let less : demand_of used.rows h < demand_of wants.rows h =
+              ltb-true (demand_of used.rows h) (demand_of wants.rows h)
+              (sym (reading.flags h h_in leaf_h) ∙ yes') in
+              let below_amount : min (demand_of wants.rows h) (get_or are.1 h 0)
+              ≤ admitted_at wants limits h =
+              not_above used wants hungry are.0 are.1 limits planned vw reading are.2 is_plan h
+              h_in leaf_h yes' in
+              omega (
+                arith,
+                less,
+                below_amount,
+                next_is h h_in leaf_h,
+                same h h_in leaf_h,
+                no_less h h_in leaf_h,
+              )
+        ]
+
+pub wants_give_the_plan : WantsGiveThePlan
+wants_give_the_plan wants used hungry limits next planned vw is_plan reading all are serves =
+    all_wanted wants used hungry limits next planned vw is_plan reading are serves all
 
 pub plan_stays : PlanStays
-plan_stays wants used next hungry next_hungry limits planned vw is_plan reading uses are served =
-    stays wants used next hungry next_hungry limits planned vw is_plan reading are served uses
+plan_stays wants used hungry limits served next planned vw is_plan reading no_less serves_it are
+    serves =
+    stays wants used hungry limits next planned vw is_plan reading are serves served no_less
+    serves_it
 
 pub nothing_else_stays : NothingElseStays
-nothing_else_stays wants used next hungry next_hungry limits planned vw is_plan reading are served
-    same =
-    nothing_else wants used next hungry next_hungry limits planned vw is_plan reading are served same
+nothing_else_stays wants used hungry limits served next planned vw is_plan reading no_less are
+    serves same =
+    nothing_else wants used hungry limits next planned vw is_plan reading are serves served no_less
+    same
 
 -- Leaves that are known to be served whole, and those that a plan on what is known serves whole.
 module _ (wants : Groups) (planned : List ℕ) (vw : IsInstance wants) (is_plan : IsPlan wants planned)
@@ -317,12 +355,8 @@ module _ (wants : Groups) (planned : List ℕ) (vw : IsInstance wants) (is_plan 
   unfolding IsStable
   none_known l below is = absurd (let clash : false ≡ true = is in cc)
 
-  module _ (used : ℕ → Groups) (hungry : ℕ → List Bool) (limits : ℕ → List (Option ℕ))
-      (run : IsRun wants used hungry limits) where
-    reading : (m : ℕ) → IsTrueReading wants (used m) (hungry m)
-    reading zero = run.first
-    reading (suc m) = (run.served m).reading
-
+  module _ (served : ℕ → ℕ → ℕ) (used : ℕ → Groups) (hungry : ℕ → List Bool)
+      (limits : ℕ → List (Option ℕ)) (run : IsRun wants served used hungry limits) where
     -- What the plan on what is known serves whole is served whole in the next round.
     next_known : (T : ℕ → Bool) → IsStable T → (m : ℕ)
         → ((l : ℕ) → l < length wants.rows → T l ≡ true → is_hungry (hungry m) l ≡ false)
@@ -332,10 +366,10 @@ module _ (wants : Groups) (planned : List ℕ) (vw : IsInstance wants) (is_plan 
     next_known T stable m knows l below whole =
         let are : AreLimits (used m) (hungry m) (limits m) = run.rule m in
         let same : IsSameButDemands wants (round_of (used m) (hungry m)) =
-        same_round (used m) wants (hungry m) are.0 are.1 (limits m) planned vw (reading m) are.2
+        same_round (used m) wants (hungry m) are.0 are.1 (limits m) planned vw (run.readings m) are.2
         is_plan in
         let v_here : IsInstance (round_of (used m) (hungry m)) =
-        round-IsInstance (used m) (reading m).valid (hungry m) in
+        round-IsInstance (used m) (run.readings m).valid (hungry m) in
         let leaf : is_leaf wants.rows l ≡ true = (whole_parts wants (plan_known T) l whole).0 in
         let here : is_whole wants are.1 l ≡ true =
         passes_on (round_of (used m) (hungry m)) (known T) are.1 (plan_known T) v_here (v_known T)
@@ -345,7 +379,7 @@ module _ (wants : Groups) (planned : List ℕ) (vw : IsInstance wants) (is_plan 
               omega (
                 arith,
                 known_own T h h_in yes',
-                asks_own (used m) wants (hungry m) are.0 are.1 (limits m) planned vw (reading m)
+                asks_own (used m) wants (hungry m) are.0 are.1 (limits m) planned vw (run.readings m)
                     are.2 is_plan h h_in leaf_h (knows h h_in yes'),
               )
           | inr no' ↦
@@ -353,10 +387,11 @@ module _ (wants : Groups) (planned : List ℕ) (vw : IsInstance wants) (is_plan 
               v_here.demands h (count_in (round_of (used m) (hungry m)) same h h_in) in
               omega (arith, high, known_most T h h_in leaf_h no')
         ]) l below
-        (asks_no_less (used m) wants (hungry m) are.0 are.1 (limits m) planned vw (reading m) are.2
+        (asks_no_less (used m) wants (hungry m) are.0 are.1 (limits m) planned vw (run.readings m) are.2
         is_plan l below leaf) whole in
-        next_sated wants (used m) (used (suc m)) (hungry m) (hungry (suc m)) (limits m) planned vw
-        is_plan (reading m) are (run.served m) l below leaf (whole_parts wants are.1 l here).1
+        next_sated wants (used m) (hungry m) (limits m) (served (suc m)) planned vw is_plan
+        (run.readings m) are (run.serves m) (used (suc m)) (hungry (suc m)) (run.readings (suc m))
+        (run.no_less m) l below leaf (whole_parts wants are.1 l here).1
 
     reaches : (k : ℕ) (T : ℕ → Bool) → IsStable T → (m j : ℕ) → m + k ≡ j
         → ((l : ℕ) → l < length wants.rows → T l ≡ true → is_hungry (hungry m) l ≡ false)
@@ -373,15 +408,15 @@ module _ (wants : Groups) (planned : List ℕ) (vw : IsInstance wants) (is_plan 
         reaches k (after T) (next_stable T stable) (suc m) j (omega (arith, e))
         (next_known T stable m knows) (more_known T stable k many) l below whole
 
-    reached : (n : ℕ) → whole_count wants planned < n → UsesThePlan wants planned (used n)
+    reached : (n : ℕ) → whole_count wants planned < n → ServesThePlan wants planned (served n)
     reached zero few = absurd (omega (arith, few))
     reached (suc k) few =
-        serves_plan wants (used k) (used (suc k)) (hungry k) (hungry (suc k)) (limits k) planned vw
-        is_plan (reading k) (run.rule k) (run.served k)
+        serves_plan wants (used k) (hungry k) (limits k) (served (suc k)) planned vw is_plan
+        (run.readings k) (run.rule k) (run.serves k)
         (reaches k (λ _. false) none_known 0 k (omega arith)
         (λ l below is. absurd (let clash : false ≡ true = is in cc))
         (omega (arith, few, count_is (length wants.rows) (is_whole wants planned))))
 
 pub plan_is_reached : ThereIsOnePlan → PlanIsReached
-plan_is_reached plans wants used hungry limits planned vw is_plan run n few =
-    reached wants planned vw is_plan plans used hungry limits run n few
+plan_is_reached plans wants served used hungry limits planned vw is_plan run n few =
+    reached wants planned vw is_plan plans served used hungry limits run n few

@@ -1,11 +1,11 @@
 -- Laws of one round: the floor, a leaf's own limit, and limits that admit no more than the plan.
-use Rattle.std.specs.Prelude.{◌≡◌, ℕ, ◌<◌, ◌≤◌, List, Bool, true, Option, Some, length}
+use Rattle.std.specs.Prelude.{◌≡◌, ℕ, ◌<◌, ◌≤◌, List, Bool, true, false, Option, Some, length, max}
 use Rattle.std.specs.Prelude.{slice_index}
 use Rattle.bw_model.specs.Allocation.{total, IsWithin}
 use Rattle.bw_model.specs.Groups.{Groups, IsInstance, demand_of, is_leaf}
 use Rattle.bw_model.specs.Plan.{IsPlan}
 use Rattle.bw_questions.specs.Guarantee.{IsGuaranteed}
-use Rattle.bw_questions.specs.HeldRule.{IsRound, own_limit}
+use Rattle.bw_questions.specs.HeldRule.{IsRound, is_hungry, own_limit, round_of, with_eighth}
 use Rattle.bw_questions.specs.Reading.{IsSameButDemands, IsTrueReading, limit_at, admitted_at, admitted}
 
 -- No leaf is limited below its guarantee, whatever it wants and whatever was read. The guarantee is
@@ -37,6 +37,25 @@ NoneAboveItsLimit = (used : Groups) (hungry : List Bool) (demands amounts : List
     → leaf < length used.rows → is_leaf used.rows leaf ≡ true
     → own_limit used.rows leaf ≡ Some own
     → (limit : ℕ) × (limit_at limits leaf ≡ Some limit) × (limit ≤ own)
+
+-- The limit of a leaf beside what its round asked for it and planned.
+pub record IsLimitAsPlanned (used : Groups) (hungry : List Bool) (amounts : List ℕ)
+    (limits : List (Option ℕ)) (floor leaf : ℕ) : Type 0 where
+  pub limit : ℕ
+  pub found : limit_at limits leaf ≡ Some limit
+  pub asked : admitted_at (round_of used hungry) limits leaf ≡ slice_index amounts leaf
+  pub of_hungry : is_hungry hungry leaf ≡ true → limit ≡ slice_index amounts leaf
+  pub of_others : is_hungry hungry leaf ≡ false
+      → limit ≤ max floor (with_eighth (demand_of used.rows leaf))
+
+-- Whatever was read, each leaf is admitted exactly the plan of what the round asked for. A hungry
+-- leaf is limited to it, another to its use and an eighth, or to its floor if that is more.
+abbrev pub AskedIsAdmittedAsPlanned : Type 0
+AskedIsAdmittedAsPlanned = (used : Groups) (hungry : List Bool) (demands amounts : List ℕ)
+    (limits : List (Option ℕ)) (leaf : ℕ)
+    → IsInstance used → (round : IsRound used hungry demands amounts limits)
+    → leaf < length used.rows → is_leaf used.rows leaf ≡ true
+    → IsLimitAsPlanned used hungry amounts limits (slice_index round.floors leaf) leaf
 
 -- The admitted amounts: in each group no more than its plan, and all of it fits the host.
 pub record IsWithinPlan (wants : Groups) (limits : List (Option ℕ)) (planned : List ℕ) : Type 0

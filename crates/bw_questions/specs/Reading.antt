@@ -14,8 +14,8 @@ pub record IsSameButDemands (groups others : Groups) : Type 0 where
   pub weights : (h : ℕ) → weight_of others.rows h ≡ weight_of groups.rows h
   pub limits : (h : ℕ) → limit_of others h ≡ limit_of groups h
 
--- A reading is true of wants: no leaf used more than it wanted, and it is hungry if and only if it
--- used less.
+-- A reading is true of wants: no leaf is read to have used more than it wanted, and it is hungry if
+-- and only if it is read to have used less.
 pub record IsTrueReading (wants used : Groups) (hungry : List Bool) : Type 0 where
   pub valid : IsInstance used
   pub same : IsSameButDemands wants used
@@ -39,12 +39,15 @@ admitted_at wants limits g =
 abbrev pub admitted : Groups → List (Option ℕ) → List ℕ
 admitted wants limits = map (admitted_at wants limits) (range_with_len 0 (length wants.rows))
 
--- A true reading of a host under limits. No leaf used more than they admit. If all that they admit
--- fits the host and the limits of all groups, the host served all of it.
-pub record IsServed (wants : Groups) (limits : List (Option ℕ)) (used : Groups) (hungry : List Bool)
-    : Type 0 where
-  pub reading : IsTrueReading wants used hungry
+-- What a host served each leaf in a round under limits: no more than they admit. If all that they
+-- admit fits the host and the limits of all groups, the host served all of it.
+pub record IsServed (wants : Groups) (limits : List (Option ℕ)) (served : ℕ → ℕ) : Type 0 where
   pub within : (l : ℕ) → l < length wants.rows → is_leaf wants.rows l ≡ true
-      → demand_of used.rows l ≤ admitted_at wants limits l
+      → served l ≤ admitted_at wants limits l
   pub whole : IsWithin wants (admitted wants limits) → (l : ℕ) → l < length wants.rows
-      → is_leaf wants.rows l ≡ true → demand_of used.rows l ≡ admitted_at wants limits l
+      → is_leaf wants.rows l ≡ true → served l ≡ admitted_at wants limits l
+
+-- No leaf is read to have used less than it was served.
+abbrev pub ReadsNoLess : Groups → (ℕ → ℕ) → Groups → Type 0
+ReadsNoLess wants served used = (l : ℕ) → l < length wants.rows → is_leaf wants.rows l ≡ true
+    → served l ≤ demand_of used.rows l

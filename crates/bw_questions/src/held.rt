@@ -18,8 +18,9 @@ use bw_demand::gather_rows;
 use bw_model::{Certificate, Instance};
 use bw_plan::{plan, plan_rows};
 pub use laws::{
-    guarantee_is_admitted, limits_admit_the_plan, none_above_its_limit, none_below_its_guarantee,
-    nothing_else_stays, plan_is_reached, plan_stays,
+    asked_is_admitted_as_planned, guarantee_is_admitted, limits_admit_the_plan,
+    none_above_its_limit, none_below_its_guarantee, nothing_else_stays, plan_is_reached,
+    plan_stays, wants_give_the_plan,
 };
 use limits::limits_of;
 use std::alloc::{AllocError, Global};

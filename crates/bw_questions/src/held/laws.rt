@@ -1,7 +1,9 @@
 //! Laws of the rule, each the contract of a function that does no work of its own.
 ghost use Rattle.bw_questions.specs.HeldLaws.{NoneBelowItsGuarantee, GuaranteeIsAdmitted};
-ghost use Rattle.bw_questions.specs.HeldLaws.{NoneAboveItsLimit, LimitsAdmitThePlan};
-ghost use Rattle.bw_questions.specs.Rounds.{PlanStays, NothingElseStays, PlanIsReached};
+ghost use Rattle.bw_questions.specs.HeldLaws.{NoneAboveItsLimit, AskedIsAdmittedAsPlanned};
+ghost use Rattle.bw_questions.specs.HeldLaws.{LimitsAdmitThePlan};
+ghost use Rattle.bw_questions.specs.Rounds.{WantsGiveThePlan, PlanStays, NothingElseStays};
+ghost use Rattle.bw_questions.specs.Rounds.{PlanIsReached};
 
 use bw_plan::there_is_one_plan;
 
@@ -24,10 +26,24 @@ pub fn none_above_its_limit()
     ensures { NoneAboveItsLimit }
 {}
 
+/// Law: whatever was read, each leaf is admitted exactly the plan of what the round asked for.
+///
+/// A hungry leaf is limited to it, another to its use and an eighth, or to its floor if that is
+/// more.
+pub fn asked_is_admitted_as_planned()
+    ensures { AskedIsAdmittedAsPlanned }
+{}
+
 /// Law: after a true reading, what the limits admit is at most the plan of the wants in each group,
 /// and fits the host.
 pub fn limits_admit_the_plan()
     ensures { LimitsAdmitThePlan }
+{}
+
+/// Law: on a host that serves what fits, a reading in which each leaf used all that it wants gives
+/// the plan of the wants in the next round.
+pub fn wants_give_the_plan()
+    ensures { WantsGiveThePlan }
 {}
 
 /// Law: on a host that serves what fits, a plan of the wants that was served is served again.
