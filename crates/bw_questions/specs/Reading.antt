@@ -39,8 +39,8 @@ admitted_at wants limits g =
 abbrev pub admitted : Groups → List (Option ℕ) → List ℕ
 admitted wants limits = map (admitted_at wants limits) (range_with_len 0 (length wants.rows))
 
--- What a host served each leaf in a round under limits: no more than they admit. If all that they
--- admit fits the host and the limits of all groups, the host served all of it.
+-- Amounts that a host served the leaves in a round under limits. None is above what they admit. If
+-- all that they admit fits the host and the limits of all groups, the host served all of it.
 pub record IsServed (wants : Groups) (limits : List (Option ℕ)) (served : ℕ → ℕ) : Type 0 where
   pub within : (l : ℕ) → l < length wants.rows → is_leaf wants.rows l ≡ true
       → served l ≤ admitted_at wants limits l
