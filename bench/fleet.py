@@ -1,3 +1,4 @@
+#!/usr/bin/python3
 """Many hosts: the bytes of one process, also where a worker dies, and what each way costs.
 
 usage: bench/fleet.py [--hosts N] [--groups N] [--library PATH]

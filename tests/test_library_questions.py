@@ -28,7 +28,7 @@ EQUAL = [Row(None), Row(0, demand=20), Row(0, demand=20)]
 # `web` (1), `pod` (2) over two leaves, an idle group (5) and one that wants a slice (6).
 POD = [Row(None), Row(0, demand=20), Row(0, limit=9), Row(2, demand=20), Row(2, demand=20), Row(0),
        Row(0, demand=1)]
-# The example of docs/PROVED.md, 'Questions (bw_questions)': `web` is idle.
+# Of a guarantee: `web` is idle.
 IDLE = [Row(None), Row(0), Row(0, 300), Row(2, demand=20), Row(2, demand=8)]
 # At weight 9999 the seventeenth slice of row 2 costs as much as the fourth of row 1, the first.
 HEAVY = [Row(None), Row(0, 2121, None, 20), Row(0, 1, None, 20)]
