@@ -3,7 +3,7 @@
 # compiled and kept if it is not there. A NUL is behind each word. For python/arbiter/found.py.
 #
 # The program is scripts/calls beside the files of bw_exports, whose calls it makes. It is no crate
-# of the repository: a crate is a program or a library for C, and not both.
+# of the repository: no crate can depend on a library for C.
 set -u
 . scripts/current.sh
 need_kit arbiterctl
@@ -23,7 +23,7 @@ make_calls() { # FOLDER
   find_crates
   mkdir -p "$own" && cp HANDLES "$1" || return 1
   {
-    echo "arbiter_calls: anyhow ${crate_lines[0]#*:}"
+    echo "arbiter_calls: anyhow${crate_lines[0]#*:}"
     printf '%s\n' "${crate_lines[@]:1}"
   } >"$1/crates.txt"
   for name in "${crates[@]:1}"; do
@@ -54,4 +54,5 @@ if ! find_checked; then
   echo "arbiterctl: the checked build cannot be kept on this machine; $makes" >&2
   exit 1
 fi
+echo "$says: in its answers 'the proved check' is the check of that build" >&2
 printf '%s\0' "${run_kept[@]}" "$kept/program"

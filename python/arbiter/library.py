@@ -60,6 +60,11 @@ class Library:
                 raise
             self.path, self.calls = command[-1], pipe.Calls(command)
 
+    @property
+    def is_proved(self) -> bool:
+        """Whether the calls are those of a library. A checked build proves nothing."""
+        return not isinstance(self.calls, pipe.Calls)
+
     def name(self, number: int) -> str | None:
         """The name of a fault's number, None where the number is no fault's."""
         name = zeros(U8, c.NAME_ROOM)
