@@ -6,6 +6,7 @@ import functools
 import os
 import subprocess
 import threading
+import weakref
 from collections.abc import Callable, Sequence
 from typing import Any
 
@@ -26,6 +27,13 @@ def write(into: Any, told: str) -> None:
         into[:] = [int(number) for number in told.split(",") if number]
     else:
         into._obj.value = int(told)
+
+
+def end(owner: int, process: subprocess.Popen[str]) -> None:
+    """Ends a process, unless this one is a child of the one that began it."""
+    if os.getpid() == owner:
+        process.kill()
+        process.wait()
 
 
 class Calls:
@@ -76,4 +84,5 @@ class Calls:
             self.started = os.getpid(), subprocess.Popen(
                 self.command, stdin=subprocess.PIPE, stdout=subprocess.PIPE, encoding="ascii",
                 start_new_session=True)
+            weakref.finalize(self, end, *self.started)
         return self.started[1]

@@ -10,7 +10,7 @@ import sys
 
 import arbiter
 import pytest
-from arbiter import Host, Library, Refused, Row, found, pipe
+from arbiter import Host, Library, Refused, Row, Script, found, pipe
 from places import PACKAGE
 
 EXAMPLES = PACKAGE.parent / "examples"
@@ -41,11 +41,14 @@ def both(library, command):
 
 
 def answer(library, call, words):
-    """What a call returns, or its refusal."""
+    """What a call returns, as values that can be compared, or its refusal."""
     try:
-        return getattr(library, call)(*words)
+        told = getattr(library, call)(*words)
     except Refused as refused:
         return "refused", refused.number, refused.name, refused.row
+    if isinstance(told, Script):
+        return told._replace(columns=list(vars(told.columns).values()))
+    return told
 
 
 def some_rows(chance):
@@ -80,7 +83,7 @@ def of_tree(library, host, rows, chance):
     yield from ((call, (host, rows)) for call in ("plan", "certify", "limiting", "reasons",
                                                   "figures"))
     yield from (("check", (host, rows, each, evidence)) for each in (amounts, wrong, wrong[1:]))
-    for each in ([chance.random() < 0.5 for _ in rows], []):
+    for each in ([chance.random() < 0.5 for _ in range(len(rows))], []):
         yield "hold", (host, rows, each)
     for few in ([], goals[:1], goals):
         yield from (("tune", (host, rows, few, guaranteed)) for guaranteed in (False, True))
@@ -153,13 +156,10 @@ def test_empty_tree(both):
 def test_examples(both, path):
     """What the scripts of examples/ make of a host, and each call about the tree."""
     host, text = Host(4, 100000, 1000), path.read_bytes()
-    wanted, piped = (library.script(host, text) for library in both)
-    assert [list(each) for each in vars(piped.columns).values()] == [
-        list(each) for each in vars(wanted.columns).values()]
-    assert piped[1:] == wanted[1:] and len(wanted.names) > 1
-    rows = wanted.columns
-    asked = [(call, (host, rows)) for call in ("plan", "certify", "limiting", "reasons", "figures")]
-    assert compare(both, asked) == (5, 0)
+    told = both[0].script(host, text)
+    assert len(told.names) > 1
+    asked = [("script", (host, text)), *of_tree(both[0], host, told.columns, random.Random(SEED))]
+    assert compare(both, asked)[0] == 21
 
 
 def test_many_groups(both):
@@ -195,6 +195,23 @@ def test_a_child_has_a_process_of_its_own(both):
     assert queue.get(timeout=60) == [3, 3]
     child.join(60)
     assert child.exitcode == 0 and piped.plan(Host(), [Row(), Row(0, demand=4)]) == [4, 4]
+
+
+def test_the_process_ends_with_its_calls(command):
+    """No process is left when the calls are, or when Python ends; that of a parent is."""
+    calls = pipe.Calls(command)
+    process = calls.process()
+    with concurrent.futures.ProcessPoolExecutor(1, multiprocessing.get_context("fork")) as pool:
+        assert pool.submit(os.getpid).result(60) != os.getpid()
+    assert process.poll() is None and calls.arbiter_weight_of_shares(1024, 2) == 100
+    del calls
+    assert process.returncode == -signal.SIGKILL
+    said = subprocess.run([sys.executable, "-c", "import sys; from arbiter import pipe\n"
+                           "print(pipe.Calls(sys.argv[1:]).process().pid)\n"
+                           "kept = pipe.Calls(sys.argv[1:])\nprint(kept.process().pid)", *command],
+                          cwd=PACKAGE, capture_output=True, timeout=60, check=True)
+    assert len(said.stdout.split()) == 2 and said.stderr == b""
+    assert not any(os.path.exists(f"/proc/{int(pid)}") for pid in said.stdout.split())
 
 
 def test_a_process_that_has_ended(command):
