@@ -1,12 +1,13 @@
 # shellcheck shell=bash
 # Files that this machine keeps outside the sources: the checked build, and times of commands.
 
-# Sets `here` to the folder for it, or to nothing if there is none that can be written.
+# Sets `here` to the folder for it, or to nothing if this user has none that can be written.
 find_here() {
   local cache=${XDG_CACHE_HOME-}
   [[ $cache == /* ]] || cache=${HOME-}/.cache
   here=$cache/arbiter
-  [[ $here == /*/arbiter ]] && mkdir -p "$here" 2>/dev/null && [ -w "$here" ] || here=''
+  [[ $here == /*/arbiter ]] && mkdir -p "$here" 2>/dev/null && [ -O "$here" ] &&
+    [ -w "$here" ] || here=''
 }
 
 find_here

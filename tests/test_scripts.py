@@ -70,9 +70,9 @@ def test_tells_the_time_of_this_machine(copy):
 
 
 def test_checked_build_of_each_source_and_kit(copy):
-    """An edit and another kit have a checked build of their own. Four are kept."""
+    """An edit and another kit have a checked build of their own. Eight are kept."""
     copy.is_checked("the first run")
-    for number in range(5):
+    for number in range(9):
         copy.log()
         copy.write(sources("bw_cert")[1], f"edit {number}\n")
         copy.is_checked("an edit")
@@ -80,7 +80,7 @@ def test_checked_build_of_each_source_and_kit(copy):
     copy.write("../kit/KIT-ID", "kit 2\n")
     copy.is_checked("another kit")
     same("rt try" in " ".join(copy.log()), True, "another kit compiles")
-    same(len(os.listdir(f"{copy.cache}/arbiter/checked")), 4, "kept programs")
+    same(len(os.listdir(f"{copy.cache}/arbiter/checked")), 8, "kept programs")
 
 
 def test_checked_build_that_fails(copy):
@@ -133,6 +133,88 @@ def test_nothing_can_be_kept(copy):
     same((status, out), (0, ""), "rt try itself runs")
     holds("arbiter: the checked build cannot be kept on this machine", err, "standard error")
     holds("run=ended status=0", err, "standard error")
+
+
+CALLS = ["bash", "scripts/calls.sh"]
+TOLD = ("arbiterctl: running the checked build, which proves nothing; ./build --install DIR makes "
+        "the C library\narbiterctl: in its answers 'the proved check' is the check of that build\n")
+
+
+@pytest.fixture
+def calls(copy):
+    """A copy whose kit compiles a program that answers as the calls do."""
+    copy.write("../kit/checked", "#!/bin/sh\nread -r line\n"
+               "[ \"$line\" = 'weight_of_shares 1024 2' ] && echo 100\n")
+    copy.write("crates/bw_exports/src/lib.rt", "mod plan_call;\nuse more;\n")
+    copy.write("crates/bw_exports/src/plan_call.rt", "of plan\n")
+    return copy
+
+
+def test_calls_are_compiled_once(calls):
+    """The words that run the calls are printed. The second time nothing is compiled."""
+    status, out, err = calls.call(CALLS)
+    *loader, program, last = out.split("\0")
+    same((status, last, os.path.basename(program)), (0, "", "program"), f"the first time: {err}")
+    same(err, "arbiterctl: no C library of these sources: compiling the checked build, which proves "
+         f"nothing.\narbiterctl: that took {time_of('checked calls')}; later runs begin at once.\n"
+         f"{TOLD}", "standard error of the first time")
+    same(calls.call([*loader, program], b"weight_of_shares 1024 2\n")[:2], (0, "100\n"), "the words")
+    same([line for line in calls.log() if line.startswith("rt")], ["rt try"], "compilations")
+    same(calls.call(CALLS), (0, out, TOLD), "the second time")
+    same([line for line in calls.log() if line.startswith("rt")], [], "the second time compiles")
+
+
+@pytest.mark.parametrize("path", ["crates/bw_columns/src/lib.rt", "scripts/calls/words.rattle"])
+def test_calls_of_each_source(calls, path):
+    """An edit of a crate below, or of the program's own files, is compiled."""
+    first = calls.call(CALLS)[1]
+    calls.write(path, calls.read(path) + "edited\n")
+    same(calls.call(CALLS)[1] != first, True, "another program")
+
+
+def test_calls_are_the_crate_beside_its_program(calls):
+    """What is compiled has the files of bw_exports without their root, and the program's."""
+    calls.write("../kit/while",
+                "(cd src && cat main.rt && echo *) >&2; cat ../../crates.txt >&2; exit 1\n")
+    status, out, err = calls.call(CALLS)
+    same((status, out), (2, ""), "a program that cannot be compiled")
+    own = calls.read("scripts/calls/main.rattle")
+    holds(f"{own}mod plan_call;\nanswer.rt calls.rt main.rt plan_call.rt words.rt\n"
+          "arbiter_calls: anyhow bw_model ", err, "the crate")
+    holds("arbiterctl: the checked build cannot be compiled\n", err, "standard error")
+
+
+@pytest.mark.parametrize("answer", ["99", ""], ids=["wrong", "none"])
+def test_calls_that_answer_otherwise(calls, answer):
+    """A program that does not answer as it has to is not kept, and no words are printed."""
+    calls.write("../kit/checked", f"#!/bin/sh\necho {answer}\n")
+    status, out, err = calls.call(CALLS)
+    same((status, out), (1, ""), "a program that answers otherwise")
+    holds("arbiterctl: the checked build cannot be kept on this machine; ./build", err, "its end")
+    same(os.listdir(f"{calls.cache}/arbiter/checked"), [], "what is kept")
+
+
+def test_calls_without_a_kit_or_a_folder(calls):
+    """Status 2 without the kit, 1 without a folder to keep the program in."""
+    calls.cache = f"{calls.folder}/file/below"
+    calls.write("../file", "no folder\n")
+    same(calls.call(CALLS)[:2], (1, ""), "nothing can be kept")
+    calls.rt_there(False)
+    status, out, err = calls.call(CALLS)
+    same((status, out), (2, ""), "no kit")
+    holds(f"arbiterctl: {NO_KIT}\n", err, "no kit")
+
+
+@pytest.mark.skipif(os.getuid() != 0, reason="only root can give a folder to another user")
+def test_no_build_of_another_user(calls):
+    """A folder of another user keeps nothing, and no program is run from it."""
+    os.makedirs(f"{calls.cache}/arbiter")
+    os.chown(f"{calls.cache}/arbiter", 65534, 65534)
+    same(calls.call(CALLS)[:2], (1, ""), "the calls")
+    status, _, err = calls.call(["./arbiter", "a"])
+    same(status, 0, "./arbiter compiles for this run alone")
+    holds("arbiter: the checked build cannot be kept on this machine", err, "./arbiter")
+    same(os.listdir(f"{calls.cache}/arbiter"), [], "what is kept")
 
 
 def test_help_and_version_need_no_build(copy):

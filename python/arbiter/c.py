@@ -12,32 +12,39 @@ NO_PARENT, NO_LIMIT, NO_GOAL = 2**32 - 1, 2**64 - 1, 2**64 - 1
 NAME_ROOM = 17
 U8, U32, U64, SIZE = ctypes.c_uint8, ctypes.c_uint32, ctypes.c_uint64, ctypes.c_size_t
 POINTER = ctypes.c_void_p
+
+
+class WRITTEN(ctypes.c_void_p):
+    """Memory that a call writes."""
+
+
 # The numbers of a host. A column is where it begins, and its length. A tree has four.
 HOST: list[Any] = [U64] * 3
 COLUMN: list[Any] = [POINTER, SIZE]
+ROOM: list[Any] = [WRITTEN, SIZE]
 TREE = HOST + COLUMN * 4
 # The words of each call, by its name without `arbiter_`.
 WORDS: dict[str, list[Any]] = {
-    "plan": TREE + COLUMN,
-    "certify": TREE + COLUMN * 5,
-    "check": TREE + COLUMN * 5 + [POINTER],
-    "check_text": COLUMN + [POINTER],
-    "limiting": TREE + COLUMN + [POINTER] * 2,
-    "reasons": TREE + COLUMN * 2,
-    "figures": TREE + COLUMN * 6,
-    "tune": TREE + COLUMN * 2 + [U32] + COLUMN * 2 + [POINTER],
-    "hold": TREE + COLUMN * 8,
-    "guarantee": TREE + [U32, POINTER],
-    "least_weight": TREE + [U32, U64, POINTER],
-    "least_limit": TREE + [U32, U64, POINTER],
-    "least_processors": TREE + [U32, U64, POINTER],
-    "refused_row": COLUMN * 4 + [POINTER],
-    "script": HOST + COLUMN * 12 + [POINTER] * 3,
-    "slices": HOST + [U64, U64, POINTER],
-    "demand": HOST + [U64, POINTER],
+    "plan": TREE + ROOM,
+    "certify": TREE + ROOM * 5,
+    "check": TREE + COLUMN * 5 + [WRITTEN],
+    "check_text": COLUMN + [WRITTEN],
+    "limiting": TREE + ROOM + [WRITTEN] * 2,
+    "reasons": TREE + ROOM * 2,
+    "figures": TREE + ROOM * 6,
+    "tune": TREE + COLUMN * 2 + [U32] + ROOM * 2 + [WRITTEN],
+    "hold": TREE + COLUMN + ROOM * 7,
+    "guarantee": TREE + [U32, WRITTEN],
+    "least_weight": TREE + [U32, U64, WRITTEN],
+    "least_limit": TREE + [U32, U64, WRITTEN],
+    "least_processors": TREE + [U32, U64, WRITTEN],
+    "refused_row": COLUMN * 4 + [WRITTEN],
+    "script": HOST + COLUMN + ROOM * 11 + [WRITTEN] * 3,
+    "slices": HOST + [U64, U64, WRITTEN],
+    "demand": HOST + [U64, WRITTEN],
     "weight_of_shares": [U64, U32],
-    "version": COLUMN,
-    "name": [U32, *COLUMN],
+    "version": ROOM,
+    "name": [U32, *ROOM],
 }
 # What the calls answer that answer no number of a fault.
 ANSWERS: dict[str, Any] = {"weight_of_shares": U64}

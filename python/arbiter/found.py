@@ -34,6 +34,24 @@ def of_clone() -> str | None:
     return built if ended.returncode == 0 else None
 
 
+def checked() -> list[str]:
+    """The words that run the checked build of the calls in this clone, which is compiled if it is
+    not there; none without its sources and the kit. Standard error says that it proves nothing,
+    but not once more for each worker of a command."""
+    if not os.path.isfile(f"{CLONE}/scripts/calls.sh"):
+        return []
+    # (no installation needs them)
+    import multiprocessing
+    import shutil
+    import subprocess
+    if not shutil.which("rt"):
+        return []
+    said = subprocess.DEVNULL if multiprocessing.parent_process() else None
+    ended = subprocess.run(["bash", "scripts/calls.sh"], cwd=CLONE, stdin=subprocess.DEVNULL,
+                           stdout=subprocess.PIPE, stderr=said, check=False)
+    return os.fsdecode(ended.stdout).split("\0")[:-1] if ended.returncode == 0 else []
+
+
 def installed() -> Iterator[str]:
     """Files that an installation of this package may have: beside it, and in the folder `lib`
     above it."""

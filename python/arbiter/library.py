@@ -8,7 +8,7 @@ from array import array
 from collections.abc import Sequence
 from typing import TypeAlias
 
-from arbiter import c, found
+from arbiter import c, found, pipe
 from arbiter.columns import (U8, U32, U64, Certificate, Columns, Figures, Host, Kind, Reason, Round,
                              Row, Script, Unmet, column, given, in_range, zeros)
 
@@ -38,7 +38,8 @@ def row_or_none(row: int) -> int | None:
 
 
 class Library:
-    """The calls of one shared library: of a path, else of `found.path`.
+    """The calls of one shared library: of a path, else of `found.path`. In a clone that has made
+    no library they are those of its checked build, over a pipe.
 
     The methods take a host and its rows as a call of C does, and answer as share/arbiter.h says.
     They raise `Refused` for each number but 0, and OverflowError for a number that no word of the
@@ -50,19 +51,31 @@ class Library:
 
     def __init__(self, path: str | os.PathLike[str] | None = None) -> None:
         self.path = os.fspath(path) if path else found.path()
-        self.calls = c.load(self.path)
+        self.calls: ctypes.CDLL | pipe.Calls
+        try:
+            self.calls = c.load(self.path)
+        except found.Unavailable:
+            command = found.checked() if self.path == found.SONAME else []
+            if not command:
+                raise
+            self.path, self.calls = command[-1], pipe.Calls(command)
+
+    @property
+    def is_proved(self) -> bool:
+        """Whether the calls are those of a library. A checked build proves nothing."""
+        return not isinstance(self.calls, pipe.Calls)
 
     def name(self, number: int) -> str | None:
         """The name of a fault's number, None where the number is no fault's."""
-        name = ctypes.create_string_buffer(c.NAME_ROOM)
-        count = self.calls.arbiter_name(in_range(number, 32, "number"), name, len(name))
-        return name.value.decode() if count else None
+        name = zeros(U8, c.NAME_ROOM)
+        count = self.calls.arbiter_name(in_range(number, 32, "number"), *given(name))
+        return name[:count].tobytes().decode() or None
 
     def version(self) -> str:
         """The version of the library."""
-        version = ctypes.create_string_buffer(c.NAME_ROOM)
-        self.calls.arbiter_version(version, len(version))
-        return version.value.decode()
+        version = zeros(U8, c.NAME_ROOM)
+        count = self.calls.arbiter_version(*given(version))
+        return version[:count].tobytes().decode()
 
     def refused(self, number: int, row: int | None = None) -> Refused:
         """The refusal of a number."""

@@ -9,11 +9,12 @@ from collections.abc import Sequence
 from typing import TYPE_CHECKING, Any, NoReturn
 
 from arbiter_host import __version__, helps, names, options as table
-from arbiter_host.faults import HostFault, missing_module
+from arbiter_host.faults import HostFault, NoLibrary, missing_module
 from arbiter_host.output import drop_output, say, tell
 from arbiter_host.subcommands import PLACES, find
 
 if TYPE_CHECKING:
+    from arbiter import Unavailable
     from arbiter_host.subcommands.base import Subcommand
 
 
@@ -88,6 +89,12 @@ def die_by_interrupt() -> NoReturn:
     sys.exit(130)
 
 
+def unavailable() -> type[Unavailable]:
+    """What a call raises whose process has ended. (No help needs the package.)"""
+    from arbiter import Unavailable
+    return Unavailable
+
+
 def run(words: Sequence[str] | None = None) -> int:
     """Runs the command and returns its exit status."""
     try:
@@ -106,6 +113,10 @@ def run(words: Sequence[str] | None = None) -> int:
             raise
         tell(fault_)
         return fault_.status
+    except unavailable() as error:
+        tell(NoLibrary(str(error)))
+        drop_output()
+        return 3
     except BrokenPipeError:
         drop_output()
         return 1

@@ -17,6 +17,7 @@ import arbiter
 from arbiter import (Certificate, Columns, Figures, Host, Kind, Library, Refused, Row,
                      Unavailable)
 from arbiter_host import progress, units
+from arbiter.found import TO_DO
 from arbiter_host.faults import HostFault, NoLibrary
 from arbiter_host.model import Group, Model, checked, planned
 from arbiter_host.names import last_name, short, shown
@@ -92,12 +93,16 @@ def columns_of(rows: Sequence[Row]) -> Columns:
         return Columns.of(rows)
 
 
-def engine_of(path: str | None = None) -> Engine:
-    """The engine over the library of a path, else over the first that is found."""
+def engine_of(path: str | None = None, changes: bool = False) -> Engine:
+    """The engine over the library of a path, else over the first that is found. One that changes a
+    host is over a library, since the checked build proves nothing."""
     try:
-        return Engine(Library(path))
+        library = Library(path)
     except Unavailable as error:
         raise NoLibrary(str(error)) from error
+    if changes and not library.is_proved:
+        raise NoLibrary(f"--yes takes the C library, and no checked build: {TO_DO}")
+    return Engine(library)
 
 
 @dataclass(slots=True)

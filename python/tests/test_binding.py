@@ -18,7 +18,9 @@ TYPES = {"uint32_t": c.U32, "uint64_t": c.U64, "size_t": c.SIZE}
 
 def type_of(word):
     """The type of a parameter of the header."""
-    return c.POINTER if "*" in word else TYPES[word.split()[0]]
+    if "*" not in word:
+        return TYPES[word.split()[0]]
+    return c.POINTER if "const" in word else c.WRITTEN
 
 
 @pytest.mark.parametrize("answer, name, words", DECLARED, ids=[row[1] for row in DECLARED])

@@ -79,7 +79,7 @@ def run_apply(options: argparse.Namespace) -> None:
     sources = load.sources(options, options.source)
     if len(sources) > 2 or (len(sources) == 1) != bool(options.set):
         raise UsageFault("apply takes BEFORE and AFTER, or BEFORE and --set")
-    by = engine_of(options.library)
+    by = engine_of(options.library, changes=options.yes)
     models = [load.model_of(options, opened, by) for opened in sources]
     after = change.warned(models[-1], change.changed(models[-1], options.set))
     root, way = safe_files.Root(options.root), apply.By(options.by)

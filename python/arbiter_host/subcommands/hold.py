@@ -16,8 +16,9 @@ from arbiter_host import hold, looks, options, output, record, safe_files
 from arbiter_host.faults import HostFault, UsageFault
 from arbiter_host.model import MAX_CAPACITY, MAX_DEPTH
 from arbiter_host.notify import Notifier
+from arbiter_host.plan import engine_of
 from arbiter_host.sources import by_options
-from arbiter_host.subcommands.base import Subcommand, found_engine
+from arbiter_host.subcommands.base import Subcommand
 
 if TYPE_CHECKING:
     from arbiter_host.metrics import File
@@ -186,7 +187,7 @@ def run(asked: argparse.Namespace) -> None:
         raise UsageFault(f"--depth: 1 to {MAX_DEPTH}")
     root = safe_files.Root(asked.root)
     host = machine(asked, root)
-    times, engine = times_of(asked, host.period_us), found_engine(asked)
+    times, engine = times_of(asked, host.period_us), engine_of(asked.library, changes=asked.yes)
     ways, notifier = hold.Ways(asked.force, asked.weights, asked.depth), Notifier()
     with ExitStack() as stack:
         kept = locked(root, asked, stack) if asked.yes else None

@@ -1,0 +1,88 @@
+"""The calls of the C library, answered by a process over a pipe: scripts/calls has its protocol."""
+from __future__ import annotations
+
+import ctypes
+import functools
+import os
+import subprocess
+import threading
+import weakref
+from collections.abc import Callable, Sequence
+from typing import Any
+
+from arbiter import c
+from arbiter.found import Unavailable
+
+
+def word_of(kind: Any, given: Any) -> str:
+    """A word of a call as the process reads it: of a column that the call writes its length."""
+    if isinstance(given, ctypes.Array):
+        return str(len(given)) if kind is c.WRITTEN else ",".join(map(str, given))
+    return str(given._obj.value if kind is c.WRITTEN else given)
+
+
+def write(into: Any, told: str) -> None:
+    """Writes what a call wrote: a column, or one number."""
+    if isinstance(into, ctypes.Array):
+        into[:] = [int(number) for number in told.split(",") if number]
+    else:
+        into._obj.value = int(told)
+
+
+def end(owner: int, process: subprocess.Popen[str]) -> None:
+    """Ends a process, unless this one is a child of the one that began it."""
+    if os.getpid() == owner:
+        process.kill()
+        process.wait()
+
+
+class Calls:
+    """The calls by their names, as ctypes has those of a library.
+
+    # Errors
+    Each call raises Unavailable where the process has ended.
+    """
+
+    def __init__(self, command: Sequence[str]) -> None:
+        self.command, self.lock = list(command), threading.Lock()
+        self.started: tuple[int, subprocess.Popen[str]] | None = None
+
+    def __getattr__(self, name: str) -> Callable[..., int]:
+        call = name.removeprefix("arbiter_")
+        if call not in c.WORDS:
+            raise AttributeError(name)
+        return functools.partial(self.call, call)
+
+    def call(self, name: str, *words: Any) -> int:
+        """One call: what it answers, after all that it wrote is written."""
+        # (the length behind a column is known from its memory)
+        own = [(kind, word) for kind, word, before in zip(c.WORDS[name], words, (None, *words))
+               if not isinstance(before, ctypes.Array)]
+        number, *told = self.answer(" ".join([name, *(word_of(*each) for each in own)]))
+        for into, each in zip([word for kind, word in own if kind is c.WRITTEN], told, strict=True):
+            write(into, each)
+        return int(number)
+
+    def answer(self, line: str) -> list[str]:
+        """The words of the line that the process answers."""
+        with self.lock:
+            process = self.process()
+            assert process.stdin and process.stdout
+            try:
+                process.stdin.write(line + "\n")
+                process.stdin.flush()
+                answer = process.stdout.readline()
+            except BrokenPipeError:
+                answer = ""
+        if not answer.endswith("\n"):
+            raise Unavailable(f"the checked build has ended: {self.command[-1]}")
+        return answer[:-1].split(" ")
+
+    def process(self) -> subprocess.Popen[str]:
+        """The process of this one. A signal of the terminal does not reach it."""
+        if self.started is None or self.started[0] != os.getpid():
+            self.started = os.getpid(), subprocess.Popen(
+                self.command, stdin=subprocess.PIPE, stdout=subprocess.PIPE, encoding="ascii",
+                start_new_session=True)
+            weakref.finalize(self, end, *self.started)
+        return self.started[1]

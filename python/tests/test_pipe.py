@@ -1,0 +1,296 @@
+"""The calls over a pipe, by the checked build, answer as the C library does."""
+import concurrent.futures
+import multiprocessing
+import os
+import random
+import shutil
+import signal
+import subprocess
+import sys
+
+import arbiter
+import pytest
+from arbiter import Host, Library, Refused, Row, Script, found, pipe
+from places import PACKAGE
+
+EXAMPLES = PACKAGE.parent / "examples"
+SEED, TREES = 20261127, 60
+HOSTS = (Host(), Host(2, 100000, 1000), Host(64, 1000000, 1000), Host(3, 20000, 4000))
+NO_HOSTS = (Host(0), Host(65), Host(1, 999, 1000), Host(1, 100000, 3000), Host(1, 100000, 0))
+# What no call is: they hold, make or read what the calls answer.
+NO_CALLS = {"host", "ask", "refused", "of_rows", "of_group", "is_proved"}
+MOST = 2**64 - 1
+
+
+@pytest.fixture(scope="module")
+def command():
+    """The words that run the checked build. It is compiled unless this user has kept it."""
+    if not shutil.which("rt"):
+        pytest.skip("the checked build needs the Rattle kit")
+    words = found.checked()
+    assert words, "no checked build of the calls"
+    return words
+
+
+@pytest.fixture(scope="module")
+def both(library, command):
+    """The C library under test, and the calls over a pipe."""
+    piped = Library(library)
+    piped.calls = pipe.Calls(command)
+    return Library(library), piped
+
+
+def answer(library, call, words):
+    """What a call returns, as values that can be compared, or its refusal."""
+    try:
+        told = getattr(library, call)(*words)
+    except Refused as refused:
+        return "refused", refused.number, refused.name, refused.row
+    if isinstance(told, Script):
+        return told._replace(columns=list(vars(told.columns).values()))
+    return told
+
+
+def some_rows(chance):
+    """Rows of a tree. One in four has a wrong number somewhere."""
+    rows = [Row()]
+    for _ in range(chance.randrange(24)):
+        limit = chance.choice((None, None, chance.randrange(40)))
+        rows.append(Row(chance.randrange(len(rows)), chance.randint(1, 10000), limit))
+    inner = {row.parent for row in rows}
+    rows = [row if place in inner else row._replace(demand=chance.randrange(60))
+            for place, row in enumerate(rows)]
+    if not chance.randrange(4):
+        place = chance.randrange(len(rows))
+        wrong = chance.choice(({"weight": 0}, {"weight": 10001}, {"parent": len(rows)},
+                               {"demand": 1000001}, {"limit": 3}, {"demand": MOST}))
+        rows[place] = rows[place]._replace(**wrong)
+    return rows
+
+
+def certified(library, host, rows):
+    """The plan with its certificate; zeros where it is refused."""
+    found_ = answer(library, "certify", (host, rows))
+    return ([0] * len(rows), arbiter.Certificate.zeros(len(rows))) if len(found_) == 4 else found_
+
+
+def of_tree(library, host, rows, chance):
+    """Each call about a tree, with its words."""
+    amounts, evidence = certified(library, host, rows)
+    wrong = [amount + (place == len(rows) - 1) for place, amount in enumerate(amounts)]
+    group, amount = chance.randrange(len(rows) + 1), chance.randrange(30)
+    goals = [(chance.randrange(len(rows) + 1), chance.randrange(20)) for _ in range(2)]
+    yield from ((call, (host, rows)) for call in ("plan", "certify", "limiting", "reasons",
+                                                  "figures"))
+    yield from (("check", (host, rows, each, evidence)) for each in (amounts, wrong, wrong[1:]))
+    for each in ([chance.random() < 0.5 for _ in range(len(rows))], []):
+        yield "hold", (host, rows, each)
+    for few in ([], goals[:1], goals):
+        yield from (("tune", (host, rows, few, guaranteed)) for guaranteed in (False, True))
+    yield "guarantee", (host, rows, group)
+    for call in ("least_weight", "least_limit", "least_processors"):
+        yield call, (host, rows, group, amount)
+
+
+def of_no_tree():
+    """Each other call, with its words."""
+    text = (EXAMPLES / "two-groups.certified").read_bytes()
+    yield "version", ()
+    yield from (("name", (number,)) for number in (*range(90), 2**32 - 1))
+    yield from (("check_text", (each,)) for each in
+                (text, text.replace(b"13 0", b"14 0"), text[:-9], text + b"\n", b"", b"\xff\0"))
+    for host in (*HOSTS, *NO_HOSTS):
+        yield from (("demand", (host, number)) for number in (0, 1, 999, 1500, 10**9, MOST))
+        yield from (("slices", (host, number, period)) for number in (0, 4999, 5000, 10**15, MOST)
+                    for period in (100000, 1000, 999))
+        yield from (("script", (host, each)) for each in
+                    (b"", b"\n",
+                     b"mkdir a\nmkdir a\nwrite a cpu.max 5000 100000\ndemand a 7\nperiod",
+                     b"mkdir \xc3\xa4\n\xff\nno\n" + b"x" * 5000))
+    yield from (("weight_of_shares", (shares, conversion))
+                for conversion in arbiter.library.CONVERSIONS
+                for shares in (0, 1, 2, 3, 512, 1023, 1024, 1025, 262143, 262144, MOST))
+
+
+def compare(both, asked):
+    """The numbers of calls, and of those that were refused. Each is answered by both as by one."""
+    library, piped = both
+    met = refused = 0
+    for call, words in asked:
+        wanted = answer(library, call, words)
+        assert answer(piped, call, words) == wanted, (call, words)
+        met += 1
+        refused += isinstance(wanted, tuple) and wanted[:1] == ("refused",)
+    return met, refused
+
+
+def test_random_trees(both):
+    """Random trees, of which some are refused, on hosts and on what is no host."""
+    chance, met, refused = random.Random(SEED), 0, 0
+    for place in range(TREES):
+        host = chance.choice(NO_HOSTS if place % 10 == 9 else HOSTS)
+        rows = some_rows(chance)
+        more = compare(both, of_tree(both[0], host, rows, chance))
+        met, refused = met + more[0], refused + more[1]
+    assert met == 20 * TREES and met / 4 < refused < met * 3 / 4
+
+
+def test_no_tree(both):
+    met, refused = compare(both, of_no_tree())
+    assert refused > 100 and met - refused > 100
+
+
+def test_each_call_is_compared(both):
+    calls = {name for name in vars(Library) if not name.startswith("_")} - NO_CALLS
+    asked = [call for call, _ in [*of_tree(both[0], Host(), [Row()], random.Random(1)),
+                                  *of_no_tree()]]
+    assert set(asked) == calls
+
+
+def test_empty_tree(both):
+    """No row at all: each column of the pipe is an empty word."""
+    assert compare(both, [("plan", (Host(), [])), ("certify", (Host(), []))]) == (2, 2)
+
+
+@pytest.mark.parametrize("path", sorted(EXAMPLES.glob("*.script")), ids=lambda path: path.name)
+def test_examples(both, path):
+    """What the scripts of examples/ make of a host, and each call about the tree."""
+    host, text = Host(4, 100000, 1000), path.read_bytes()
+    told = both[0].script(host, text)
+    assert len(told.names) > 1
+    asked = [("script", (host, text)), *of_tree(both[0], host, told.columns, random.Random(SEED))]
+    assert compare(both, asked)[0] == 21
+
+
+def test_many_groups(both):
+    """As many groups as a tree can have."""
+    rows = [Row(), *(Row((place - 1) // 16, 1 + place % 10000) for place in range(1, 1024)),
+            *(Row(place % 1023 + 1, 100, None, place % 7) for place in range(15360))]
+    rows = [row if row.parent is None or place >= 1024 else row._replace(demand=0)
+            for place, row in enumerate(rows)]
+    assert compare(both, [("certify", (HOSTS[2], rows))])[0] == 1
+
+
+def test_threads(both):
+    """Threads may call at once: each gets its own answer."""
+    weights = list(range(1, 400))
+    with concurrent.futures.ThreadPoolExecutor(8) as pool:
+        amounts = [list(pool.map(lambda weight: each.plan(
+            Host(), [Row(), Row(0, weight, demand=20), Row(0, 100, demand=20)]), weights))
+            for each in both]
+    assert amounts[0] == amounts[1]
+
+
+def in_child(piped, queue):
+    queue.put(piped.plan(Host(), [Row(), Row(0, demand=3)]))
+
+
+def test_a_child_has_a_process_of_its_own(both):
+    """A process that was forked does not read what its parent asked for."""
+    piped = both[1]
+    context = multiprocessing.get_context("fork")
+    queue = context.Queue()
+    child = context.Process(target=in_child, args=(piped, queue))
+    child.start()
+    assert queue.get(timeout=60) == [3, 3]
+    child.join(60)
+    assert child.exitcode == 0 and piped.plan(Host(), [Row(), Row(0, demand=4)]) == [4, 4]
+
+
+def test_the_process_ends_with_its_calls(command):
+    """No process is left when the calls are, or when Python ends; that of a parent is."""
+    calls = pipe.Calls(command)
+    process = calls.process()
+    with concurrent.futures.ProcessPoolExecutor(1, multiprocessing.get_context("fork")) as pool:
+        assert pool.submit(os.getpid).result(60) != os.getpid()
+    assert process.poll() is None and calls.arbiter_weight_of_shares(1024, 2) == 100
+    del calls
+    assert process.returncode == -signal.SIGKILL
+    said = subprocess.run([sys.executable, "-c", "import sys; from arbiter import pipe\n"
+                           "print(pipe.Calls(sys.argv[1:]).process().pid)\n"
+                           "kept = pipe.Calls(sys.argv[1:])\nprint(kept.process().pid)", *command],
+                          cwd=PACKAGE, capture_output=True, timeout=60, check=True)
+    assert len(said.stdout.split()) == 2 and said.stderr == b""
+    assert not any(os.path.exists(f"/proc/{int(pid)}") for pid in said.stdout.split())
+
+
+def test_a_process_that_has_ended(command):
+    """It is told by each call, and no answer is made up."""
+    calls = pipe.Calls(command)
+    assert calls.arbiter_weight_of_shares(1024, 2) == 100
+    os.kill(calls.process().pid, signal.SIGKILL)
+    calls.process().wait(60)
+    for _ in range(2):
+        with pytest.raises(arbiter.Unavailable, match="has ended"):
+            calls.arbiter_weight_of_shares(1024, 2)
+    with pytest.raises(AttributeError):
+        calls.arbiter_nothing(1)
+
+
+@pytest.mark.parametrize("line", ["", "nothing", "plan", "plan x", "name 1 -1", "plan 1 1 1 ,",
+                                  "name 1", "version 99999999999999999999"])
+def test_what_is_no_call(command, line):
+    """The process ends with status 1 and one line, and answers nothing."""
+    ended = subprocess.run(command, input=f"{line}\n".encode(), capture_output=True, timeout=60,
+                           check=False)
+    assert (ended.returncode, ended.stdout) == (1, b"")
+    assert ended.stderr.startswith(b"Error: ") and ended.stderr.count(b"\n") == 1
+
+
+@pytest.fixture(scope="module")
+def clone(tmp_path_factory, command):
+    """The sources of this clone alone, as a fresh one has them: nothing is built."""
+    top = tmp_path_factory.mktemp("clone")
+    for name in ("python", "scripts", "crates", "examples"):
+        shutil.copytree(PACKAGE.parent / name, top / name,
+                        ignore=shutil.ignore_patterns("out", "__pycache__", ".*"))
+    for name in ("crates.txt", "HANDLES"):
+        shutil.copy(PACKAGE.parent / name, top)
+    return top
+
+
+def run_in(clone, *words):
+    """arbiterctl of a clone without a library."""
+    environment = {key: word for key, word in os.environ.items() if key != "ARBITER_LIBRARY"}
+    ended = subprocess.run([sys.executable, "python/arbiterctl", *words], cwd=clone,
+                           env={**environment, "LC_ALL": "C", "COLUMNS": "120"},
+                           capture_output=True, timeout=300, check=False)
+    return ended.returncode, ended.stdout.decode(), ended.stderr.decode()
+
+
+PODS = ("explain", "examples/pods.json", "examples/node.json", "--want", "busy")
+WARNED = ("arbiterctl: running the checked build, which proves nothing; ./build --install DIR"
+          " makes the C library\n"
+          "arbiterctl: in its answers 'the proved check' is the check of that build\n")
+
+
+def test_a_fresh_clone_explains_pods(ctl, clone):
+    """Its answer is that of the library, and standard error says that nothing is proved."""
+    wanted = ctl.ended(*PODS, cwd=PACKAGE.parent)
+    assert run_in(clone, *PODS) == (0, wanted.stdout.decode(), WARNED)
+    assert "nginx" in wanted.stdout.decode()
+
+
+def test_many_hosts_are_told_once(clone):
+    """The workers of a command do not say it again."""
+    folder = clone / "hosts"
+    folder.mkdir()
+    for name in ("node.script", "pod.script"):
+        shutil.copy(EXAMPLES / name, folder)
+    status, out, err = run_in(clone, "explain", "hosts")
+    assert (status, err) == (0, WARNED) and out.startswith("hosts: 2, answered: 2,")
+
+
+def test_nothing_is_changed_by_the_checked_build(clone, world):
+    """A change of a host takes the C library: status 3."""
+    tree = str(world.tree)
+    for words in (["apply", "examples/pod.script", "--cpus", "1", "--set", "pod.weight=200"],
+                  ["hold", tree, "--root", tree, "--cpus", "2", "--read", "x1s"]):
+        status, out, err = run_in(clone, *words, "--yes")
+        assert (status, out) == (3, "") and "--yes takes the C library, and no checked build" in err
+
+
+def test_a_library_that_is_named(clone):
+    """No checked build takes the place of a library that somebody named."""
+    status, out, err = run_in(clone, *PODS, "--library", "/nowhere/libarbiter.so")
+    assert (status, out) == (3, "") and "/nowhere/libarbiter.so" in err
