@@ -14,6 +14,7 @@ use crate::share::{give, parts_of, share_out};
 use bw_demand::{Gathered, gather_rows, levels};
 use bw_model::Instance;
 use bw_model::limits::MAX_GROUPS;
+use bw_split::Work;
 use rayon::current_num_threads;
 use rayon::prelude::*;
 use std::alloc::{AllocError, Global};
@@ -124,7 +125,7 @@ fn share_in_place(
     let _rows = instance.rows();
     let groups = rows_at(instance, depths, depth);
     for k in 0..groups.len() {
-        share_out(alloc, instance, most, groups[k], amounts)?;
+        share_out(alloc, instance, most, groups[k], amounts, &mut Work::new())?;
     }
     Ok(())
 }

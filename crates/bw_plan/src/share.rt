@@ -1,12 +1,14 @@
 //! One group's amount among its children.
-ghost use Rattle.std.specs.Prelude.{◌≡◌, ◌≢◌, ℕ, ◌<◌, false, length, slice_index, EachIndex};
+ghost use Rattle.std.specs.Prelude.{◌≡◌, ◌≢◌, ℕ, ◌+◌, ◌<◌, ◌≤◌, false, length, slice_index};
+ghost use Rattle.std.specs.Prelude.{EachIndex};
 ghost use Rattle.std.specs.Prelude.{IfOk, OnOk};
 ghost use Rattle.bw_model.specs.Groups.{children_of, is_leaf};
 ghost use Rattle.bw_plan.specs.Shared.{CanShare, AreBestParts, AreParts, IsGiven, IsSharedOut};
 
 use crate::children::{child_values, child_weights};
 use bw_model::Instance;
-use bw_split::{fits_in, split, split_scarce};
+use bw_split::limits::MAX_ROUNDS;
+use bw_split::{Work, fits_in, split, split_scarce};
 use std::alloc::{AllocError, Global};
 
 // Writes each part to its place.
@@ -101,11 +103,18 @@ fn share_among(
     most: &[u64],
     g: u32,
     amounts: &mut Vec<u64>,
+    work: &mut Work,
 ) -> Result<(), AllocError>
     requires can_share { CanShare instance.now most.now amounts.old.items g }
     requires inner { is_leaf instance.now.rows g ≡ false }
-    ensures { OnOk result
+    ensures shared { OnOk result
         (IsSharedOut instance.now most.now g amounts.old.items amounts.new.items) }
+    ensures rounds { work.new.rounds ≤ work.old.rounds + MAX_ROUNDS }
+    ensures picks { work.new.picks
+        ≤ work.old.picks + length (children_of instance.now.rows g) }
+    ensures counted { (work.old.rounds ≤ work.new.rounds) × (work.old.picks ≤ work.new.picks) }
+    ensures no_search { length (children_of instance.now.rows g) ≤ 2
+        → work.new.rounds ≡ work.old.rounds }
 {
     // its contract says that the weights are in range
     let _rows = instance.rows();
@@ -117,12 +126,13 @@ fn share_among(
     }
     let weights = child_weights(alloc, instance, g)?;
     // each part takes the place of its child's most
-    split_scarce(amount, weights.as_slice(), mosts.as_mut_slice());
+    split_scarce(amount, weights.as_slice(), mosts.as_mut_slice(), work);
     give(instance, g, mosts.as_slice(), amounts);
     Ok(())
 }
 
-/// Shares out what a group has among its children, in place.
+/// Shares out what a group has among its children, in place, with the rounds and picks of its split
+/// added to a count.
 ///
 /// It takes memory only if the group has something and more than eight children: for one list, and
 /// for a second one if the children can be given more than the group has.
@@ -136,14 +146,21 @@ pub fn share_out(
     most: &[u64],
     g: u32,
     amounts: &mut Vec<u64>,
+    work: &mut Work,
 ) -> Result<(), AllocError>
     requires { CanShare instance.now most.now amounts.old.items g }
-    ensures { OnOk result
+    ensures shared { OnOk result
         (IsSharedOut instance.now most.now g amounts.old.items amounts.new.items) }
+    ensures rounds { work.new.rounds ≤ work.old.rounds + MAX_ROUNDS }
+    ensures picks { work.new.picks
+        ≤ work.old.picks + length (children_of instance.now.rows g) }
+    ensures counted { (work.old.rounds ≤ work.new.rounds) × (work.old.picks ≤ work.new.picks) }
+    ensures no_search { length (children_of instance.now.rows g) ≤ 2
+        → work.new.rounds ≡ work.old.rounds }
 {
     if amounts[g as usize] == 0 || instance.children(g).len() < 2 {
         give(instance, g, &[], amounts);
         return Ok(());
     }
-    share_among(alloc, instance, most, g, amounts)
+    share_among(alloc, instance, most, g, amounts, work)
 }

@@ -16,7 +16,7 @@ share_out-requires c =
 
 pub loop-k-preserved : goal.loop-k-preserved
 loop-k-preserved c =
-    let shared = c.in_ok-share_out.ensures in
+    let shared = c.in_ok-share_out.ensures.shared in
     next_shared c.args.instance.now c.rows-rows.ensures.valid c.args.most.now c.requires.mosts
     c.args.depth c.rows_at-groups.result.now c.rows_at-groups.ensures c.loop-k.k
     c.loop-k-test.true shared.0 c.loop-k.amounts.items c.share_out.new.amounts.items
