@@ -1,18 +1,20 @@
 -- What the groups that are done have cost, group by group.
 use Rattle.std.proofs.Common.{◌≡◌, ℕ, zero, suc, ◌+◌, ◌*◌, ◌<◌, ◌≤◌, ◌&&◌, ◌||◌, List, [], ◌∷◌, Bool, true}
-use Rattle.std.proofs.Common.{false, true≢false, cond, eqb, ltb, length, get_or, Some, None, refl}
+use Rattle.std.proofs.Common.{false, true≢false, cond, eqb, length, get_or, Some, None, refl}
 use Rattle.std.proofs.Common.{sym, ap, ◌∙◌, arith, inl, inr}
 use Rattle.std.specs.Prelude.{filter, Option}
 use Rattle.std.specs.List.{range_with_len}
 use Rattle.std.specs.Option.{option_map_or}
-use Rattle.std.proofs.lemmas.Bool.{cases_Bool, cases_lt, eq-eqb, eqb-true, ltb-true, lt-ltb, le-ltb}
+use Rattle.std.proofs.lemmas.Bool.{cases_Bool, cases_lt, eq-eqb, eqb-true, lt-ltb}
 use Rattle.std.proofs.lemmas.Bool.{and_parts, or_left, or_right, both_ways}
 use Rattle.std.proofs.lemmas.List.FromFn.{length-range_with_len, get_or-range_with_len}
 use Rattle.bw_model.specs.declared.row.Row.{Row}
 use Rattle.bw_model.specs.Groups.{parent_of, is_child, children_of}
 use Rattle.bw_demand.proofs.CallerLemmas.{passing_few}
 use Rattle.bw_split.specs.declared.limits.TheConstants.{MAX_ROUNDS}
+use Rattle.bw_split.specs.Counts.{Done}
 use Rattle.bw_plan.specs.Cost.{is_wide, wide_groups, wide_among, children_among}
+use Rattle.bw_plan.specs.Cost.{nothing_done, IsOneCounted, IsCounted}
 
 -- 1 for what passes
 abbrev pass : Bool → ℕ
@@ -37,7 +39,7 @@ pass_apart true false c ac bc apart = omega (arith, pass_mono true c ac)
 pass_apart false b c ac bc apart = omega (arith, pass_mono b c bc)
 
 -- a test that passes all that another one does
-pub passes_more : (p q : ℕ → Bool) → ((x : ℕ) → p x ≡ true → q x ≡ true) → (xs : List ℕ)
+passes_more : (p q : ℕ → Bool) → ((x : ℕ) → p x ≡ true → q x ≡ true) → (xs : List ℕ)
     → length (filter p xs) ≤ length (filter q xs)
 passes_more p q h [] = omega arith
 passes_more p q h (x ∷ xs) =
@@ -89,7 +91,7 @@ parent_apart done g fresh (Some p) e same =
 
 module _ (rows : List Row) where
   -- more groups have no fewer wide ones, and no fewer children
-  pub wide_mono : (done next : ℕ → Bool) → ((h : ℕ) → done h ≡ true → next h ≡ true)
+  wide_mono : (done next : ℕ → Bool) → ((h : ℕ) → done h ≡ true → next h ≡ true)
       → wide_among rows done ≤ wide_among rows next
   unfolding wide_among
   wide_mono done next more =
@@ -97,7 +99,7 @@ module _ (rows : List Row) where
       (λ g e. let parts = and_parts (done g) (is_wide rows g) e in
       rw (more g parts.0) parts.1) (range_with_len 0 (length rows))
 
-  pub children_mono : (done next : ℕ → Bool) → ((h : ℕ) → done h ≡ true → next h ≡ true)
+  children_mono : (done next : ℕ → Bool) → ((h : ℕ) → done h ≡ true → next h ≡ true)
       → children_among rows done ≤ children_among rows next
   unfolding children_among
   children_mono done next more =
@@ -106,14 +108,14 @@ module _ (rows : List Row) where
       (λ c. parent_more done next more (parent_of rows c)) (range_with_len 0 (length rows))
 
   -- the wide groups among some are no more than all
-  pub wide_all : (done : ℕ → Bool) → wide_among rows done ≤ wide_groups rows
+  wide_all : (done : ℕ → Bool) → wide_among rows done ≤ wide_groups rows
   unfolding wide_among wide_groups
   wide_all done =
       passes_more (λ g. done g && is_wide rows g) (is_wide rows)
       (λ g e. (and_parts (done g) (is_wide rows g) e).1) (range_with_len 0 (length rows))
 
   -- the children of some groups are no more than the rows
-  pub children_few : (done : ℕ → Bool) → children_among rows done ≤ length rows
+  children_few : (done : ℕ → Bool) → children_among rows done ≤ length rows
   unfolding children_among
   children_few done =
       omega (
@@ -160,25 +162,73 @@ module _ (rows : List Row) where
         ∙ or_right (done p) (eqb g p) (eq-eqb g p (sym (eqb-true p g e)))) (parent_of rows c))
         (λ c. parent_apart done g fresh (parent_of rows c)) (range_with_len 0 (length rows))
 
-    -- The rounds after one group more.
-    pub rounds_more : g < length rows → (base before after : ℕ)
-        → before ≤ base + MAX_ROUNDS * wide_among rows done → after ≤ before + MAX_ROUNDS
-        → (length (children_of rows g) ≤ 2 → after ≡ before)
-        → after ≤ base + MAX_ROUNDS * wide_among rows next
-    rounds_more below base before after so_far one none =
-        elim (cases_lt 2 (length (children_of rows g))) [
-          | inl wide ↦
-              omega (
-                arith,
-                so_far,
-                one,
-                wide_one below (lt-ltb 2 (length (children_of rows g)) wide),
-              )
-          | inr few ↦ omega (arith, so_far, none few, wide_mono done next earlier)
-        ]
+    -- The count of one group more.
+    pub counted_one : g < length rows → (before after : Done) → IsOneCounted rows g before after
+        → IsCounted rows done next before after
+    counted_one below before after one = record {
+      rounds = elim (cases_lt 2 (length (children_of rows g))) [
+        | inl wide ↦
+            omega (
+              arith,
+              one.rounds,
+              wide_one below (lt-ltb 2 (length (children_of rows g)) wide),
+            )
+        | inr few ↦ omega (arith, one.no_search few, wide_mono done next earlier)
+      ];
+      picks = omega (arith, one.picks, children_more);
+      no_fewer_rounds = one.no_fewer_rounds;
+      no_fewer_picks = one.no_fewer_picks;
+    }
 
-    -- The picks after it.
-    pub picks_more : (base before after : ℕ) → before ≤ base + children_among rows done
-        → after ≤ before + length (children_of rows g)
-        → after ≤ base + children_among rows next
-    picks_more base before after so_far one = omega (arith, so_far, one, children_more)
+  -- The count of one group's split, added to another count.
+  pub one_added : (g : ℕ) (before after piece : Done) → after.rounds ≡ before.rounds + piece.rounds
+      → after.picks ≡ before.picks + piece.picks → IsOneCounted rows g nothing_done piece
+      → IsOneCounted rows g before after
+  one_added g before after piece rounds picks one = record {
+    rounds = omega (arith, rounds, one.rounds);
+    no_search = λ few. omega (arith, rounds, one.no_search few);
+    picks = omega (arith, picks, one.picks);
+    no_fewer_rounds = omega (arith, rounds);
+    no_fewer_picks = omega (arith, picks);
+  }
+
+  -- Nothing is counted where nothing was done.
+  pub counted_none : (done : ℕ → Bool) (work : Done) → IsCounted rows done done work work
+  counted_none done work = record {
+    rounds = omega arith;
+    picks = omega arith;
+    no_fewer_rounds = omega arith;
+    no_fewer_picks = omega arith;
+  }
+
+  -- One count after another.
+  pub counted_then : (done more most : ℕ → Bool) (before between after : Done)
+      → IsCounted rows done more before between → IsCounted rows more most between after
+      → IsCounted rows done most before after
+  counted_then done more most before between after first second = record {
+    rounds = omega (arith, first.rounds, second.rounds);
+    picks = omega (arith, first.picks, second.picks);
+    no_fewer_rounds = omega (arith, first.no_fewer_rounds, second.no_fewer_rounds);
+    no_fewer_picks = omega (arith, first.no_fewer_picks, second.no_fewer_picks);
+  }
+
+  -- A count of some groups stands for more of them too.
+  pub counted_more : (done more most : ℕ → Bool) → ((h : ℕ) → more h ≡ true → most h ≡ true)
+      → (before after : Done) → IsCounted rows done more before after
+      → IsCounted rows done most before after
+  counted_more done more most wider before after so_far = record {
+    rounds = omega (arith, so_far.rounds, wide_mono more most wider);
+    picks = omega (arith, so_far.picks, children_mono more most wider);
+    no_fewer_rounds = so_far.no_fewer_rounds;
+    no_fewer_picks = so_far.no_fewer_picks;
+  }
+
+  -- The count of a walk is within that of all groups.
+  pub counted_rounds : (done more : ℕ → Bool) (before after : Done)
+      → IsCounted rows done more before after
+      → after.rounds ≤ before.rounds + MAX_ROUNDS * wide_groups rows
+  counted_rounds done more before after all = omega (arith, all.rounds, wide_all more)
+
+  pub counted_picks : (done more : ℕ → Bool) (before after : Done)
+      → IsCounted rows done more before after → after.picks ≤ before.picks + length rows
+  counted_picks done more before after all = omega (arith, all.picks, children_few more)

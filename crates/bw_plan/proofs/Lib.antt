@@ -10,3 +10,4 @@ mod Collected
 mod Costs
 mod Done
 mod OneDepth
+mod PartsSent

@@ -56,11 +56,21 @@ impl Tally {
     {
         self.picks = self.picks.one_more();
     }
+
+    // Adds another tally.
+    fn add(&mut self, other: &Tally)
+        ensures rounds { self.new.rounds ≡ self.old.rounds + other.now.rounds }
+        ensures picks { self.new.picks ≡ self.old.picks + other.now.picks }
+    {
+        self.rounds = self.rounds.with(&other.rounds);
+        self.picks = self.picks.with(&other.picks);
+    }
 }
 
 /// Ghost state: rounds and picks of the splits that were given it, without data at run time.
 ///
-/// Only [`split_counted`] and [`split_scarce`] add to it, what their search has counted.
+/// Only [`split_counted`] and [`split_scarce`] add to it, what their search has counted, and
+/// [`Work::add`], what another count has.
 #[derive(Drop)]
 pub struct Work {
     tally: Tally,
@@ -83,6 +93,14 @@ impl Work {
         Work {
             tally: Tally::new(),
         }
+    }
+
+    /// Adds the rounds and picks of another count, as of a piece of work in another thread.
+    pub fn add(&mut self, piece: &Work)
+        ensures rounds { self.new.rounds ≡ self.old.rounds + piece.now.rounds }
+        ensures picks { self.new.picks ≡ self.old.picks + piece.now.picks }
+    {
+        self.tally.add(&piece.tally);
     }
 }
 

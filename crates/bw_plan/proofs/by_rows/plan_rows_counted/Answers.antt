@@ -1,13 +1,16 @@
 -- The goals of `plan_rows_counted` that are answered by hand.
 use Rattle.std.proofs.Common.{◌≡◌, ◌<◌, ◌+◌, ℕ, suc, List, length, get_or, replicate, set, ap}
-use Rattle.std.proofs.Common.{◌||◌, ◌≤◌, eqb, subst, ◌∙◌, arith, rules}
+use Rattle.std.proofs.Common.{◌||◌, eqb, subst, ◌∙◌, arith, rules}
 use Rattle.std.proofs.lemmas.Bool.{lt-ltb, le-ltb}
 use Rattle.bw_model.specs.declared.row.Row.{Row}
 use Rattle.bw_model.proofs.CallerLemmas.{AreMaxTotals-capped, get_or_within}
 use Rattle.bw_plan.specs.Shared.{IsPlanning, AreParts}
 use Rattle.bw_plan.proofs.Shares.{rows_before, begun, can_share, given_more, all_planned}
 use Rattle.bw_plan.proofs.Shares.{next_fresh, next_marks, before_next, before_closed, parent_done}
-use Rattle.bw_plan.proofs.Costs.{rounds_more, picks_more, wide_all, children_few}
+use Rattle.bw_split.specs.Counts.{Done}
+use Rattle.bw_plan.specs.Cost.{IsOneCounted, IsCounted}
+use Rattle.bw_plan.proofs.Costs.{counted_one, counted_none, counted_then, counted_rounds}
+use Rattle.bw_plan.proofs.Costs.{counted_picks}
 use Rattle.bw_plan.proofs.by_rows.plan_rows_counted.Goals as goal
 
 pub loop-g-init : goal.loop-g-init
@@ -28,10 +31,7 @@ loop-g-init c =
           (length c.rows-count.result.now) c.index.result.now
           (set c.in_ok-amounts.amounts.items 0 c.index.result.now) long read
           (ap (λ (xs : List ℕ). set xs 0 c.index.result.now) zeros);
-      rounds = omega arith;
-      picks = omega arith;
-      no_fewer_rounds = omega arith;
-      no_fewer_picks = omega arith;
+      counted = counted_none c.args.instance.now.rows (rows_before 0) c.args.work.now;
     }
 
 pub share_out-requires : goal.share_out-requires
@@ -52,6 +52,21 @@ next_before : (g h : ℕ) → rows_before (g + 1) h ≡ (rows_before g h || eqb 
 next_before g h =
     let next : g + 1 ≡ suc g = omega arith in
     ap (λ (n : ℕ). rows_before n h) next ∙ before_next h g
+
+counted_next : (rows : List Row) → (g : ℕ) (before after : Done) → g < length rows
+    → IsOneCounted rows g before after
+    → IsCounted rows (rows_before g) (rows_before (g + 1)) before after
+counted_next rows g before after inside one =
+    counted_one rows (rows_before g) (rows_before (g + 1)) g (le-ltb g g (omega arith))
+    (next_before g) inside before after one
+
+counted_after : (rows : List Row) (g : ℕ) (first before after : Done) → g < length rows
+    → IsCounted rows (rows_before 0) (rows_before g) first before
+    → IsOneCounted rows g before after
+    → IsCounted rows (rows_before 0) (rows_before (g + 1)) first after
+counted_after rows g first before after inside so_far one =
+    counted_then rows (rows_before 0) (rows_before g) (rows_before (g + 1)) first before after
+    so_far (counted_next rows g before after inside one)
 
 pub loop-g-preserved : goal.loop-g-preserved
 loop-g-preserved c =
@@ -75,48 +90,31 @@ loop-g-preserved c =
           (next_marks groups valid.tree c.loop-g.g) (before_closed groups valid.tree c.loop-g.g)
           (parent_done groups valid.tree c.loop-g.g)
           shared.0 before c.share_out.new.amounts.items c.loop-g.invariant.planning parts shared.2);
-      rounds = rounds_more groups.rows (rows_before c.loop-g.g) (rows_before (c.loop-g.g + 1))
-          c.loop-g.g (next_fresh groups valid.tree c.loop-g.g) (next_before c.loop-g.g) inside
-          c.args.work.now.rounds c.loop-g.work.rounds c.share_out.new.work.rounds
-          c.loop-g.invariant.rounds c.share_out.ensures.rounds c.share_out.ensures.no_search;
-      picks = picks_more groups.rows (rows_before c.loop-g.g) (rows_before (c.loop-g.g + 1))
-          c.loop-g.g (next_fresh groups valid.tree c.loop-g.g) (next_before c.loop-g.g)
-          c.args.work.now.picks c.loop-g.work.picks c.share_out.new.work.picks
-          c.loop-g.invariant.picks c.share_out.ensures.picks;
-      no_fewer_rounds = omega (
-        arith,
-        c.loop-g.invariant.no_fewer_rounds,
-        c.share_out.ensures.counted.0,
-      );
-      no_fewer_picks = omega (
-        arith,
-        c.loop-g.invariant.no_fewer_picks,
-        c.share_out.ensures.counted.1,
-      );
+      counted = counted_after groups.rows c.loop-g.g c.args.work.now c.loop-g.work
+          c.share_out.new.work inside c.loop-g.invariant.counted c.share_out.ensures.counted;
     }
 
 pub returns-in_err-share_out-clause-rounds : goal.returns-in_err-share_out-clause-rounds
 returns-in_err-share_out-clause-rounds c =
-    let groups = c.args.instance.now in
-    let valid = c.rows-count.ensures.valid in
-    let long : length c.rows-count.result.now ≡ length groups.rows =
+    let rows = c.args.instance.now.rows in
+    let long : length c.rows-count.result.now ≡ length rows =
     ap (length {A = Row}) c.rows-count.ensures.rows in
-    let inside : c.loop-g.g < length groups.rows = omega (arith, long, c.loop-g-test.true) in
-    let now = rounds_more groups.rows (rows_before c.loop-g.g) (rows_before (c.loop-g.g + 1))
-    c.loop-g.g (next_fresh groups valid.tree c.loop-g.g) (next_before c.loop-g.g) inside
-    c.args.work.now.rounds c.loop-g.work.rounds c.share_out.new.work.rounds
-    c.loop-g.invariant.rounds c.share_out.ensures.rounds c.share_out.ensures.no_search in
-    omega (arith, now, wide_all groups.rows (rows_before (c.loop-g.g + 1)))
+    counted_rounds rows (rows_before 0) (rows_before (c.loop-g.g + 1)) c.args.work.now
+    c.share_out.new.work
+    (counted_after rows c.loop-g.g c.args.work.now c.loop-g.work c.share_out.new.work
+    (omega (arith, long, c.loop-g-test.true)) c.loop-g.invariant.counted
+    c.share_out.ensures.counted)
 
 pub returns-in_err-share_out-clause-picks : goal.returns-in_err-share_out-clause-picks
 returns-in_err-share_out-clause-picks c =
-    let groups = c.args.instance.now in
-    let now = picks_more groups.rows (rows_before c.loop-g.g) (rows_before (c.loop-g.g + 1))
-    c.loop-g.g (next_fresh groups c.rows-count.ensures.valid.tree c.loop-g.g)
-    (next_before c.loop-g.g)
-    c.args.work.now.picks c.loop-g.work.picks c.share_out.new.work.picks
-    c.loop-g.invariant.picks c.share_out.ensures.picks in
-    omega (arith, now, children_few groups.rows (rows_before (c.loop-g.g + 1)))
+    let rows = c.args.instance.now.rows in
+    let long : length c.rows-count.result.now ≡ length rows =
+    ap (length {A = Row}) c.rows-count.ensures.rows in
+    counted_picks rows (rows_before 0) (rows_before (c.loop-g.g + 1)) c.args.work.now
+    c.share_out.new.work
+    (counted_after rows c.loop-g.g c.args.work.now c.loop-g.work c.share_out.new.work
+    (omega (arith, long, c.loop-g-test.true)) c.loop-g.invariant.counted
+    c.share_out.ensures.counted)
 
 pub returns-clause-plan : goal.returns-clause-plan
 returns-clause-plan c =
@@ -132,16 +130,10 @@ returns-clause-plan c =
 
 pub returns-clause-rounds : goal.returns-clause-rounds
 returns-clause-rounds c =
-    omega (
-      arith,
-      c.loop-g.invariant.rounds,
-      wide_all c.args.instance.now.rows (rows_before c.loop-g.g),
-    )
+    counted_rounds c.args.instance.now.rows (rows_before 0) (rows_before c.loop-g.g)
+    c.args.work.now c.loop-g.work c.loop-g.invariant.counted
 
 pub returns-clause-picks : goal.returns-clause-picks
 returns-clause-picks c =
-    omega (
-      arith,
-      c.loop-g.invariant.picks,
-      children_few c.args.instance.now.rows (rows_before c.loop-g.g),
-    )
+    counted_picks c.args.instance.now.rows (rows_before 0) (rows_before c.loop-g.g)
+    c.args.work.now c.loop-g.work c.loop-g.invariant.counted

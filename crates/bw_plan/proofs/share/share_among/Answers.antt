@@ -38,10 +38,13 @@ returns-then-fits_in c =
             (λ k below. (can.weights_in_range k below).0) whole)),
         c.give.ensures,
       );
-      rounds = omega arith;
-      picks = omega arith;
-      counted = (omega arith, omega arith);
-      no_search = λ _. refl;
+      counted = record {
+        rounds = omega arith;
+        no_search = λ _. refl;
+        picks = omega arith;
+        no_fewer_rounds = omega arith;
+        no_fewer_picks = omega arith;
+      };
     }
 
 pub split_scarce-requires-clause-can : goal.split_scarce-requires-clause-can
