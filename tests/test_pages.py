@@ -305,20 +305,29 @@ LOOPS_OF_THE_LOCK = {
 }
 
 
-def sources_of_the_lock() -> dict:
-    """The code of each file of bw_ticket, without comments."""
-    files = sorted((ROOT / "crates/bw_ticket/src").glob("*.rt"))
+def sources_of(crate: str) -> dict:
+    """The code of each file of a crate, without comments."""
+    files = sorted((ROOT / "crates" / crate / "src").glob("*.rt"))
     return {file.name: re.sub(r"//.*", "", file.read_text(encoding="utf-8")) for file in files}
 
 
-def calls_of_the_lock(sources: dict) -> list:
+def sources_of_the_lock() -> dict:
+    return sources_of("bw_ticket")
+
+
+def misplaced(calls: dict, sources: dict) -> list:
     """The calls that stand elsewhere than they should, or another number of times."""
     found = []
-    for call, (name, times) in CALLS_OF_THE_LOCK.items():
+    for call, where in calls.items():
         counts = {file: len(re.findall(call, text)) for file, text in sources.items()}
-        if {file: count for file, count in counts.items() if count} != {name: times}:
+        if {file: count for file, count in counts.items() if count} != where:
             found.append(call)
     return found
+
+
+def calls_of_the_lock(sources: dict) -> list:
+    return misplaced({call: {name: times} for call, (name, times) in CALLS_OF_THE_LOCK.items()},
+                     sources)
 
 
 def test_calls_of_the_lock():
@@ -335,6 +344,33 @@ def test_another_call_is_found(call):
     sources = sources_of_the_lock()
     for name in ("steps.rt", "sleeping.rt", "patience.rt"):
         assert len(calls_of_the_lock({**sources, name: sources[name] + call})) == 1
+
+
+# Where the planner begins a count of its work, splits, and adds counts up.
+CALLS_OF_THE_PLANNER = {
+    # `plan`, `plan_rows`, `plan_gathered` and `plan_levels` begin the count of their counted call,
+    # and `counted_parts_of` that of a group, which `share_in_pieces` adds.
+    r"\bWork::new\(": {"by_rows.rt": 2, "by_depth.rt": 2, "share.rt": 1},
+    r"\bwork\.add\(": {"by_depth.rt": 1},
+    # the counted splits alone, of what is imported from bw_split
+    r"\bsplit_counted\(": {"share.rt": 1},
+    r"\bsplit_scarce\(": {"share.rt": 1},
+    r"\bsplit(?!_among|_counted|_scarce)\w*\(": {},
+    r"\bbw_split\b": {"by_depth.rt": 2, "by_rows.rt": 2, "counted_parts.rt": 1, "share.rt": 1},
+}
+
+
+def test_calls_of_the_planner():
+    """DECISIONS: a test of the text says where a count begins."""
+    same(misplaced(CALLS_OF_THE_PLANNER, sources_of("bw_plan")), [], "calls of the planner")
+
+
+@pytest.mark.parametrize("call", ["&mut Work::new()", "split(alloc, amount, &weights, &most)?",
+                                  "work.add(&other)", "bw_split::split_by_marks(alloc, 1, w, m);"])
+def test_another_call_of_the_planner_is_found(call):
+    sources = sources_of("bw_plan")
+    for name in ("by_rows.rt", "by_depth.rt", "children.rt"):
+        assert misplaced(CALLS_OF_THE_PLANNER, {**sources, name: sources[name] + call})
 
 
 def loops_in(text: str) -> list:

@@ -5,3 +5,4 @@ pub use Rattle.bw_machine.proofs.ListsByPlace.{count_set, length_snoc, get_same,
 pub use Rattle.bw_machine.proofs.ListsByPlace.{set_map, set_mapped}
 pub use Rattle.bw_machine.proofs.Numbers.{equal_or_not}
 pub use Rattle.bw_machine.proofs.OneThread.{every_schedule_is_one_thread}
+pub use Rattle.bw_machine.proofs.CountSent.{count_sent}

@@ -5,3 +5,4 @@ mod Histories
 mod ListsByPlace
 mod Numbers
 mod OneThread
+mod CountSent

@@ -28,4 +28,11 @@ impl Count {
     {
         Count {}
     }
+
+    /// As many as two counts together.
+    pub fn with(&self, other: &Count) -> Count
+        ensures { result.steps ≡ self.now.steps + other.now.steps }
+    {
+        Count {}
+    }
 }

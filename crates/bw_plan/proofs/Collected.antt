@@ -6,6 +6,7 @@ use Rattle.std.specs.List.{AllZip, Contains}
 use Rattle.std.specs.declared.alloc.Global.{Global}
 use Rattle.std.specs.declared.alloc.AllocError.{AllocError}
 use Rattle.rayon.proofs.ToStd.{slice-AllZip}
+use Rattle.bw_plan.specs.declared.counted_parts.CountedParts.{CountedParts}
 
 -- where each answer is an `Ok`, what the rule says of these
 all_ok : {Z V : Type 0} (R : Z → V → Type 0) (zs : List Z) (ys : List V) →
@@ -16,11 +17,11 @@ all_ok R [] (y ∷ ys) h = absurd h
 all_ok R (z ∷ zs) [] h = absurd h
 all_ok R (z ∷ zs) (y ∷ ys) h = (h.0, all_ok R zs ys h.1)
 
-pub collected : (R : ℕ → Vec ℕ Global → Type 0) (listed : List ℕ) (zs : List (Bor ℕ))
-    (xs : List (Result (Vec ℕ Global) AllocError))
-    (r : Result (Vec (Vec ℕ Global) Global) AllocError) → map (λ (z : Bor ℕ). z.now) zs ≡ listed →
+pub collected : (R : ℕ → CountedParts → Type 0) (listed : List ℕ) (zs : List (Bor ℕ))
+    (xs : List (Result (CountedParts) AllocError))
+    (r : Result (Vec CountedParts Global) AllocError) → map (λ (z : Bor ℕ). z.now) zs ≡ listed →
     AllZip (λ z x. IfOk x (λ v. R z.now v)) zs xs →
-    MatchResult r (λ v. (ys : List (Vec ℕ Global)) × (xs ≡ map (λ y. Ok y) ys) × (v.items ≡ ys))
+    MatchResult r (λ v. (ys : List CountedParts) × (xs ≡ map (λ y. Ok y) ys) × (v.items ≡ ys))
     (λ e. Contains xs (Err e)) →
     IfOk r (λ v. AllZip R listed v.items)
 collected R listed zs xs (Err e) shown each found = tt
@@ -29,15 +30,15 @@ collected R listed zs xs (Ok v) shown each found =
     (all_ok (λ (z : Bor ℕ) y. R z.now y) zs found.0 (rw found.1 at each)))
 
 -- the answer at a place
-pub at_place : (R : ℕ → Vec ℕ Global → Type 0) (xs : List ℕ) (ys : List (Vec ℕ Global)) (k d : ℕ)
-    (e : Vec ℕ Global) → AllZip R xs ys → k < length xs →
+pub at_place : (R : ℕ → CountedParts → Type 0) (xs : List ℕ) (ys : List CountedParts) (k d : ℕ)
+    (e : CountedParts) → AllZip R xs ys → k < length xs →
     R (get_or xs k d) (get_or ys k e)
 at_place R [] ys k d e h lt = absurd (omega arith)
 at_place R (x ∷ xs) [] k d e h lt = absurd h
 at_place R (x ∷ xs) (y ∷ ys) zero d e h lt = h.0
 at_place R (x ∷ xs) (y ∷ ys) (suc k) d e h lt = at_place R xs ys k d e h.1 (omega arith)
 
-pub zip_long : (R : ℕ → Vec ℕ Global → Type 0) (xs : List ℕ) (ys : List (Vec ℕ Global))
+pub zip_long : (R : ℕ → CountedParts → Type 0) (xs : List ℕ) (ys : List CountedParts)
     → AllZip R xs ys → length ys ≡ length xs
 zip_long R [] [] h = refl
 zip_long R [] (y ∷ ys) h = absurd h

@@ -84,7 +84,7 @@ fresh rows d k g lt is =
     omega (arith, up, r.3, is)))
 
 -- what is done is no deeper, and what is less deep is done
-not_deeper : (rows : List Row) (d k h : ℕ) → done_at rows d k h ≡ true → depth_of rows h ≤ d
+pub not_deeper : (rows : List Row) (d k h : ℕ) → done_at rows d k h ≡ true → depth_of rows h ≤ d
 not_deeper rows d k h e =
     elim (or_cases (is_above rows d h) (list_any (λ x. x == h) (take k (rows_of_depth rows d))) e) [
       | inl up ↦ let lt : depth_of rows h < d = ltb-true (depth_of rows h) d up in omega (arith, lt)

@@ -7,5 +7,7 @@ mod NoSearchNeeded
 mod Shares
 mod Backward
 mod Collected
+mod Costs
 mod Done
 mod OneDepth
+mod PartsSent

@@ -3,3 +3,4 @@ pub mod Shared
 pub mod Pieces
 pub mod Reached
 pub mod Laws
+pub mod Cost

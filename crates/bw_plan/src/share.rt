@@ -1,12 +1,15 @@
 //! One group's amount among its children.
-ghost use Rattle.std.specs.Prelude.{◌≡◌, ◌≢◌, ℕ, ◌<◌, false, length, slice_index, EachIndex};
+ghost use Rattle.std.specs.Prelude.{◌≡◌, ◌≢◌, ℕ, ◌<◌, false, length, slice_index};
+ghost use Rattle.std.specs.Prelude.{EachIndex};
 ghost use Rattle.std.specs.Prelude.{IfOk, OnOk};
 ghost use Rattle.bw_model.specs.Groups.{children_of, is_leaf};
+ghost use Rattle.bw_plan.specs.Cost.{IsOneCounted, AreCountedParts};
 ghost use Rattle.bw_plan.specs.Shared.{CanShare, AreBestParts, AreParts, IsGiven, IsSharedOut};
 
 use crate::children::{child_values, child_weights};
+use crate::counted_parts::CountedParts;
 use bw_model::Instance;
-use bw_split::{fits_in, split, split_scarce};
+use bw_split::{Work, fits_in, split_counted, split_scarce};
 use std::alloc::{AllocError, Global};
 
 // Writes each part to its place.
@@ -34,42 +37,67 @@ fn split_among(
     most: &[u64],
     amounts: &[u64],
     g: u32,
+    work: &mut Work,
 ) -> Result<Vec<u64>, AllocError>
     requires can_share { CanShare instance.now most.now amounts.now g }
     requires inner { is_leaf instance.now.rows g ≡ false }
-    ensures { IfOk result (λ parts. AreBestParts instance.now most.now amounts.now g parts.items) }
+    ensures parts { IfOk result
+        (λ parts. AreBestParts instance.now most.now amounts.now g parts.items) }
+    ensures counted { IsOneCounted instance.now.rows g work.old work.new }
 {
     // its contract says that the weights are in range
     let _rows = instance.rows();
     let mosts = child_values(alloc, instance, most, g)?;
     let weights = child_weights(alloc, instance, g)?;
-    split(
+    split_counted(
         alloc,
         amounts[g as usize],
         weights.as_slice(),
         mosts.as_slice(),
+        work,
     )
 }
 
-/// The parts of what a group has, one for each child in order, in slices. The list is empty, and
-/// takes no memory, if the group has nothing or fewer than two children.
-///
-/// # Errors
-/// `AllocError` if memory was refused.
-pub fn parts_of(
+// The parts of what a group has, one for each child in order, in slices. The list is empty, and
+// takes no memory, if the group has nothing or fewer than two children.
+fn parts_of(
     alloc: Global,
     instance: &Instance,
     most: &[u64],
     amounts: &[u64],
     g: u32,
+    work: &mut Work,
 ) -> Result<Vec<u64>, AllocError>
     requires { CanShare instance.now most.now amounts.now g }
-    ensures { IfOk result (λ parts. AreParts instance.now most.now amounts.now g parts.items) }
+    ensures parts { IfOk result
+        (λ parts. AreParts instance.now most.now amounts.now g parts.items) }
+    ensures counted { IsOneCounted instance.now.rows g work.old work.new }
 {
     if amounts[g as usize] == 0 || instance.children(g).len() < 2 {
         return Ok(Vec::new(alloc));
     }
-    split_among(alloc, instance, most, amounts, g)
+    split_among(alloc, instance, most, amounts, g, work)
+}
+
+/// The parts of what a group has, one for each child in order, in slices, with a count of their
+/// split. The list is empty, and takes no memory, if the group has nothing or fewer than two
+/// children.
+///
+/// # Errors
+/// `AllocError` if memory was refused.
+pub(crate) fn counted_parts_of(
+    alloc: Global,
+    instance: &Instance,
+    most: &[u64],
+    amounts: &[u64],
+    g: u32,
+) -> Result<CountedParts, AllocError>
+    requires { CanShare instance.now most.now amounts.now g }
+    ensures { IfOk result (AreCountedParts instance.now most.now amounts.now g) }
+{
+    let mut work = Work::new();
+    let parts = parts_of(alloc, instance, most, amounts, g, &mut work)?;
+    Ok(CountedParts { parts, work })
 }
 
 /// Gives the children of a group what it has: all to an only child, else each its part.
@@ -101,11 +129,13 @@ fn share_among(
     most: &[u64],
     g: u32,
     amounts: &mut Vec<u64>,
+    work: &mut Work,
 ) -> Result<(), AllocError>
     requires can_share { CanShare instance.now most.now amounts.old.items g }
     requires inner { is_leaf instance.now.rows g ≡ false }
-    ensures { OnOk result
+    ensures shared { OnOk result
         (IsSharedOut instance.now most.now g amounts.old.items amounts.new.items) }
+    ensures counted { IsOneCounted instance.now.rows g work.old work.new }
 {
     // its contract says that the weights are in range
     let _rows = instance.rows();
@@ -117,12 +147,13 @@ fn share_among(
     }
     let weights = child_weights(alloc, instance, g)?;
     // each part takes the place of its child's most
-    split_scarce(amount, weights.as_slice(), mosts.as_mut_slice());
+    split_scarce(amount, weights.as_slice(), mosts.as_mut_slice(), work);
     give(instance, g, mosts.as_slice(), amounts);
     Ok(())
 }
 
-/// Shares out what a group has among its children, in place.
+/// Shares out what a group has among its children, in place, with the rounds and picks of its split
+/// added to a count.
 ///
 /// It takes memory only if the group has something and more than eight children: for one list, and
 /// for a second one if the children can be given more than the group has.
@@ -136,14 +167,16 @@ pub fn share_out(
     most: &[u64],
     g: u32,
     amounts: &mut Vec<u64>,
+    work: &mut Work,
 ) -> Result<(), AllocError>
     requires { CanShare instance.now most.now amounts.old.items g }
-    ensures { OnOk result
+    ensures shared { OnOk result
         (IsSharedOut instance.now most.now g amounts.old.items amounts.new.items) }
+    ensures counted { IsOneCounted instance.now.rows g work.old work.new }
 {
     if amounts[g as usize] == 0 || instance.children(g).len() < 2 {
         give(instance, g, &[], amounts);
         return Ok(());
     }
-    share_among(alloc, instance, most, g, amounts)
+    share_among(alloc, instance, most, g, amounts, work)
 }

@@ -3,3 +3,4 @@ pub use Rattle.bw_split.proofs.Filling.{IsFilled, none_filled, filled_more, not_
 pub use Rattle.bw_split.proofs.Filling.{filled-IsBestSplit}
 pub use Rattle.bw_split.proofs.Neighbours.{best_is_unmoved}
 pub use Rattle.bw_split.proofs.Search.{all-IsBestSplit}
+pub use Rattle.bw_split.proofs.WorkSent.{work_sent}

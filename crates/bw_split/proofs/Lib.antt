@@ -7,4 +7,5 @@ mod Neighbours
 mod Picks
 mod Search
 mod Takes
+mod WorkSent
 mod TwoChildren

@@ -56,11 +56,21 @@ impl Tally {
     {
         self.picks = self.picks.one_more();
     }
+
+    // Adds another tally.
+    fn add(&mut self, other: &Tally)
+        ensures rounds { self.new.rounds ≡ self.old.rounds + other.now.rounds }
+        ensures picks { self.new.picks ≡ self.old.picks + other.now.picks }
+    {
+        self.rounds = self.rounds.with(&other.rounds);
+        self.picks = self.picks.with(&other.picks);
+    }
 }
 
 /// Ghost state: rounds and picks of the splits that were given it, without data at run time.
 ///
-/// Only [`split_counted`] adds to it, what its search has counted.
+/// Only [`split_counted`] and [`split_scarce`] add to it, what their search has counted, and
+/// [`Work::add`], what another count has.
 #[derive(Drop)]
 pub struct Work {
     tally: Tally,
@@ -83,6 +93,14 @@ impl Work {
         Work {
             tally: Tally::new(),
         }
+    }
+
+    /// Adds the rounds and picks of another count, as of a piece of work in another thread.
+    pub fn add(&mut self, piece: &Work)
+        ensures rounds { self.new.rounds ≡ self.old.rounds + piece.now.rounds }
+        ensures picks { self.new.picks ≡ self.old.picks + piece.now.picks }
+    {
+        self.tally.add(&piece.tally);
     }
 }
 
@@ -137,13 +155,21 @@ pub fn split(
     split_counted(alloc, amount, weights, most, &mut Work::new())
 }
 
-/// [`split`] of an amount that is known to be below the sum of the maxima, without adding them up.
+/// [`split_counted`] of an amount that is known to be below the sum of the maxima, without adding
+/// them up.
 ///
 /// The parts are written in the place of the maxima, so they take no memory.
-pub fn split_scarce(amount: u64, weights: &[u64], most: &mut [u64])
+pub fn split_scarce(amount: u64, weights: &[u64], most: &mut [u64], work: &mut Work)
     requires can { CanSplit amount weights.now most.old }
     requires scarce { amount < sum most.old }
     ensures best { IsBestSplit amount weights.now most.old most.new }
+    ensures rounds { work.new.rounds ≤ work.old.rounds + MAX_ROUNDS }
+    ensures picks { work.new.picks ≤ work.old.picks + length weights.now }
+    ensures counted { (work.old.rounds ≤ work.new.rounds) × (work.old.picks ≤ work.new.picks) }
+    ensures no_search { NeedsNoSearch amount weights.now most.old
+        → work.new.rounds ≡ work.old.rounds }
+    ensures searched { (NeedsNoSearch amount weights.now most.old → ⊥)
+        → work.old.rounds < work.new.rounds }
 {
-    share_by_level(amount, weights, most, &mut Tally::new())
+    share_by_level(amount, weights, most, &mut work.tally)
 }

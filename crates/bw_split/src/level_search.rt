@@ -187,11 +187,19 @@ fn share_among_few(amount: u64, weights: &[u64], most: &mut [u64])
     }
 }
 
-/// Writes the best split of an amount below the sum of the maxima in their place.
+/// Writes the best split of an amount below the sum of the maxima in their place, with the rounds
+/// and picks added to a count.
 pub(crate) fn share_by_level(amount: u64, weights: &[u64], most: &mut [u64], work: &mut Tally)
     requires can { CanSplit amount weights.now most.old }
     requires scarce { amount < sum most.old }
-    ensures { IsBestSplit amount weights.now most.old most.new }
+    ensures best { IsBestSplit amount weights.now most.old most.new }
+    ensures rounds { work.new.rounds ≤ work.old.rounds + MAX_ROUNDS }
+    ensures picks { work.new.picks ≤ work.old.picks + length weights.now }
+    ensures counted { (work.old.rounds ≤ work.new.rounds) × (work.old.picks ≤ work.new.picks) }
+    ensures no_search { NeedsNoSearch amount weights.now most.old
+        → work.new.rounds ≡ work.old.rounds }
+    ensures searched { (NeedsNoSearch amount weights.now most.old → ⊥)
+        → work.old.rounds < work.new.rounds }
 {
     if weights.len() <= 2 {
         share_among_few(amount, weights, most);

@@ -1,7 +1,6 @@
 -- The goals of `share_in_pieces` that are answered by hand.
-use Rattle.std.proofs.Common.{◌≡◌, ◌<◌, ℕ, List, Vec, length, get_or, ap, sym, refl, ◌∙◌}
+use Rattle.std.proofs.Common.{◌≡◌, ◌<◌, ℕ, List, length, get_or, ap, sym, refl, ◌∙◌}
 use Rattle.std.proofs.Common.{arith}
-use Rattle.std.specs.declared.alloc.Global.{Global}
 use Rattle.std.proofs.lemmas.List.{get_or_default, length-map}
 use Rattle.std.specs.Prelude.{slice_index}
 use Rattle.bw_model.specs.Groups.{children_of}
@@ -12,6 +11,10 @@ use Rattle.bw_plan.specs.Shared.{AreParts, is_above}
 use Rattle.bw_plan.proofs.Shares.{can_share}
 use Rattle.bw_plan.proofs.Done.{parent_above, no_child}
 use Rattle.bw_plan.proofs.OneDepth.{none_shared, all_shared, next_shared}
+use Rattle.bw_plan.proofs.OneDepth.{none_counted, all_counted, next_counted}
+use Rattle.bw_plan.proofs.Costs.{one_added}
+use Rattle.bw_plan.specs.Cost.{AreCountedParts, nothing_done, IsOneCounted}
+use Rattle.bw_plan.specs.declared.counted_parts.CountedParts.{CountedParts}
 use Rattle.bw_plan.proofs.Collected.{at_place, zip_long}
 use Rattle.bw_plan.proofs.by_depth.share_in_pieces.Goals as goal
 
@@ -37,20 +40,35 @@ loop-k-init g c = record {
   planning =
       none_shared c.args.instance.now c.rows-rows.ensures.valid c.args.most.now c.requires.mosts
       c.args.depth c.args.amounts.now.items c.requires.planning;
+  counted =
+      none_counted c.args.instance.now c.rows-rows.ensures.valid c.args.most.now c.requires.mosts
+      c.args.depth c.args.work.now;
   held = λ j _. refl;
 }
 
-pub returns : goal.returns
-returns g c =
-    all_shared c.args.instance.now c.rows-rows.ensures.valid c.args.most.now c.requires.mosts
-    c.args.depth c.rows_at-groups.result.now c.rows_at-groups.ensures c.loop-k.k
-    c.loop-k.amounts.items (omega (arith, c.loop-k-test.false)) c.loop-k.invariant.planning
+pub returns-in_err-parts-clause-counted : goal.returns-in_err-parts-clause-counted
+returns-in_err-parts-clause-counted g c =
+    all_counted c.args.instance.now c.rows-rows.ensures.valid c.args.most.now c.requires.mosts
+    c.args.depth 0 c.args.work.now c.args.work.now
+    (none_counted c.args.instance.now c.rows-rows.ensures.valid c.args.most.now c.requires.mosts
+    c.args.depth c.args.work.now)
 
-pub index-requires : goal.index-requires
-index-requires g c =
+pub returns : goal.returns
+returns g c = record {
+  planning =
+      all_shared c.args.instance.now c.rows-rows.ensures.valid c.args.most.now c.requires.mosts
+      c.args.depth c.rows_at-groups.result.now c.rows_at-groups.ensures c.loop-k.k
+      c.loop-k.amounts.items (omega (arith, c.loop-k-test.false)) c.loop-k.invariant.planning;
+  counted =
+      all_counted c.args.instance.now c.rows-rows.ensures.valid c.args.most.now c.requires.mosts
+      c.args.depth c.loop-k.k c.args.work.now c.loop-k.work c.loop-k.invariant.counted;
+}
+
+pub index-counted-requires : goal.index-counted-requires
+index-counted-requires g c =
     let long : length c.in_ok-parts.parts.items ≡ length c.rows_at-groups.result.now =
-    zip_long (λ row v. AreParts c.args.instance.now c.args.most.now c.as_slice.result.now row
-    v.items) c.rows_at-groups.result.now
+    zip_long (AreCountedParts c.args.instance.now c.args.most.now c.as_slice.result.now)
+    c.rows_at-groups.result.now
     c.in_ok-parts.parts.items c.in_ok-parts.ensures in
     omega (arith, long, c.loop-k-test.true)
 
@@ -70,12 +88,13 @@ give-requires-clause-part_each g c = λ has two.
     c.loop-k.invariant.held c.loop-k.k c.loop-k-test.true
     ∙ ap (λ (xs : List ℕ). get_or xs row 0) (sym c.as_slice.ensures.value) in
     let found = at_place
-    (λ row v. AreParts groups c.args.most.now c.as_slice.result.now row v.items)
+    (AreCountedParts groups c.args.most.now c.as_slice.result.now)
     c.rows_at-groups.result.now c.in_ok-parts.parts.items
-    c.loop-k.k 0 c.index.result.now c.in_ok-parts.ensures c.loop-k-test.true in
-    let best = found (rw kept at has) two in
+    c.loop-k.k 0 c.index-counted.result.now c.in_ok-parts.ensures c.loop-k-test.true in
+    let best = found.shared (rw kept at has) two in
     ap (length {A = ℕ})
-    (c.as_slice-in-loop-k.ensures.value ∙ ap (λ (v : Vec ℕ Global). v.items) c.index.ensures)
+    (c.as_slice-in-loop-k.ensures.value
+    ∙ ap (λ (made : CountedParts). made.parts.items) c.index-counted.ensures)
     ∙ best.split.lengths ∙ length-map (children_of groups.rows row) (slice_index c.args.most.now)
 
 pub loop-k-preserved : goal.loop-k-preserved
@@ -92,16 +111,24 @@ loop-k-preserved g c =
     c.loop-k.invariant.held c.loop-k.k c.loop-k-test.true
     ∙ ap (λ (xs : List ℕ). get_or xs row 0) (sym c.as_slice.ensures.value) in
     let found = at_place
-    (λ row v. AreParts groups c.args.most.now c.as_slice.result.now row v.items)
+    (AreCountedParts groups c.args.most.now c.as_slice.result.now)
     c.rows_at-groups.result.now c.in_ok-parts.parts.items
-    c.loop-k.k 0 c.index.result.now c.in_ok-parts.ensures c.loop-k-test.true in
+    c.loop-k.k 0 c.index-counted.result.now c.in_ok-parts.ensures c.loop-k-test.true in
     let parts_are : c.as_slice-in-loop-k.result.now
-    ≡ (get_or c.in_ok-parts.parts.items c.loop-k.k c.index.result.now).items =
-    c.as_slice-in-loop-k.ensures.value ∙ ap (λ (v : Vec ℕ Global). v.items) c.index.ensures in
+    ≡ (get_or c.in_ok-parts.parts.items c.loop-k.k c.index-counted.result.now).parts.items =
+    c.as_slice-in-loop-k.ensures.value
+    ∙ ap (λ (made : CountedParts). made.parts.items) c.index-counted.ensures in
     let parts : AreParts groups most c.loop-k.amounts.items row c.as_slice-in-loop-k.result.now =
     λ has two.
-    rw (kept, parts_are) (found (rw kept at has) two) in
+    rw (kept, parts_are) (found.shared (rw kept at has) two) in
+    let one : IsOneCounted groups.rows row nothing_done c.index-counted.result.now.work =
+    rw (← c.index-counted.ensures) at found.counted in
     record {
+      counted = next_counted groups valid most c.requires.mosts d c.rows_at-groups.result.now
+          c.rows_at-groups.ensures c.loop-k.k c.loop-k-test.true c.args.work.now c.loop-k.work
+          c.add.new.self c.loop-k.invariant.counted
+          (one_added groups.rows row c.loop-k.work c.add.new.self c.index-counted.result.now.work
+          c.add.ensures.rounds c.add.ensures.picks one);
       planning = next_shared groups valid most c.requires.mosts d c.rows_at-groups.result.now
           c.rows_at-groups.ensures c.loop-k.k c.loop-k-test.true c.as_slice-in-loop-k.result.now
           c.loop-k.amounts.items c.give.new.amounts.items c.loop-k.invariant.planning parts

@@ -1,8 +1,12 @@
 -- What stands at each turn of the loop in `share_in_place`.
-use Rattle.bw_plan.specs.Shared.{IsPlanning}
+use Rattle.bw_plan.specs.Cost.{IsCounted}
+use Rattle.bw_plan.specs.Shared.{IsPlanning, is_above}
 use Rattle.bw_plan.proofs.Done.{done_at}
 use Rattle.bw_plan.proofs.by_depth.share_in_place.Given as goal
 
 abbrev pub invariant-loop-k : goal.invariant-loop-k
-invariant-loop-k l =
-    IsPlanning l.instance l.most (done_at l.instance.rows l.depth l.k) l.amounts.items
+invariant-loop-k l = record {
+  planning : IsPlanning l.instance l.most (done_at l.instance.rows l.depth l.k) l.amounts.items;
+  counted : IsCounted l.instance.rows (is_above l.instance.rows l.depth)
+      (done_at l.instance.rows l.depth l.k) l.fn.work l.work;
+}

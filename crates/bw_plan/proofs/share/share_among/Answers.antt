@@ -29,13 +29,23 @@ returns-then-fits_in c =
     ap sum (c.as_slice.ensures ∙ c.in_ok-mosts.ensures) in
     let fits : sum c.as_slice.result.now ≤ c.index-amount.result.now =
     c.fits_in.ensures.0 c.if-fits_in.true in
-    let whole : sum mosts ≡ get_or before g 0 = omega (arith, listed, fits, read, can.enough) in (
-      c.as_slice-then-fits_in.result.now,
-      (λ _ _. rw (c.as_slice-then-fits_in.ensures ∙ c.in_ok-mosts.ensures)
-          (all-IsBestSplit (get_or before g 0) weights mosts can.one_each
-          (λ k below. (can.weights_in_range k below).0) whole)),
-      c.give.ensures,
-    )
+    let whole : sum mosts ≡ get_or before g 0 = omega (arith, listed, fits, read, can.enough) in
+    record {
+      shared = (
+        c.as_slice-then-fits_in.result.now,
+        (λ _ _. rw (c.as_slice-then-fits_in.ensures ∙ c.in_ok-mosts.ensures)
+            (all-IsBestSplit (get_or before g 0) weights mosts can.one_each
+            (λ k below. (can.weights_in_range k below).0) whole)),
+        c.give.ensures,
+      );
+      counted = record {
+        rounds = omega arith;
+        no_search = λ _. refl;
+        picks = omega arith;
+        no_fewer_rounds = omega arith;
+        no_fewer_picks = omega arith;
+      };
+    }
 
 pub split_scarce-requires-clause-can : goal.split_scarce-requires-clause-can
 split_scarce-requires-clause-can c =
