@@ -4,3 +4,7 @@ mod CertLemmas
 mod CounterLemmas
 mod GroupLists
 mod IdLemmas
+mod OneAnswer
+mod OneTranscript
+mod TreesKept
+mod WholeLines

@@ -3,3 +3,4 @@ pub mod Bursts
 pub mod Cert
 pub mod Counters
 pub mod Ids
+pub mod Transcripts
