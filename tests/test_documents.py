@@ -8,7 +8,6 @@ that the code has, and each number is met as the table says.
 import os
 import re
 import sys
-from pathlib import Path
 
 import pytest
 
