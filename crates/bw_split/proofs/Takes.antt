@@ -1,6 +1,6 @@
 -- What children take at a level, one by one and together.
 use Rattle.std.proofs.Common.{◌≡◌, ℕ, zero, suc, ◌+◌, ◌*◌, ◌<◌, ◌≤◌, List, length, get_or}
-use Rattle.std.proofs.Common.{refl, ◌∙◌, add-one, ap, arith, inl, inr, sym}
+use Rattle.std.proofs.Common.{refl, ◌∙◌, add-one, ap, arith, inl, inr}
 use Rattle.std.proofs.Common.{◌/◌, ◌%◌}
 use Rattle.std.specs.Prelude.{sum, min}
 use Rattle.std.proofs.Math.Nat.{mul-le-mul_left, mul-le-mul_right}

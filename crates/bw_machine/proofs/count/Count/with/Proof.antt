@@ -65,9 +65,9 @@ module _ {M : Type 1} {𝓤 : Ura M} (𝓛 : Logic 𝓤) (at_mem : Memory → SP
         fsplit ! $ fsplit ! $ feq_l ! (λ first. drop ! $
         fsplit ! $ fsplit ! $ feq_l ! (λ second. drop ! $ drop ! $
         regoal ! (λ (us : List Val).
-            prop (WpFn 𝓤 H C Λ code.function (us ++ (z.0.4.1.0 ++ [])) Post)) first refl $
+        prop (WpFn 𝓤 H C Λ code.function (us ++ (z.0.4.1.0 ++ [])) Post)) first refl $
         regoal ! (λ (us : List Val).
-            prop (WpFn 𝓤 H C Λ code.function (p ∷ (us ++ [])) Post)) second refl $
+        prop (WpFn 𝓤 H C Λ code.function (p ∷ (us ++ [])) Post)) second refl $
         enter ! C Λ code.function (p ∷ q ∷ []) Post $
         alloc_all ! (λ l. pass_all ! refl (((tt, tt), ((tt, tt), tt))) $
         sets ! (agg ! (no_more !)) refl (tt, tt) $
