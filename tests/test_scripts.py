@@ -155,10 +155,11 @@ def test_calls_are_compiled_once(calls):
     status, out, err = calls.call(CALLS)
     *loader, program, last = out.split("\0")
     same((status, last, os.path.basename(program)), (0, "", "program"), f"the first time: {err}")
-    same(err, "arbiterctl: no C library of these sources: compiling the checked build, which proves "
-         f"nothing.\narbiterctl: that took {time_of('checked calls')}; later runs begin at once.\n"
+    same(err, "arbiterctl: no C library of these sources: compiling the checked build, which "
+         f"proves nothing.\narbiterctl: that took {time_of('checked calls')}; later runs begin at once.\n"
          f"{TOLD}", "standard error of the first time")
-    same(calls.call([*loader, program], b"weight_of_shares 1024 2\n")[:2], (0, "100\n"), "the words")
+    answer = calls.call([*loader, program], b"weight_of_shares 1024 2\n")
+    same(answer[:2], (0, "100\n"), "the words")
     same([line for line in calls.log() if line.startswith("rt")], ["rt try"], "compilations")
     same(calls.call(CALLS), (0, out, TOLD), "the second time")
     same([line for line in calls.log() if line.startswith("rt")], [], "the second time compiles")

@@ -54,7 +54,7 @@ def asking(what: str) -> Iterator[None]:
 
 
 class Engine:
-    """What plans and checks: the C library, in this process."""
+    """What plans and checks: the C library in this process, or a checked build of its calls."""
 
     def __init__(self, library: Library) -> None:
         self.library = library
@@ -62,7 +62,8 @@ class Engine:
     @property
     def words(self) -> str:
         """What the engine is, for people."""
-        return f"library {self.library.path}"
+        kind = "library" if self.library.is_proved else "checked build"
+        return f"{kind} {self.library.path}"
 
     def plan(self, host: Host, rows: Sequence[Row]) -> Answer:
         """A plan that the proved check accepted."""
