@@ -277,23 +277,24 @@ def test_layout():
         assert not crates_below[crate] & (tower("Tree of groups") | tower("Scripts")), crate
 
 
-# What may stand once in the lock's sources, beside the file and the number of times.
+# What may stand in the lock's sources, beside its file and the functions that have it, each once.
 CALLS_OF_THE_LOCK = {
-    r"\.park\w*\(": ("sleeping.rt", 1),
-    r"\.wake_\w+\(": ("sleeping.rt", 1),
-    r"\bspin_loop\(": ("sleeping.rt", 1),
-    r"\byield_now\(": ("sleeping.rt", 1),
+    r"\.park\w*\(": ("sleeping.rt", ["sleep"]),
+    r"\.wake_\w+\(": ("sleeping.rt", ["rouse"]),
+    r"\bspin_loop\(": ("sleeping.rt", ["spin"]),
+    r"\byield_now\(": ("sleeping.rt", ["give_way"]),
     # `enter` begins the count of a wait, and `park_on` begins it anew.
-    r"\bAwake::none\(": ("sleeping.rt", 2),
-    r"\bCount::none\(": ("sleeping.rt", 2),
+    r"\bAwake::none\(": ("sleeping.rt", ["enter", "park_on"]),
+    # Looks with all else, and the sleeps and wakes of a word.
+    r"\bCount::none\(": ("sleeping.rt", ["none", "none", "of", "of"]),
     # The loads, each in the function of its step. A waiting seat makes the first two.
-    r"\.peek\(": ("sleeping.rt", 1),
-    r"\.load::<Looking>": ("sleeping.rt", 1),
-    r"\.load::<Woken>": ("sleeping.rt", 1),
-    r"\.load::<Record>": ("steps.rt", 1),
-    r"\.load::<PeekNext>": ("steps.rt", 1),
-    r"\.load::<PeekWord>": ("steps.rt", 1),
-    r"\.load::<Front>": ("lock.rt", 1),
+    r"\.peek\(": ("sleeping.rt", ["glance"]),
+    r"\.load::<Looking>": ("sleeping.rt", ["look"]),
+    r"\.load::<Woken>": ("sleeping.rt", ["note_wake"]),
+    r"\.load::<Record>": ("steps.rt", ["leave"]),
+    r"\.load::<PeekNext>": ("steps.rt", ["peek_next"]),
+    r"\.load::<PeekWord>": ("steps.rt", ["wake"]),
+    r"\.load::<Front>": ("lock.rt", ["front"]),
 }
 
 # The loops in the lock's sources. The number of turns of each is in its function's contract, but
@@ -304,6 +305,11 @@ LOOPS_OF_THE_LOCK = {
     "closing.rt": ["while let Some(seat) = seats.pop()"],
 }
 
+# What repeats code without the word of a loop: a closure, an iterator, a range outside a `for`.
+CLOSURE = r"(?:[(,=\[{;]|=>|\bmove|\breturn)\s*\|[^|;{}]*\|"
+ITERATOR = (r"\.(?:into_)?iter\w*\(|\biter::|\bIterator\b|\brepeat\w*\(|\.by_ref\("
+            r"|\([^()]*\.\.[^()]*\)\s*\.\w+\(")
+
 
 def sources_of(crate: str) -> dict:
     """The code of each file of a crate, without comments."""
@@ -311,8 +317,16 @@ def sources_of(crate: str) -> dict:
     return {file.name: re.sub(r"//.*", "", file.read_text(encoding="utf-8")) for file in files}
 
 
+def functions_in(text: str) -> list:
+    """Each function's name, and the code from it to the next one."""
+    parts = re.split(r"\bfn (\w+)", text)
+    return [*zip(parts[1::2], parts[2::2])]
+
+
 def sources_of_the_lock() -> dict:
-    return sources_of("bw_ticket")
+    """The code of each file of bw_ticket, without comments and imports."""
+    return {name: re.sub(r"^ *(?:ghost )?use .*", "", text, flags=re.M)
+            for name, text in sources_of("bw_ticket").items()}
 
 
 def misplaced(calls: dict, sources: dict) -> list:
@@ -326,8 +340,42 @@ def misplaced(calls: dict, sources: dict) -> list:
 
 
 def calls_of_the_lock(sources: dict) -> list:
-    return misplaced({call: {name: times} for call, (name, times) in CALLS_OF_THE_LOCK.items()},
-                     sources)
+    """The calls of the lock that stand in other functions than they should, or more than once."""
+    found = []
+    for call, (name, functions) in CALLS_OF_THE_LOCK.items():
+        where = [(file, function) for file, text in sources.items()
+                 for function, code in functions_in(text) for _ in re.findall(call, code)]
+        count = sum(len(re.findall(call, text)) for text in sources.values())
+        if where != [(name, each) for each in functions] or count != len(functions):
+            found.append(call)
+    return found
+
+
+def loops_in(text: str) -> list:
+    loop = r"(?:^|[{;])\s*((?:for\b[^{;]*\bin\b[^{;]*|while\b[^{;]*|loop))\s*\{"
+    return [" ".join(head.split()) for head in re.findall(loop, text, re.M)]
+
+
+def callers_of_themselves(sources: dict) -> list:
+    """The functions that a chain of calls leads back to."""
+    functions = [each for text in sources.values() for each in functions_in(text)]
+    calls = {name: set() for name, _ in functions}
+    for name, code in functions:
+        calls[name] |= {each for each in calls if re.search(rf"(?<!::)\b{each}(?:::<.*?>)?\(", code)}
+    reached = {name: set(direct) for name, direct in calls.items()}
+    for _ in calls:
+        for name, direct in reached.items():
+            direct |= {far for each in direct for far in calls[each]}
+    return sorted(name for name, all_called in reached.items() if name in all_called)
+
+
+def repeats_of_the_lock(sources: dict) -> list:
+    """What may make a call more than once, beside the loops that are known."""
+    found = [f"{file}: {head}" for file, text in sources.items() for head in loops_in(text)
+             if head not in LOOPS_OF_THE_LOCK.get(file, [])]
+    found += [f"{file}: {each}" for file, text in sources.items()
+              for each in re.findall(rf"{CLOSURE}|{ITERATOR}", text)]
+    return found + callers_of_themselves(sources)
 
 
 def test_calls_of_the_lock():
@@ -373,15 +421,46 @@ def test_another_call_of_the_planner_is_found(call):
         assert misplaced(CALLS_OF_THE_PLANNER, {**sources, name: sources[name] + call})
 
 
-def loops_in(text: str) -> list:
-    loop = r"(?:^|[{;])\s*((?:for\b[^{;]*\bin\b[^{;]*|while\b[^{;]*|loop))\s*\{"
-    return [" ".join(head.split()) for head in re.findall(loop, text, re.M)]
-
-
-def test_no_loop_beside_the_calls():
+def test_no_repeat_beside_the_calls():
     """Each function that calls the system does so once, so one call is one of the count."""
-    found = {file: loops_in(text) for file, text in sources_of_the_lock().items()}
-    same({file: loops for file, loops in found.items() if loops}, LOOPS_OF_THE_LOCK, "loops")
+    sources = sources_of_the_lock()
+    loops = {file: loops_in(text) for file, text in sources.items()}
+    same({file: heads for file, heads in loops.items() if heads}, LOOPS_OF_THE_LOCK, "loops")
+    same(repeats_of_the_lock(sources), [], "what repeats")
+
+
+# Bodies that make the one load of `glance` many times, for one of the count.
+PEEK = "board.shared.peek(SERVING)"
+REPEATED = {
+    "loop": f"for _again in 0..LOOKS {{ {PEEK}; }} 0",
+    "endless": f"loop {{ {PEEK}; }}",
+    "closure": f"let looks = |_| {PEEK}; looks(1); looks(2)",
+    "closure without arguments": f"let looks = move || {PEEK}; looks(); looks()",
+    "iterator": f"(0..LOOKS).map(|_again| {PEEK}).max().unwrap_or(0)",
+    "function by name": f"{PEEK}; (0..LOOKS).for_each(drop); 0",
+    "iterator of a list": f"WORDS.iter().for_each(drop); {PEEK}",
+    "itself": f"glance(board, awake); {PEEK}",
+    "a chain": f"{PEEK}; spin(awake); 0 }} fn spin_more() {{ glance(board, awake)",
+}
+
+
+@pytest.mark.parametrize("name", REPEATED)
+def test_repeated_load_is_found(name):
+    """One `peek` stands in each body, in `glance`, so only what repeats it can tell."""
+    sources = sources_of_the_lock()
+    text = sources["sleeping.rt"].replace(PEEK, REPEATED[name])
+    assert text.count(".peek(") == 1
+    if name == "a chain":
+        text = text.replace("spin_loop();", "spin_loop(); spin_more();")
+    assert repeats_of_the_lock({**sources, "sleeping.rt": text})
+
+
+def test_load_of_a_helper_is_found():
+    """A load in a function of its own could be called twice for one of the count."""
+    sources = sources_of_the_lock()
+    text = sources["sleeping.rt"].replace(PEEK, f"peeks(); peeks() }} fn peeks() {{ {PEEK}")
+    assert not repeats_of_the_lock({**sources, "sleeping.rt": text})
+    same(calls_of_the_lock({**sources, "sleeping.rt": text}), [r"\.peek\("], "calls")
 
 
 def test_loads_are_listed():

@@ -10,7 +10,7 @@ use Rattle.bw_ticket.specs.declared.board.SlotValue.{SlotValue}
 use Rattle.bw_ticket.specs.declared.board.SeatView.{SeatView}
 use Rattle.bw_ticket.specs.declared.board.About.{About}
 use Rattle.bw_wake.specs.Progress.{one_if}
-use Rattle.bw_ticket.specs.Rule.{weigh_all, waits, is_inside}
+use Rattle.bw_ticket.specs.Rule.{is_seat, weigh_all, waits, is_inside}
 use Rattle.bw_ticket.specs.Rule.{is_done, holds}
 use Rattle.bw_ticket.specs.Rule.{Queue, Ruled}
 use Rattle.bw_ticket.specs.Plays.{entered}
@@ -19,7 +19,7 @@ use Rattle.bw_ticket.proofs.Views.{each_set}
 use Rattle.bw_ticket.proofs.Queues.{queue_turn, queue_enter}
 use Rattle.bw_ticket.proofs.OwedCounts.{read_stands, waits-holds}
 use Rattle.bw_ticket.proofs.OwedCounts.{waits-no_peek, owed_still}
-use Rattle.bw_ticket.proofs.KeptLemmas.{below, loaded, waits_only, waits_is, Fit}
+use Rattle.bw_ticket.proofs.KeptLemmas.{still_seat, busy_seat, below, loaded, waits_only, waits_is, Fit}
 
 module _ {M C R : Type 0} (after : M → ℕ → C → M) (answer : M → ℕ → C → R) (about : About M) where
   -- step enter
@@ -77,9 +77,9 @@ module _ {M C R : Type 0} (after : M → ℕ → C → M) (answer : M → ℕ �
           few = r.few;
           words = loaded s.words r.next r.serving r.wake_words r.words;
           bounded = r.bounded;
-          seats_are = let h = moved (λ x. 1) in omega (arith, r.seats_are);
+          seats_are = let h = moved is_seat in omega (arith, r.seats_are);
           calls_are = let h = moved (λ x. x.left) in omega arith;
-          numbers = λ x. let h = moved (λ y. one_if (y.number == x)) in let k = r.numbers x in
+          numbers = λ x lt. let h = moved (λ y. one_if (y.number == x)) in let k = r.numbers x lt in
               omega arith;
           inside_is = let h = moved (λ y. is_inside y.phase) in let k = free.1 in
               omega (arith, r.inside_is);
@@ -102,7 +102,7 @@ module _ {M C R : Type 0} (after : M → ℕ → C → M) (answer : M → ℕ �
               (Fit after about r.serving r.history) s.views id (q ∷ [])
               r.each (λ j v ne e h. h) (
                 record {
-                  numbered = fit.numbered;
+                  numbered = still_seat about.seats p q fit.numbered (λ i. p.number) (busy_seat p (waits-holds t p.phase is));
                   within = fit.within;
                   behind = fit.behind;
                   own = fit.own;

@@ -1,7 +1,7 @@
 -- The steps front, split and join keep the rule.
 use Rattle.std.proofs.Common.{◌≡◌, ℕ, ◌+◌, ◌≤◌, ◌==◌, List}
 use Rattle.std.proofs.Common.{[], ◌∷◌, set, slice_index}
-use Rattle.std.proofs.Common.{ap, ◌∙◌, arith}
+use Rattle.std.proofs.Common.{ap, ◌∙◌, arith, suc, ◌<◌, if◌then◌else◌, refl, sym, inr, ne_eqb}
 use mathlib.Core.Option.{some}
 use lib.ListN.{get_elem?}
 use Rattle.atomic_table.specs.Table.{State}
@@ -9,10 +9,16 @@ use Rattle.bw_ticket.specs.declared.board.SlotValue.{SlotValue}
 use Rattle.bw_ticket.specs.declared.board.SeatView.{SeatView}
 use Rattle.bw_ticket.specs.declared.board.About.{About}
 use Rattle.bw_wake.specs.Progress.{one_if}
-use Rattle.bw_ticket.specs.Rule.{weigh_all, EachView, waits, is_inside}
+use Rattle.bw_ticket.specs.Rule.{is_seat, weigh_all, EachView, waits, is_inside}
 use Rattle.bw_ticket.specs.Rule.{is_done, holds, may_sleep, will_peek}
 use Rattle.bw_ticket.specs.Rule.{Ruled}
-use Rattle.bw_ticket.specs.Plays.{seeing}
+use Rattle.bw_ticket.specs.Plays.{seeing, news}
+use Rattle.bw_ticket.specs.declared.board.Phase.{Phase}
+use Rattle.bw_ticket.specs.declared.board.Phase.TheVariants.{Idle}
+use Rattle.bw_ticket.specs.declared.limits.TheConstants.{MAX_SEATS}
+use Rattle.bw_machine.specs.declared.history.Entry.{Entry}
+use Rattle.bw_machine.specs.History.{own_from, made}
+use Rattle.std.specs.List.{All}
 use Rattle.bw_ticket.proofs.Views.{weigh_set}
 use Rattle.bw_ticket.proofs.Views.{each_set}
 use Rattle.bw_ticket.proofs.Queues.{queue_same}
@@ -47,9 +53,9 @@ module _ {M C R : Type 0} (after : M → ℕ → C → M) (answer : M → ℕ �
           few = r.few;
           words = loaded s.words r.next r.serving r.wake_words r.words;
           bounded = r.bounded;
-          seats_are = let h = moved (λ x. 1) in omega (arith, r.seats_are);
+          seats_are = let h = moved is_seat in omega (arith, r.seats_are);
           calls_are = let h = moved (λ x. x.left) in let k = r.calls_are in omega arith;
-          numbers = λ x. let h = moved (λ y. one_if (y.number == x)) in let k = r.numbers x in
+          numbers = λ x lt. let h = moved (λ y. one_if (y.number == x)) in let k = r.numbers x lt in
               omega arith;
           inside_is = let h = moved (λ y. is_inside y.phase) in omega (arith, r.inside_is);
           done_is = let h = moved (λ y. is_done y.phase) in omega (arith, r.done_is);
@@ -80,14 +86,18 @@ module _ {M C R : Type 0} (after : M → ℕ → C → M) (answer : M → ℕ �
         },
       )
 
-  -- steps split and join: the same places in other views
-  pub rearranged : (s : State (SlotValue M C R) (List (SeatView M C R)))
-      (views : List (List (SeatView M C R))) →
-      ((g : SeatView M C R → ℕ) → weigh_all g views ≡ weigh_all g s.views)
-      → ((F : SeatView M C R → Type 0) → EachView F s.views → EachView F views)
-      → Ruled after answer about s
+  -- the same seats in other lists of views, beside news of served tickets
+  pub regrouped : (s : State (SlotValue M C R) (List (SeatView M C R)))
+      (views : List (List (SeatView M C R))) (r : Ruled after answer about s)
+      → weigh_all is_seat views ≡ weigh_all is_seat s.views
+      → weigh_all (λ p. p.left) views ≡ weigh_all (λ p. p.left) s.views
+      → ((x : ℕ) → x < about.seats → weigh_all (λ p. one_if (p.number == x)) views
+      ≡ weigh_all (λ p. one_if (p.number == x)) s.views)
+      → ((g : Phase M C R → ℕ) → g Idle ≡ 0
+      → weigh_all (λ p. g p.phase) views ≡ weigh_all (λ p. g p.phase) s.views)
+      → EachView (Fit after about r.serving r.history) views
       → Ruled after answer about record { words = s.words; homes = s.homes; views = views }
-  rearranged s views same each r = record {
+  regrouped s views r seats left number same each = record {
     next = r.next;
     serving = r.serving;
     inside = r.inside;
@@ -98,23 +108,55 @@ module _ {M C R : Type 0} (after : M → ℕ → C → M) (answer : M → ℕ �
     few = r.few;
     words = r.words;
     bounded = r.bounded;
-    seats_are = same (λ x. 1) ∙ r.seats_are;
-    calls_are = let h = same (λ x. x.left) in let k = r.calls_are in omega arith;
-    numbers = λ x. let h = same (λ y. one_if (y.number == x)) in let k = r.numbers x in omega arith;
-    inside_is = same (λ y. is_inside y.phase) ∙ r.inside_is;
-    done_is = same (λ y. is_done y.phase) ∙ r.done_is;
+    seats_are = seats ∙ r.seats_are;
+    calls_are = let k = r.calls_are in omega (arith, left);
+    numbers = λ x lt. let h = number x lt in let k = r.numbers x lt in omega arith;
+    inside_is = same is_inside refl ∙ r.inside_is;
+    done_is = same is_done refl ∙ r.done_is;
     queue = queue_same (λ x. weigh_all (λ y. waits x y.phase) s.views)
         (λ x. weigh_all (λ y. waits x y.phase) views) (r.inside + r.done) r.serving r.next
         r.queue
-        (λ x. same (λ y. waits x y.phase));
-    drawn = let h = same (λ y. holds y.phase) in omega (arith, r.drawn);
-    owed = λ some_may stands. let a = same (λ y. may_sleep r.serving y.phase) in
-        let b = same (λ y. will_peek r.serving y.phase) in
+        (λ x. same (waits x) refl);
+    drawn = let h = same holds refl in omega (arith, r.drawn);
+    owed = λ some_may stands. let a = same (may_sleep r.serving) refl in
+        let b = same (will_peek r.serving) refl in
         let z = r.owed (omega arith) stands in omega arith;
     count = r.count;
     legal = r.legal;
     callers = r.callers;
-    each = each (Fit after about r.serving r.history) r.each;
+    each = each;
     home = r.home;
     away = r.away;
+  }
+
+  -- steps split and join: the same places in other views
+  pub rearranged : (s : State (SlotValue M C R) (List (SeatView M C R)))
+      (views : List (List (SeatView M C R))) →
+      ((g : SeatView M C R → ℕ) → weigh_all g views ≡ weigh_all g s.views)
+      → ((F : SeatView M C R → Type 0) → EachView F s.views → EachView F views)
+      → Ruled after answer about s
+      → Ruled after answer about record { words = s.words; homes = s.homes; views = views }
+  rearranged s views same each r = regrouped s views r (same is_seat) (same (λ x. x.left))
+      (λ x lt. same (λ y. one_if (y.number == x))) (λ g zero. same (λ y. g y.phase))
+      (each (Fit after about r.serving r.history) r.each)
+
+  -- no entry is of a number that is of no seat
+  own_of_none : (n at : ℕ) (h : List (Entry C R)) → All (λ e. e.seat < about.seats) h
+      → about.seats ≤ n → own_from at n h ≡ []
+  own_of_none n at [] all le = refl
+  own_of_none n at (e ∷ h) all le = let lt = all 0 e (omega arith) in
+      ap (λ b. if b then made e.call e.reply at ∷ own_from (at + 1) n h else own_from (at + 1) n h)
+      (ne_eqb e.seat n (λ eq. omega arith))
+      ∙ own_of_none n (at + 1) h (λ k d l. all (suc k) d (omega arith)) le
+
+  -- news of tickets that are served
+  pub news_fit : (n : ℕ) (s : State (SlotValue M C R) (List (SeatView M C R)))
+      (r : Ruled after answer about s) → n ≤ r.serving
+      → Fit after about r.serving r.history (news n)
+  news_fit n s r le = record {
+    numbered = inr (omega arith, refl, refl);
+    within = omega arith;
+    behind = le;
+    own = sym (own_of_none MAX_SEATS 0 r.history r.callers r.few);
+    acts = tt;
   }

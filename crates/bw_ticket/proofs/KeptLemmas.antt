@@ -1,8 +1,11 @@
 -- The facts on words, phases and lists that the proofs of several steps share.
 use Rattle.std.proofs.Common.{◌≡◌, ◌≢◌, ℕ, zero, suc, ◌+◌, ◌*◌, ◌^◌, ◌%◌, ◌<◌, ◌≤◌, ◌==◌, List}
 use Rattle.std.proofs.Common.{[], ◌∷◌, ◌++◌, length, drop, set, slice_index, refl, sym}
-use Rattle.std.proofs.Common.{ap, ◌∙◌, subst, arith, ⊎_elim}
+use Rattle.std.proofs.Common.{ap, ◌∙◌, subst, arith, ⊎_elim, ◌⊎◌, inl}
 use Rattle.std.proofs.lemmas.List.{length-set}
+use Rattle.std.proofs.lemmas.Bool.{ltb-false, lt-ltb}
+use Rattle.std.specs.Prelude.{nat_lt, false}
+use Rattle.bw_ticket.specs.declared.limits.TheConstants.{MAX_SEATS}
 use Rattle.std.specs.List.{All}
 use Rattle.bw_ticket.specs.declared.board.SeatView.{SeatView}
 use Rattle.bw_ticket.specs.declared.board.About.{About}
@@ -12,7 +15,7 @@ use Rattle.bw_ticket.specs.declared.board.Phase.TheVariants.{Done, Served, Owes,
 use Rattle.bw_wake.specs.Progress.{one_if}
 use Rattle.bw_ticket.specs.Rule.{waits, is_inside}
 use Rattle.bw_ticket.specs.Rule.{is_done, ticket_of, holds}
-use Rattle.bw_ticket.specs.Rule.{Acts, Fits}
+use Rattle.bw_ticket.specs.Rule.{Acts, Fits, is_seat, IsNews}
 use Rattle.bw_machine.specs.declared.history.Entry.{Entry}
 use Rattle.bw_machine.proofs.CallerLemmas.{equal_or_not}
 use Rattle.bw_ticket.proofs.OwedCounts.{same_words}
@@ -171,3 +174,33 @@ module _ {M C R : Type 0} (after : M → ℕ → C → M) (about : About M) wher
   -- what is known of one seat, as the rule has it
   abbrev pub Fit : ℕ → List (Entry C R) → SeatView M C R → Type 0
   Fit serving history = Fits after about.opening.value about.seats about.calls serving history
+
+module _ {M C R : Type 0} where
+  -- a view of a seat, or of none, that is not of none
+  pub a_seat : (seats : ℕ) (p : SeatView M C R) → (p.number < seats) ⊎ IsNews p → (IsNews p → ⊥)
+      → p.number < seats
+  a_seat seats p n busy = ⊎_elim (λ (lt : p.number < seats). lt) (λ (w : IsNews p). absurd (busy w))
+      n
+
+  -- it stays one under another phase
+  pub still_seat : (seats : ℕ) (p q : SeatView M C R) → (p.number < seats) ⊎ IsNews p
+      → p.number ≡ q.number → (IsNews p → ⊥) → (q.number < seats) ⊎ IsNews q
+  still_seat seats p q n same busy = let lt = a_seat seats p n busy in inl (omega arith)
+
+  -- one with a ticket is of a seat
+  pub busy_seat : (p : SeatView M C R) → holds p.phase ≡ 1 → IsNews p → ⊥
+  busy_seat p one w = let e = ap holds w.2 in omega arith
+
+  -- a view whose number is of no seat is of none
+  pub of_none : (seats : ℕ) (p : SeatView M C R) → seats ≤ MAX_SEATS
+      → (p.number < seats) ⊎ IsNews p → nat_lt p.number MAX_SEATS ≡ false → IsNews p
+  of_none seats p few n off = ⊎_elim
+      (λ (lt : p.number < seats). let le = ltb-false p.number MAX_SEATS off in absurd (omega arith))
+      (λ (w : IsNews p). w) n
+
+  pub news_of_none : (seats : ℕ) (p : SeatView M C R) → seats ≤ MAX_SEATS
+      → (p.number < seats) ⊎ IsNews p → is_seat p ≡ 0 → IsNews p
+  news_of_none seats p few n off = ⊎_elim
+      (λ (lt : p.number < seats). let e : is_seat p ≡ 1 =
+      ap one_if (lt-ltb p.number MAX_SEATS (omega arith)) in absurd (omega arith))
+      (λ (w : IsNews p). w) n

@@ -12,14 +12,14 @@ use Rattle.bw_ticket.specs.declared.board.About.{About}
 use Rattle.bw_ticket.specs.declared.board.Phase.{Phase}
 use Rattle.bw_ticket.specs.declared.limits.TheConstants.{MAX_SEATS}
 use Rattle.bw_wake.specs.Progress.{one_if}
-use Rattle.bw_ticket.specs.Rule.{weigh_all, waits, wake_word, is_inside}
+use Rattle.bw_ticket.specs.Rule.{is_seat, IsNews, weigh_all, waits, wake_word, is_inside}
 use Rattle.bw_ticket.specs.Rule.{is_done, holds}
 use Rattle.bw_ticket.specs.Rule.{IsOwed, Ruled}
 use Rattle.bw_ticket.specs.Plays.{placed}
 use Rattle.bw_ticket.proofs.Views.{weigh_set, weigh_at}
 use Rattle.bw_ticket.proofs.Views.{each_set}
 use Rattle.bw_ticket.proofs.Queues.{queue_turn, queue_same}
-use Rattle.bw_ticket.proofs.KeptLemmas.{acts_free, above, Alike, Shaped, room, Fit}
+use Rattle.bw_ticket.proofs.KeptLemmas.{still_seat, acts_free, above, Alike, Shaped, room, Fit}
 
 module _ {M C R : Type 0} (after : M → ℕ → C → M) (answer : M → ℕ → C → R) (about : About M) where
   -- a seat that waits has a ticket that was drawn, which is below the number of all calls
@@ -63,7 +63,7 @@ module _ {M C R : Type 0} (after : M → ℕ → C → M) (answer : M → ℕ �
   -- is alike, and a wake word may change
   pub moves : (id : ℕ) (p : SeatView M C R) (f : Phase M C R) (ws : List ℕ)
       (s : State (SlotValue M C R) (List (SeatView M C R))) →
-      get_elem? s.views id ≡ some (p ∷ []) → Alike p.phase f →
+      get_elem? s.views id ≡ some (p ∷ []) → (IsNews p → ⊥) → Alike p.phase f →
       ((a b : ℕ) → Shaped a b MAX_SEATS s.words → Shaped a b MAX_SEATS ws)
       → (r : Ruled after answer about s) → IsOwed r.serving ws (set s.views id (placed f p ∷ []))
       → Ruled after answer about record {
@@ -71,7 +71,7 @@ module _ {M C R : Type 0} (after : M → ℕ → C → M) (answer : M → ℕ �
         homes = s.homes;
         views = set s.views id (placed f p ∷ []);
       }
-  moves id p f ws s at alike shape r owed = let q = placed f p in
+  moves id p f ws s at busy alike shape r owed = let q = placed f p in
       let moved = λ (g : SeatView M C R → ℕ). weigh_set g s.views id (p ∷ []) (q ∷ []) at in
       let fit = (r.each id (p ∷ []) at).0 in
       let now = shape r.next r.serving (r.wake_words, r.words, r.one_each) in
@@ -86,9 +86,9 @@ module _ {M C R : Type 0} (after : M → ℕ → C → M) (answer : M → ℕ �
         one_each = now.2;
         few = r.few;
         bounded = r.bounded;
-        seats_are = let h = moved (λ x. 1) in omega (arith, r.seats_are);
+        seats_are = let h = moved is_seat in omega (arith, r.seats_are);
         calls_are = let h = moved (λ x. x.left) in let k = r.calls_are in omega arith;
-        numbers = λ x. let h = moved (λ y. one_if (y.number == x)) in let k = r.numbers x in
+        numbers = λ x lt. let h = moved (λ y. one_if (y.number == x)) in let k = r.numbers x lt in
             omega arith;
         inside_is = let h = moved (λ y. is_inside y.phase) in let k = alike.outside in
             omega (arith, r.inside_is, k.0, k.1);
@@ -107,7 +107,7 @@ module _ {M C R : Type 0} (after : M → ℕ → C → M) (answer : M → ℕ �
             s.views id (q ∷ [])
             r.each (λ j v ne e h. h) (
               record {
-                numbered = fit.numbered;
+                numbered = still_seat about.seats p q fit.numbered (λ i. p.number) busy;
                 within = fit.within;
                 behind = fit.behind;
                 own = fit.own;

@@ -11,7 +11,7 @@ use Rattle.bw_ticket.specs.declared.board.SeatView.{SeatView}
 use Rattle.bw_ticket.specs.declared.board.About.{About}
 use Rattle.bw_ticket.specs.declared.board.Phase.TheVariants.{Inside}
 use Rattle.bw_wake.specs.Progress.{one_if}
-use Rattle.bw_ticket.specs.Rule.{weigh_all, Each, waits, is_inside}
+use Rattle.bw_ticket.specs.Rule.{is_seat, weigh_all, Each, waits, is_inside}
 use Rattle.bw_ticket.specs.Rule.{is_done, ticket_of, holds, will_peek}
 use Rattle.bw_ticket.specs.Rule.{Queue, Stands, Acts, Ruled}
 use Rattle.bw_machine.specs.declared.history.Entry.{Entry}
@@ -23,7 +23,7 @@ use Rattle.bw_ticket.proofs.Views.{each_set, same_one}
 use Rattle.bw_ticket.proofs.Queues.{queue_turn, queue_same}
 use Rattle.bw_ticket.proofs.OwedCounts.{read_stands}
 use Rattle.bw_ticket.proofs.OwedCounts.{owed_still}
-use Rattle.bw_ticket.proofs.KeptLemmas.{all_snoc, loaded, drop_front, acts_on, room, Fit}
+use Rattle.bw_ticket.proofs.KeptLemmas.{still_seat, busy_seat, a_seat, all_snoc, loaded, drop_front, acts_on, room, Fit}
 
 module _ {M C R : Type 0} (after : M → ℕ → C → M) (answer : M → ℕ → C → R) (about : About M) where
   -- step record: z is what the seat gives home
@@ -49,6 +49,8 @@ module _ {M C R : Type 0} (after : M → ℕ → C → M) (answer : M → ℕ �
       let in_one : r.inside ≡ 1 = omega arith in
       let undone : r.done ≡ 0 = omega arith in
       let fit = (r.each id (p ∷ []) at).0 in
+      let mine_is : p.number < about.seats =
+      a_seat about.seats p fit.numbered (busy_seat p (ap holds is)) in
       let acts : (t ≡ r.serving) × Stands after about.opening.value (room about) r.history y =
       subst (Acts after about.opening.value (room about) r.serving r.history) is fit.acts in
       let e : Entry C R = entry p.number c (answer y.machine p.number c) in
@@ -73,7 +75,7 @@ module _ {M C R : Type 0} (after : M → ℕ → C → M) (answer : M → ℕ �
       ≡ some v) (h : Each (Fit after about r.serving r.history) v).
       let a = weigh_two (λ x. one_if (x.number == p.number)) s.views id j (p ∷ []) v at is_v ne in
       let b = weigh_two (λ x. is_inside x.phase) s.views id j (p ∷ []) v at is_v ne in
-      let d = r.numbers p.number in
+      let d = r.numbers p.number mine_is in
       let f = same_one p.number p.number refl in
       let apart = each_zero (λ x. one_if (x.number == p.number)) v (omega arith) in
       let outside = each_zero (λ x. is_inside x.phase) v (omega arith) in
@@ -104,9 +106,9 @@ module _ {M C R : Type 0} (after : M → ℕ → C → M) (answer : M → ℕ �
         few = r.few;
         words = loaded s.words r.next r.serving r.wake_words r.words;
         bounded = r.bounded;
-        seats_are = let h = moved (λ x. 1) in omega (arith, r.seats_are);
+        seats_are = let h = moved is_seat in omega (arith, r.seats_are);
         calls_are = let h = moved (λ x. x.left) in let k = r.calls_are in omega arith;
-        numbers = λ x. let h = moved (λ y. one_if (y.number == x)) in let k = r.numbers x in
+        numbers = λ x lt. let h = moved (λ y. one_if (y.number == x)) in let k = r.numbers x lt in
             omega arith;
         inside_is = let h = moved (λ y. is_inside y.phase) in omega arith;
         done_is = let h = moved (λ y. is_done y.phase) in let k = ap is_done is in
@@ -124,11 +126,11 @@ module _ {M C R : Type 0} (after : M → ℕ → C → M) (answer : M → ℕ �
         count = omega (arith, length-append r.history (e ∷ []), long);
         legal = legal-snoc after answer about.opening.value r.history e r.legal
             (ap (λ m. answer m p.number c) acts.1.1);
-        callers = all_snoc (λ e. e.seat < about.seats) r.history e r.callers fit.numbered;
+        callers = all_snoc (λ e. e.seat < about.seats) r.history e r.callers mine_is;
         each = each_set (Fit after about r.serving r.history) (Fit after about r.serving longer)
             s.views id (q ∷ []) r.each other (
               record {
-                numbered = fit.numbered;
+                numbered = still_seat about.seats p q fit.numbered (λ i. p.number) (busy_seat p (ap holds is));
                 within = fit.within;
                 behind = fit.behind;
                 own = own_is;

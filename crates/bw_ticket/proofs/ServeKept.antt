@@ -10,7 +10,7 @@ use Rattle.bw_ticket.specs.declared.board.SeatView.{SeatView}
 use Rattle.bw_ticket.specs.declared.board.About.{About}
 use Rattle.bw_ticket.specs.declared.board.Phase.TheVariants.{Done}
 use Rattle.bw_wake.specs.Progress.{one_if}
-use Rattle.bw_ticket.specs.Rule.{weigh_all, Each, waits, is_inside}
+use Rattle.bw_ticket.specs.Rule.{is_seat, weigh_all, Each, waits, is_inside}
 use Rattle.bw_ticket.specs.Rule.{is_done, ticket_of, holds, will_peek}
 use Rattle.bw_ticket.specs.Rule.{Queue, Acts, Ruled}
 use Rattle.bw_wake.proofs.CallerLemmas.{among_in}
@@ -19,7 +19,7 @@ use Rattle.bw_ticket.proofs.Views.{weigh_set, weigh_at, weigh_two, each_map, eac
 use Rattle.bw_ticket.proofs.Views.{each_set}
 use Rattle.bw_ticket.proofs.Queues.{queue_turn}
 use Rattle.bw_ticket.proofs.Queues.{queue_serve}
-use Rattle.bw_ticket.proofs.KeptLemmas.{raised_second, below, acts_at, room, Fit}
+use Rattle.bw_ticket.proofs.KeptLemmas.{still_seat, busy_seat, raised_second, below, acts_at, room, Fit}
 
 module _ {M C R : Type 0} (after : M → ℕ → C → M) (answer : M → ℕ → C → R) (about : About M) where
   -- step serve
@@ -87,9 +87,9 @@ module _ {M C R : Type 0} (after : M → ℕ → C → M) (answer : M → ℕ �
           few = r.few;
           words = raised_second s.words r.next r.serving r.wake_words r.words (omega arith);
           bounded = r.bounded;
-          seats_are = let h = moved (λ x. 1) in omega (arith, r.seats_are);
+          seats_are = let h = moved is_seat in omega (arith, r.seats_are);
           calls_are = let h = moved (λ x. x.left) in omega arith;
-          numbers = λ x. let h = moved (λ y. one_if (y.number == x)) in let k = r.numbers x in
+          numbers = λ x lt. let h = moved (λ y. one_if (y.number == x)) in let k = r.numbers x lt in
               omega arith;
           inside_is = let h = moved (λ y. is_inside y.phase) in let k = ap is_inside is in
               omega (arith, r.inside_is);
@@ -111,7 +111,7 @@ module _ {M C R : Type 0} (after : M → ℕ → C → M) (answer : M → ℕ �
           each = each_set (Fit after about r.serving r.history)
               (Fit after about (r.serving + 1) r.history) s.views id (q ∷ []) r.each other (
                 record {
-                  numbered = fit.numbered;
+                  numbered = still_seat about.seats p q fit.numbered (λ i. p.number) (busy_seat p (ap holds is));
                   within = fit.within;
                   behind = omega arith;
                   own = fit.own;

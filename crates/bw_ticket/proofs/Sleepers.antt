@@ -2,7 +2,7 @@
 use Rattle.std.proofs.Common.{◌≡◌, ◌≢◌, ℕ, suc, ◌+◌, ◌%◌, ◌≤◌, ◌==◌, Bool, true, false, if◌then◌else◌}
 use Rattle.std.proofs.Common.{List, [], ◌∷◌, ◌++◌, map, drop}
 use Rattle.std.proofs.Common.{length, slice_index, refl, sym, ap, ◌∙◌, subst, inl, inr, ⊎_elim}
-use Rattle.std.proofs.Common.{arith, ne_eqb, length-append}
+use Rattle.std.proofs.Common.{arith, ne_eqb, length-append, nat_lt}
 use mathlib.Core.Logic.{dite}
 use native.Mathlib.Decide.{ℕ_discrete}
 use Rattle.atomic_table.specs.Table.{State}
@@ -27,7 +27,11 @@ use Rattle.bw_ticket.specs.declared.board.Phase.TheVariants.{Idle, Waiting, Mark
 use Rattle.bw_ticket.specs.declared.board.Phase.TheVariants.{Done, Served, Owes, Found, Wakes}
 use Rattle.bw_ticket.specs.declared.limits.TheConstants.{MAX_SEATS}
 use Rattle.bw_ticket.specs.Rule.{weigh, weigh_all, waits, is_inside, is_done, holds, may_sleep}
-use Rattle.bw_ticket.specs.Rule.{will_peek, wake_word, Ruled}
+use Rattle.bw_ticket.specs.Rule.{will_peek, wake_word, Each, EachView, is_seat, Ruled}
+use Rattle.bw_ticket.proofs.Views.{each_map}
+use Rattle.bw_ticket.proofs.KeptLemmas.{Fit, of_none}
+use mathlib.Core.Option.{some}
+use lib.ListN.{get_elem?}
 use Rattle.bw_ticket.specs.Follows.{in_protocol}
 use Rattle.bw_ticket.specs.UnderWay.{phases_of, phases_in, state_with, IsThere, AreThere}
 use Rattle.bw_ticket.specs.UnderWay.{SleepersAreSeen, asleep_if_marked, NoWakeIsLostIn}
@@ -120,25 +124,48 @@ unmarked_awake ws x t gone = dite (ℕ_discrete t x)
     (ne_eqb (slice_index ws (t % length ws)) (t + 1) no))
     (λ (ne : t ≢ x). other_awake t x (slice_index ws (t % length ws) == t + 1) ne)
 
+count_if : (g : WaitPhase → ℕ) (b : Bool) (q : WaitPhase) (l : List WaitPhase) (n : ℕ) → g q ≡ n
+    → (b ≡ false → n ≡ 0) → count g (if b then q ∷ l else l) ≡ n + count g l
+count_if g true q l n e idle = omega arith
+count_if g false q l n e idle = let z = idle refl in omega arith
+
+length_if : (b : Bool) (q : WaitPhase) (l : List WaitPhase)
+    → length (if b then q ∷ l else l) ≡ one_if b + length l
+length_if true q l = omega arith
+length_if false q l = omega arith
+
 module _ {M C R : Type 0} where
+  each_any : (P : SeatView M C R → Type 0) → ((p : SeatView M C R) → P p) → (v : List (SeatView M C R)) → Each P v
+  each_any P h [] = tt
+  each_any P h (p ∷ v) = (h p, each_any P h v)
+
+  -- a view of no seat has no phase in the protocol, and counts as idle
+  abbrev AsIdle : (Phase M C R → ℕ) → SeatView M C R → Type 0
+  AsIdle f p = nat_lt p.number MAX_SEATS ≡ false → f p.phase ≡ 0
+
   count_of : (g : WaitPhase → ℕ) (f : Phase M C R → ℕ)
       → ((p : Phase M C R) → g (in_protocol p) ≡ f p) → (v : List (SeatView M C R))
-      → count g (phases_of v) ≡ weigh (λ p. f p.phase) v
-  count_of g f h [] = refl
-  count_of g f h (p ∷ v) = let a = h p.phase in let b = count_of g f h v in omega arith
+      → Each (AsIdle f) v → count g (phases_of v) ≡ weigh (λ p. f p.phase) v
+  count_of g f h [] idle = refl
+  count_of g f h (p ∷ v) idle =
+      let a = count_if g (nat_lt p.number MAX_SEATS) (in_protocol p.phase) (phases_of v)
+      (f p.phase) (h p.phase) idle.0 in let b = count_of g f h v idle.1 in omega arith
 
   count_in : (g : WaitPhase → ℕ) (f : Phase M C R → ℕ)
       → ((p : Phase M C R) → g (in_protocol p) ≡ f p) → (vs : List (List (SeatView M C R)))
-      → count g (phases_in vs) ≡ weigh_all (λ p. f p.phase) vs
-  count_in g f h [] = refl
-  count_in g f h (v ∷ vs) = let a = count-append g (phases_of v) (phases_in vs) in
-      let b = count_of g f h v in let c = count_in g f h vs in omega arith
+      → EachView (AsIdle f) vs → count g (phases_in vs) ≡ weigh_all (λ p. f p.phase) vs
+  count_in g f h [] idle = refl
+  count_in g f h (v ∷ vs) idle = let a = count-append g (phases_of v) (phases_in vs) in
+      let b = count_of g f h v (idle 0 v refl) in
+      let c = count_in g f h vs (λ j w e. idle (suc j) w e) in omega arith
 
-  length_of : (v : List (SeatView M C R)) → length (phases_of v) ≡ weigh (λ p. 1) v
+  length_of : (v : List (SeatView M C R)) → length (phases_of v) ≡ weigh is_seat v
   length_of [] = refl
-  length_of (p ∷ v) = let a = length_of v in omega arith
+  length_of (p ∷ v) =
+      let a = length_if (nat_lt p.number MAX_SEATS) (in_protocol p.phase) (phases_of v) in
+      let b = length_of v in omega arith
 
-  length_in : (vs : List (List (SeatView M C R))) → length (phases_in vs) ≡ weigh_all (λ p. 1) vs
+  length_in : (vs : List (List (SeatView M C R))) → length (phases_in vs) ≡ weigh_all is_seat vs
   length_in [] = refl
   length_in (v ∷ vs) = let a = length-append (phases_of v) (phases_in vs) in let b = length_of v in
       let c = length_in vs in omega arith
@@ -243,7 +270,7 @@ module _ {M C R : Type 0} where
       (λ (gone : slice_index ws (x % length ws) ≢ x + 1). let m =
       count-map (sleeps x) (asleep_if_marked ws) (phases_in vs) in
       let n = count_in (λ p. sleeps x (asleep_if_marked ws p)) (λ f. 0) (none_asleep ws x gone)
-      vs in let z = weigh_all-zero vs in absurd (omega arith))
+      vs (λ j v e. each_any (AsIdle (λ f. 0)) (λ p h. refl) v) in let z = weigh_all-zero vs in absurd (omega arith))
 
 not_lost : (w : WaitState) → Sound w → NoWakeIsLostIn w
 not_lost w h = record {
@@ -266,14 +293,20 @@ module _ {M C R : Type 0} (after : M → ℕ → C → M) (answer : M → ℕ �
       }
       → Sound record { next = r.next; serving = r.serving; words = r.wake_words; phases = phases }
   sound s phases r there seen =
+      let idle = λ (f : Phase M C R → ℕ) (zero_at : f Idle ≡ 0) (j : ℕ) (v : List (SeatView M C R))
+      (at : get_elem? s.views j ≡ some v).
+      each_map (Fit after about r.serving r.history) (AsIdle f) v
+      (λ p fit no. let w = of_none about.seats p r.few fit.numbered no in ap f w.2 ∙ zero_at)
+      (r.each j v at) in
       let waits_are =
       λ (x : ℕ). sym (count_there (waits_there x) (λ t. refl) (λ t. refl) (phases_in s.views) phases there)
-      ∙ count_in (waits_there x) (waits x) (waits_in x) s.views in
+      ∙ count_in (waits_there x) (waits x) (waits_in x) s.views (idle (waits x) refl) in
       let busy_are = sym (count_there busy (λ t. refl) (λ t. refl) (phases_in s.views) phases there)
       ∙ (count_in busy (λ f. is_inside f + is_done f) busy_in s.views
+      (idle (λ f. is_inside f + is_done f) refl)
       ∙ weigh_all-add (λ p. is_inside p.phase) (λ p. is_done p.phase) s.views) in
       let holds_are = sym (count_there holds_there (λ t. refl) (λ t. refl) (phases_in s.views) phases there)
-      ∙ count_in holds_there holds holds_in s.views in
+      ∙ count_in holds_there holds holds_in s.views (idle holds refl) in
       let in_one = r.inside_is in let done_one = r.done_is in
       record {
         drawn = omega (arith, holds_are, r.drawn);
@@ -289,11 +322,11 @@ module _ {M C R : Type 0} (after : M → ℕ → C → M) (answer : M → ℕ �
         peek_owed = λ some_may stands.
             let less = count_less r.serving (phases_in s.views) phases there in
             let a = count_in (may_sleep_there r.serving) (may_sleep r.serving)
-            (may_sleep_in r.serving) s.views in
+            (may_sleep_in r.serving) s.views (idle (may_sleep r.serving) refl) in
             let b = sym (count_there (will_peek_there r.serving) (λ t. refl) (λ t. refl) (phases_in s.views)
             phases there)
             ∙ count_in (will_peek_there r.serving) (will_peek r.serving) (will_peek_in r.serving)
-            s.views in
+            s.views (idle (will_peek r.serving) refl) in
             let here : slice_index s.words (wake_word r.serving) ≡ r.serving + 1 =
             ap (λ ws. slice_index ws (wake_word r.serving)) r.words
             ∙ (index_past r.next r.serving (r.serving % MAX_SEATS) r.wake_words

@@ -10,7 +10,7 @@ use Rattle.bw_ticket.specs.declared.board.SeatView.{SeatView}
 use Rattle.bw_ticket.specs.declared.board.About.{About}
 use Rattle.bw_ticket.specs.declared.board.Phase.TheVariants.{Idle}
 use Rattle.bw_wake.specs.Progress.{one_if}
-use Rattle.bw_ticket.specs.Rule.{weigh_all, waits, is_inside}
+use Rattle.bw_ticket.specs.Rule.{is_seat, IsNews, weigh_all, waits, is_inside}
 use Rattle.bw_ticket.specs.Rule.{is_done, holds, will_peek}
 use Rattle.bw_ticket.specs.Rule.{Ruled}
 use Rattle.bw_ticket.specs.Plays.{waiting}
@@ -19,7 +19,7 @@ use Rattle.bw_ticket.proofs.Views.{each_set}
 use Rattle.bw_ticket.proofs.Queues.{queue_ticket}
 use Rattle.bw_ticket.proofs.OwedCounts.{low_stands}
 use Rattle.bw_ticket.proofs.OwedCounts.{owed_still}
-use Rattle.bw_ticket.proofs.KeptLemmas.{raised_first, Fit}
+use Rattle.bw_ticket.proofs.KeptLemmas.{still_seat, raised_first, Fit}
 
 module _ {M C R : Type 0} (after : M → ℕ → C → M) (answer : M → ℕ → C → R) (about : About M) where
   -- step ticket
@@ -55,9 +55,9 @@ module _ {M C R : Type 0} (after : M → ℕ → C → M) (answer : M → ℕ �
           few = r.few;
           words = raised_first s.words r.next r.serving r.wake_words r.words (omega arith);
           bounded = r.bounded;
-          seats_are = let h = moved (λ x. 1) in omega (arith, r.seats_are);
+          seats_are = let h = moved is_seat in omega (arith, r.seats_are);
           calls_are = omega arith;
-          numbers = λ x. let h = moved (λ y. one_if (y.number == x)) in let k = r.numbers x in
+          numbers = λ x lt. let h = moved (λ y. one_if (y.number == x)) in let k = r.numbers x lt in
               omega arith;
           inside_is = let h = moved (λ y. is_inside y.phase) in let k = ap is_inside idle in
               omega (arith, r.inside_is);
@@ -82,7 +82,7 @@ module _ {M C R : Type 0} (after : M → ℕ → C → M) (answer : M → ℕ �
               (Fit after about r.serving r.history) s.views id (q ∷ [])
               r.each (λ j v ne e h. h) (
                 record {
-                  numbered = fit.numbered;
+                  numbered = still_seat about.seats p q fit.numbered (λ i. p.number) (λ (w : IsNews p). let e = w.1 in omega arith);
                   within = omega (arith, fit.within);
                   behind = fit.behind;
                   own = fit.own;

@@ -4,7 +4,8 @@
 -- is one that has looked in vain since it stored
 -- its mark, and may sleep. What is said here is said whichever of these sleep.
 use Rattle.std.specs.Prelude.{◌≡◌, ℕ, ◌+◌, ◌%◌, ◌≤◌, ◌==◌, ◌⊎◌, false, if◌then◌else◌, List, [], ◌∷◌}
-use Rattle.std.specs.Prelude.{◌++◌, map, drop, length, slice_index}
+use Rattle.std.specs.Prelude.{◌++◌, map, drop, length, slice_index, nat_lt}
+use Rattle.bw_ticket.specs.declared.limits.TheConstants.{MAX_SEATS}
 use Rattle.atomic_table.specs.Table.{State}
 use Rattle.bw_wake.specs.declared.seats.Phase.{Phase as WaitPhase}
 use Rattle.bw_wake.specs.declared.seats.Phase.TheVariants.{Waiting as PWaiting}
@@ -22,7 +23,8 @@ module _ {M C R : Type 0} where
   -- the phases in the protocol of the seats of one list of views, and of all lists
   abbrev pub phases_of : List (SeatView M C R) → List WaitPhase
   phases_of [] = []
-  phases_of (p ∷ ps) = in_protocol p.phase ∷ phases_of ps
+  phases_of (p ∷ ps) =
+      if nat_lt p.number MAX_SEATS then in_protocol p.phase ∷ phases_of ps else phases_of ps
 
   abbrev pub phases_in : List (List (SeatView M C R)) → List WaitPhase
   phases_in [] = []

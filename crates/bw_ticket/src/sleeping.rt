@@ -4,7 +4,8 @@
 //! No other file of the crate names `.park(`, `.wake_one(`, `.peek(`, `spin_loop` or `yield_now`,
 //! nor the step of a look. Each function makes its call once, and this file has no loop. So what
 //! other files do between two sleeps is counted by contract. A sleep and a wake are no steps of the
-//! table, so their arguments are asked by contract.
+//! table, so their arguments are asked by contract. [`park_on`] and [`ring`] are proved of any
+//! [`WakeWord`], whose counts only its own calls raise: so each makes its call.
 ghost use Rattle.std.specs.Prelude.{◌≡◌, ℕ, ◌+◌, ◌^◌, ◌<◌, ◌≤◌, [], ◌∷◌, map, length};
 ghost use Rattle.std.specs.Prelude.{vec_capacity, MatchBool};
 ghost use Rattle.bw_ticket.specs.declared.board.Phase.TheVariants.{Looked, Waiting, Wakes};
@@ -168,50 +169,125 @@ impl<M, C, R> Play<SlotValue<M, C, R>, View<M, C, R>> for Woken {
     ghost then = { λ _. wake_made };
 }
 
+/// A word on which threads sleep. It counts the sleeps and the wakes on it: code over any such word
+/// counts one only by making it.
+pub(crate) trait WakeWord {
+    // Whether the word exists, its index in the table, and the numbers of sleeps and of wakes.
+    ghost exists: { Self → Type 0 };
+
+    ghost index: { Self → ℕ };
+
+    ghost sleeps: { Self → ℕ };
+
+    ghost wakes: { Self → ℕ };
+
+    /// The index of the word in the table.
+    fn at(&self) -> usize
+        ensures { result ≡ index self.now };
+
+    /// Sleeps while the lower half of the word is the expected one, until a wake or for no reason.
+    fn sleep<R: Wait>(&mut self, rt: &R, expected: u32)
+        requires { exists self.old }
+        ensures { sleeps self.new ≡ sleeps self.old + 1 };
+
+    /// Rouses one that sleeps on the word, if one does.
+    fn rouse(&mut self)
+        requires { exists self.old }
+        ensures made { wakes self.new ≡ wakes self.old + 1 }
+        ensures same { index self.new ≡ index self.old };
+}
+
+/// A wake word of the lock's table.
+#[derive(Drop)]
+pub(crate) struct BoardWord<'a, M: Machine> {
+    board: &'a Board<M>,
+    word: usize,
+    sleeps: Count,
+    wakes: Count,
+}
+
+impl<'a, M: Machine> BoardWord<'a, M> {
+    pub(crate) fn of(board: &'a Board<M>, word: usize) -> BoardWord<'a, M>
+        ensures board { result.board.now ≡ board.now }
+        ensures word { result.word ≡ word }
+    {
+        BoardWord {
+            board,
+            word,
+            sleeps: Count::none(),
+            wakes: Count::none(),
+        }
+    }
+}
+
+impl<'a, M: Machine> WakeWord for BoardWord<'a, M> {
+    ghost exists = { λ w. w.word < w.board.now.shared.table_id.words };
+
+    ghost index = { λ w. w.word };
+
+    ghost sleeps = { λ w. w.sleeps.steps };
+
+    ghost wakes = { λ w. w.wakes.steps };
+
+    fn at(&self) -> usize {
+        self.word
+    }
+
+    fn sleep<R: Wait>(&mut self, rt: &R, expected: u32) {
+        self.board.shared.park(rt, self.word, expected);
+        self.sleeps = self.sleeps.one_more();
+    }
+
+    fn rouse(&mut self) {
+        self.board.shared.wake_one(self.word);
+        self.wakes = self.wakes.one_more();
+    }
+}
+
 /// A wake that was made on this wake word. Only [`ring`] makes one, and [`note_wake`] takes it.
 #[derive(Drop)]
 pub(crate) struct Rung {
     word: usize,
 }
 
-/// Sleeps on a word while its lower half is the expected one, until a wake or for no reason.
+/// Sleeps once on a word while its lower half is the expected one, until a wake or for no reason.
 ///
 /// The seat must have looked in vain since it stored its mark, and since it last slept. The word
 /// must be the wake word of its ticket, and the expected value its mark. Afterwards the counts
 /// begin anew. Premise: the
 /// system compares the word and goes to sleep in one atomic step.
-pub(crate) fn park_on<M: Machine, R: Wait>(
+pub(crate) fn park_on<M: Machine, R: Wait, W: WakeWord>(
     rt: &R,
-    board: &Board<M>,
+    word: &mut W,
     seat: &Token<M>,
-    word: usize,
     expected: u32,
     awake: &mut Awake,
 )
-    requires table { IsBoard board.now.shared.table_id }
-    requires range { word < 66 }
+    requires exists { W.exists word.old }
     requires asked { (t : ℕ) × IsSeat seat.now (Looked t) [] ×
-        (word ≡ wake_word t) × (expected ≡ t + 1) }
+        (W.index word.old ≡ wake_word t) × (expected ≡ t + 1) }
     requires seen { 0 < awake.old.looks }
+    ensures made { W.sleeps word.new ≡ W.sleeps word.old + 1 }
     ensures awake { awake.new.steps ≡ 0 }
     ensures slept { awake.new.looks ≡ 0 }
 {
-    board.shared.park(rt, word, expected);
+    word.sleep(rt, expected);
     *awake = Awake::none();
 }
 
-/// Wakes the seat that sleeps on a word, if one does.
+/// Wakes once the seat that sleeps on a word, if one does.
 ///
 /// The word must be the wake word of the ticket whose mark the caller's seat has taken. Premise:
 /// the system wakes a seat that sleeps on the word.
-pub(crate) fn ring<M: Machine>(board: &Board<M>, seat: &Token<M>, word: usize) -> Rung
-    requires table { IsBoard board.now.shared.table_id }
-    requires range { word < 66 }
-    requires asked { (t : ℕ) × (n : ℕ) × IsSeat seat.now (Wakes t n) [] × (word ≡ wake_word t) }
-    ensures { result.word ≡ word }
+pub(crate) fn ring<M: Machine, W: WakeWord>(word: &mut W, seat: &Token<M>) -> Rung
+    requires exists { W.exists word.old }
+    requires asked { (t : ℕ) × (n : ℕ) × IsSeat seat.now (Wakes t n) [] ×
+        (W.index word.old ≡ wake_word t) }
+    ensures made { W.wakes word.new ≡ W.wakes word.old + 1 }
+    ensures at { result.word ≡ W.index word.old }
 {
-    board.shared.wake_one(word);
-    Rung { word }
+    word.rouse();
+    Rung { word: word.at() }
 }
 
 /// The step woken, one load. It takes the wake that was made on the wake word of the ticket.
