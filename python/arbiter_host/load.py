@@ -132,7 +132,7 @@ def finished(options: argparse.Namespace, model: Model) -> Model:
         model.owned = replace(model.owned, scales=tuple(options.scale))
     demands.scale(model, options.scale)
     if options.strict and model.refused:
-        raise RefusedLines(model.refused)
+        raise RefusedLines("\n".join(model.refused))
     return model
 
 

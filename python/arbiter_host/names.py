@@ -169,6 +169,11 @@ def raw_name(name: str) -> str | None:
     return raw if path_name(raw, ()) == name and "/" not in raw and "\0" not in raw else None
 
 
+def path_of_folder(folder: str) -> str:
+    """The path of the group that has a folder of a host; empty for the root."""
+    return "/".join(path_name(each, ()) for each in folder.split("/") if each)
+
+
 def raw_path(path: str) -> str | None:
     """The folder whose names are those of a path; None where a name cannot be told."""
     parts = [raw_name(each) for each in path.split("/")]

@@ -10,10 +10,11 @@ from __future__ import annotations
 from collections.abc import Callable, Mapping, Sequence
 from contextlib import suppress
 from dataclasses import dataclass, field, replace
+from fractions import Fraction
 from typing import NamedTuple
 
 from arbiter import Host
-from arbiter_host import demands, names
+from arbiter_host import demands, names, units
 from arbiter_host.demands import Use
 from arbiter_host.faults import HostFault
 from arbiter_host.model import Model
@@ -36,6 +37,13 @@ class Setting(NamedTuple):
         """A fault that names the setting."""
         value = names.shown(self.value[:60])
         return HostFault(f"{names.shown(self.path)}.{self.key}={value}: {words}")
+
+    def cpu(self) -> Fraction | None:
+        """Its value in thousandths of a CPU; None where it takes the setting away."""
+        try:
+            return None if self.value in NONE else units.parse_cpu(self.value)
+        except HostFault as fault:
+            raise self.fault(fault.message) from fault
 
 
 class Range(NamedTuple):

@@ -55,6 +55,11 @@ def number_and_unit(text: str) -> tuple[Fraction, str] | None:
     return value, text.strip()[match.end():].strip()
 
 
+def whole(text: str, most: int = 9) -> int | None:
+    """The number that a text of at most so many digits is; None for any other text."""
+    return int(text) if text.isascii() and text.isdigit() and len(text) <= most else None
+
+
 def parse_cpu(text: str) -> Fraction:
     """Thousandths of a CPU, 0 to 10^12, from `250m`, `1.5`, `1.5cpu`, `40%` or `100n`."""
     parsed = number_and_unit(text)

@@ -8,7 +8,7 @@ from arbiter import Host
 from arbiter_host import demands, looks, units
 from arbiter_host.looks import OverTime, Times
 from arbiter_host.model import Model, bound_notes
-from arbiter_host.sources import tree_units
+from arbiter_host.sources import systemd
 
 
 def own_use(series: OverTime, path: str, below: Sequence[str]) -> Fraction:
@@ -55,5 +55,5 @@ def read(folders: Sequence[str], host: Host, times: Times = Times(), want: str =
     measured = {path: series.measured(path) for path in model.groups}
     demands.set_demands(model, measured, want, series.seconds)
     model.notes += [*own_notes(model, series), *slice_notes(model)]
-    model.owned = tree_units.TreeSource(model.copy(), want=want)
+    model.owned = systemd.TreeSource(model.copy(), want=want)
     return model
