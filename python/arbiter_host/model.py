@@ -86,6 +86,11 @@ class Group:
             return self.demand
         return min(self.demand, Fraction(1000 * self.tasks))
 
+    @property
+    def max_words(self) -> str:
+        """Quota and period as `cpu.max` has them."""
+        return f"{'max' if self.quota is None else self.quota} {self.period}"
+
     def limit_slices(self, slices: Slices) -> int | None:
         """The limit of the next period, in slices: the quota with what was saved up."""
         if self.quota is None:

@@ -189,8 +189,7 @@ def settings(group: Group) -> list[str]:
     if group.weight != units.DEFAULT_WEIGHT:
         lines.append(f"write {path} cpu.weight {group.weight}")
     if group.quota is not None or group.period != units.DEFAULT_PERIOD:
-        quota = "max" if group.quota is None else group.quota
-        lines.append(f"write {path} cpu.max {quota} {group.period}")
+        lines.append(f"write {path} cpu.max {group.max_words}")
     if group.burst:
         lines.append(f"write {path} cpu.max.burst {group.burst}")
     return lines
