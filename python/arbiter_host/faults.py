@@ -54,7 +54,7 @@ class NothingFound(HostFault):
 
 
 @contextmanager
-def at(place: str) -> Iterator[None]:
+def naming(place: str) -> Iterator[None]:
     """Faults of what is done here, each with the place where it was found before it."""
     try:
         yield

@@ -11,11 +11,16 @@ MAX_TEXT = 253
 MAX_BYTES = 128 << 20
 
 
+def check_size(data: bytes, name: str, most: int = MAX_BYTES) -> None:
+    """A fault where a file has more bytes than that."""
+    if len(data) > most:
+        raise HostFault(f"{name}: more than {most >> 20} MiB")
+
+
 def decoded(data: bytes, name: str, most: int = MAX_BYTES, encoding: str = "utf-8-sig",
             errors: str = "strict") -> str:
     """The text of a file of at most so many bytes; a fault names the line that is none."""
-    if len(data) > most:
-        raise HostFault(f"{name}: more than {most >> 20} MiB")
+    check_size(data, name, most)
     try:
         return data.decode(encoding, errors)
     except UnicodeDecodeError as error:

@@ -20,7 +20,7 @@ from typing import Any
 from arbiter import Host, Library
 from arbiter_host import demands, names, units
 from arbiter_host.demands import Measured, Reading
-from arbiter_host.faults import HostFault, NoHost, at
+from arbiter_host.faults import HostFault, NoHost, naming
 from arbiter_host.model import Group, Model, check_count
 from arbiter_host.names import NOWHERE, listed, shown
 from arbiter_host.sources.data import cells_of, decoded, loads, number, table, tables, text
@@ -258,11 +258,11 @@ def jobs_of(files: Mapping[str, list[File]], node: str) -> tuple[dict[str, Slurm
     aliases = {job.alias: key for key, job in jobs.items() if job.alias}
     for name, data in files["sacct"]:
         for where, row in rows_of(data, name):
-            with at(where):
+            with naming(where):
                 left += not take_row(row, jobs, aliases)
     for name, data in files["sstat"]:
         for where, row in rows_of(data, name):
-            with at(where):
+            with naming(where):
                 take_used(row, jobs)
     return jobs, left
 
