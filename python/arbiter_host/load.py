@@ -43,7 +43,8 @@ def wish_of(options: argparse.Namespace) -> Wish:
     measured = None
     if options.used:
         from arbiter_host.sources import used
-        tree, measured = used.tree_of(options) or tree, used.measured_by(options)
+        tree = options.used[0] if used.is_tree(options) else tree
+        measured = used.measured_by(options)
     return replace(host, node=options.node, kubelet="log" if weights == "log" else "linear",
                    runtime="linear" if weights == "linear" else "log", tree=tree,
                    want=options.want or "", seconds=by_options.times_of(options).interval,

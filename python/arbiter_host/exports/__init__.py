@@ -8,9 +8,9 @@ from __future__ import annotations
 import importlib
 
 from arbiter_host.atomic_files import Document
-from arbiter_host.exports.base import Draft
+from arbiter_host.exports.base import Draft, write
 
-__all__ = ["Document", "Draft", "documents"]
+__all__ = ["Document", "Draft", "documents", "write"]
 
 
 def documents(form: str, draft: Draft) -> list[Document]:

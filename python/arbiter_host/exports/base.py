@@ -1,16 +1,19 @@
-"""What all forms share: a change, the groups that differ, refusals, and files as texts."""
+"""What all forms share: a change, the groups that differ, refusals, and where files are written."""
 from __future__ import annotations
 
+import os
 from collections.abc import Callable, Iterator, Sequence
 from dataclasses import dataclass, field
 from typing import NamedTuple
 
 from arbiter import Library
 from arbiter_host import apply, load
-from arbiter_host.faults import HostFault
+from arbiter_host.atomic_files import Document, own_folder, put_all
+from arbiter_host.faults import HostFault, UsageFault
 from arbiter_host.model import Group, Model, check_settings
 from arbiter_host.names import shown
-from arbiter_host.safe_files import Root
+from arbiter_host.output import emit
+from arbiter_host.safe_files import Root, check_path, parts_of
 from arbiter_host.sources.pods import kubelets
 
 # What the first line of each file that is written holds.
@@ -32,23 +35,19 @@ class Differing(NamedTuple):
 
     @property
     def has_weight(self) -> bool:
-        """Whether the weight changes."""
         return self.before.weight != self.after.weight
 
     @property
     def has_limit(self) -> bool:
         """Whether the quota or its period changes."""
-        return ((self.before.quota, self.before.period)
-                != (self.after.quota, self.after.period))
+        return self.before.max_words != self.after.max_words
 
     @property
     def has_request(self) -> bool:
-        """Whether the request changes."""
         return self.after.request is not None and self.before.request != self.after.request
 
     @property
     def has_burst(self) -> bool:
-        """Whether the burst changes."""
         return self.before.burst != self.after.burst
 
 
@@ -85,7 +84,6 @@ class Draft:
                 if apply.settings_of(each.before) != apply.settings_of(each.after))
 
     def refuse(self, path: str, why: str) -> None:
-        """Refuses a part of the change."""
         self.refused.append(f"{shown(path)}: {why}")
 
     def check(self, form: str) -> None:
@@ -103,9 +101,9 @@ class Draft:
             return None
 
 
-def head(form: str, comment: str = "#") -> str:
+def head(form: str) -> str:
     """The first line of a file."""
-    return f"{comment} {MARK}{form}. Review it, then merge it.\n"
+    return f"# {MARK}{form}. Review it, then merge it.\n"
 
 
 def of_kubelet(draft: Draft) -> list[str]:
@@ -114,3 +112,28 @@ def of_kubelet(draft: Draft) -> list[str]:
              if kubelets(each.path) or kubelets(each.before.place)]
     return [f"{shown(path)}: kubelet owns this group, and writes its own settings again"
             " (-o kubectl changes what it writes)" for path in paths]
+
+
+def placed(to: str, documents: Sequence[Document]) -> list[Document]:
+    """The files by their whole paths. A path that is no folder is that of one file."""
+    if to.endswith("/") or os.path.isdir(to):
+        for each in documents:
+            parts_of(each.path)
+        return [Document(os.path.join(to, each.path), each.text) for each in documents]
+    if len(documents) > 1:
+        raise UsageFault(f"-o FORM={shown(to)}: {len(documents)} files are to be written: name a"
+                         " folder, with / at its end")
+    return [Document(os.path.abspath(to), each.text) for each in documents]
+
+
+def write(to: str, documents: Sequence[Document]) -> list[str]:
+    """Writes the files, and returns their paths; `-` prints one."""
+    check_path(to)
+    if to == "-" and len(documents) == 1:
+        emit(documents[0].text)
+        return []
+    files = placed(to, documents)
+    if to.endswith("/"):
+        os.close(own_folder(to.rstrip("/") or "/"))
+    put_all(files, MARK, "`apply -o`")
+    return [each.path for each in files]
