@@ -181,23 +181,17 @@ def check_count(many: int, what: str) -> None:
         raise HostFault(f"{what}: more than {MAX_GROUPS} groups with the root")
 
 
-def checked_number(value: int, least: int, most: int, what: str) -> int:
-    """A number in its range; a fault names the range."""
-    if not least <= value <= most:
-        raise HostFault(f"{what} {value}: not {least} to {most}")
-    return value
-
-
 def check_settings(group: Group) -> None:
     """A fault where a setting is out of the kernel's range."""
-    checked_number(group.weight, units.MIN_WEIGHT, units.MAX_WEIGHT, "weight")
-    checked_number(group.period, units.MIN_PERIOD, units.MAX_PERIOD, "period")
-    checked_number(group.burst, 0, units.MAX_QUOTA, "burst")
-    if group.quota is not None:
-        checked_number(group.quota, units.MIN_QUOTA, units.MAX_QUOTA, "quota")
-        if group.burst > group.quota:
-            raise HostFault(f"burst {group.burst}: above the quota {group.quota}")
-    if group.tasks is not None:
-        checked_number(group.tasks, 0, 10**9, "tasks")
+    for what, value, least, most in (
+            ("weight", group.weight, units.MIN_WEIGHT, units.MAX_WEIGHT),
+            ("period", group.period, units.MIN_PERIOD, units.MAX_PERIOD),
+            ("burst", group.burst, 0, units.MAX_QUOTA),
+            ("quota", group.quota, units.MIN_QUOTA, units.MAX_QUOTA),
+            ("tasks", group.tasks, 0, 10**9)):
+        if value is not None and not least <= value <= most:
+            raise HostFault(f"{what} {value}: not {least} to {most}")
+    if group.quota is not None and group.burst > group.quota:
+        raise HostFault(f"burst {group.burst}: above the quota {group.quota}")
     if group.demand.numerator < 0:
         raise HostFault("a demand is 0 or more")

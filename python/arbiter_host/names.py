@@ -71,17 +71,15 @@ def width(text: str) -> int:
     return len(text) if text.isascii() else sum(map(letter_width, text))
 
 
+def fitting(text: str, cells: int) -> str:
+    """The beginning of a text that takes at most so many cells."""
+    used = itertools.accumulate(map(letter_width, text))
+    return "".join(letter for letter, so_far in zip(text, used) if so_far <= cells)
+
+
 def cut(text: str, cells: int) -> str:
     """A text of at most so many cells, with an ellipsis where letters were left out."""
-    if width(text) <= cells:
-        return text
-    kept, used = [], 1
-    for letter in text:
-        used += letter_width(letter)
-        if used > cells:
-            break
-        kept.append(letter)
-    return "".join(kept) + "\u2026"
+    return text if width(text) <= cells else fitting(text, cells - 1) + "\u2026"
 
 
 def tail(path: str, cells: int) -> str:
@@ -91,13 +89,7 @@ def tail(path: str, cells: int) -> str:
     last = last_name(path)
     if width(last) + 2 > cells:
         return cut("\u2026/" + last, cells)
-    kept, used = "", 1
-    for letter in reversed(path):
-        used += letter_width(letter)
-        if used > cells:
-            break
-        kept = letter + kept
-    return "\u2026" + kept
+    return "\u2026" + fitting(path[::-1], cells - 1)[::-1]
 
 
 def padded(text: str, cells: int) -> str:
@@ -131,8 +123,7 @@ def place_text(place: str) -> str:
 def place_of(text: str) -> str:
     """The folder that `place_text` writes so; `NOWHERE` where it writes none so."""
     parts = [each if each in ("", NOWHERE) else raw_name(each) for each in text.split("/")]
-    known = [each for each in parts if each is not None]
-    return "/".join(known) if len(known) == len(parts) else NOWHERE
+    return NOWHERE if None in parts else "/".join(each or "" for each in parts)
 
 
 def shortened(name: str, mark: str) -> str:
@@ -177,8 +168,7 @@ def path_of_folder(folder: str) -> str:
 def raw_path(path: str) -> str | None:
     """The folder whose names are those of a path; None where a name cannot be told."""
     parts = [raw_name(each) for each in path.split("/")]
-    known = [each for each in parts if each is not None]
-    return "/".join(known) if len(known) == len(parts) else None
+    return None if None in parts else "/".join(each or "" for each in parts)
 
 
 def listed(words: Sequence[str], most: int = 5) -> str:

@@ -32,13 +32,11 @@ CPU_UNITS = {
     "%": Fraction(10), "u": Fraction(1, 1000), "n": Fraction(1, 10**6), "k": Fraction(10**6),
     "M": Fraction(10**9),
 }
-TIME_UNITS = {
-    "": Fraction(1), "us": Fraction(1), "usec": Fraction(1), "ns": Fraction(1, 1000),
-    "ms": Fraction(1000), "s": Fraction(10**6), "sec": Fraction(10**6), "min": Fraction(60 * 10**6),
-    "m": Fraction(60 * 10**6), "h": Fraction(3600 * 10**6), "d": Fraction(86400 * 10**6),
-    "w": Fraction(7 * 86400 * 10**6), "month": Fraction(2629800 * 10**6),
-    "y": Fraction(31557600 * 10**6),
-}
+SECOND = 10**6
+TIME_UNITS = {"ns": Fraction(1, 1000)} | {name: Fraction(usec) for name, usec in {
+    "": 1, "us": 1, "usec": 1, "ms": 1000, "s": SECOND, "sec": SECOND, "min": 60 * SECOND,
+    "m": 60 * SECOND, "h": 3600 * SECOND, "d": 86400 * SECOND, "w": 7 * 86400 * SECOND,
+    "month": 2629800 * SECOND, "y": 31557600 * SECOND}.items()}
 
 
 def number_and_unit(text: str) -> tuple[Fraction, str] | None:
@@ -104,17 +102,13 @@ class Slices:
 
     def limit(self, usec: int, own_period: int) -> int:
         """Slices that a quota or burst allows, rounded down."""
-        slices = self.limits.get((usec, own_period))
-        if slices is None:
-            slices = self.limits[usec, own_period] = self.asked_limit(usec, own_period)
-        return slices
-
-    def asked_limit(self, usec: int, own_period: int) -> int:
-        """The library's answer to `limit`."""
-        try:
-            return self.library.slices(self.host, usec, own_period)
-        except (Refused, OverflowError) as error:
-            raise HostFault(f"{usec} microseconds in {own_period}: {error}") from error
+        key = (usec, own_period)
+        if key not in self.limits:
+            try:
+                self.limits[key] = self.library.slices(self.host, usec, own_period)
+            except (Refused, OverflowError) as error:
+                raise HostFault(f"{usec} microseconds in {own_period}: {error}") from error
+        return self.limits[key]
 
     def demand(self, thousandths: Fraction) -> int:
         """Slices that a demand takes, rounded up, at most 1000000."""

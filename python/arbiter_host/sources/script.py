@@ -56,52 +56,35 @@ def head_host(lines: list[bytes]) -> Host | None:
     return None
 
 
-def words_of(line: bytes) -> list[str]:
-    """The words of a line that was not refused."""
-    return [word for word in line.decode().replace("\t", " ").split(" ") if word]
-
-
-class Noted:
-    """What the comments of a script say of its groups, which are told of each line in turn."""
-
-    def __init__(self, slices: Slices) -> None:
-        self.slices = slices
-        self.groups: dict[str, Group] = {}
-
-    def take(self, before: bytes, line: bytes) -> None:
-        """Takes a line that was not refused, and the line above it."""
-        words = words_of(line)
-        if words[0] == "mkdir":
-            path = words[1].removeprefix("./")
-            self.groups[path] = Group(path)
-            if before.startswith(b"# at "):
-                self.groups[path].place = names.place_of(before[5:].decode(errors="replace"))
-        elif words[0] == "rmdir":
-            del self.groups[words[1]]
-        else:
-            host, group = self.slices.host, self.groups[words[1]]
-            group.demand = units.thousandths_of_slices(int(words[2]), host.period_us,
-                                                       host.slice_us)
-            self.take_tasks(group, before)
-
-    def take_tasks(self, group: Group, before: bytes) -> None:
-        """Takes what the comment above a demand says of tasks, unless it is of another demand."""
-        match = TASKS.fullmatch(before.decode(errors="replace"))
-        if not match:
-            return
-        asks = units.parse_cpu(match.group(2)) if match.group(2) else group.demand
-        told = replace(group, tasks=int(match.group(1)), demand=asks)
-        if self.slices.demand(told.usable) == self.slices.demand(group.usable):
+def take_demand(group: Group, demand: int, comment: str, slices: Slices) -> None:
+    """Takes a demand in slices, and what the comment above it says of tasks, unless that is of
+    another demand."""
+    group.demand = units.thousandths_of_slices(demand, slices.host.period_us, slices.host.slice_us)
+    match = TASKS.fullmatch(comment)
+    if match:
+        asks = units.parse_cpu(match[2]) if match[2] else group.demand
+        told = replace(group, tasks=int(match[1]), demand=asks)
+        if slices.demand(told.usable) == slices.demand(group.usable):
             group.tasks, group.demand = told.tasks, told.demand
 
 
 def take_comments(model: Model, lines: list[bytes], refused: set[int], slices: Slices) -> None:
     """Takes what the comments say of the groups: their places, tasks and what they ask for."""
-    noted = Noted(slices)
-    for number, (before, line) in enumerate(zip([b"", *lines], lines), 1):
-        if NOTED.match(line) and number not in refused:
-            noted.take(before, line)
-    for path, group in noted.groups.items():
+    groups: dict[str, Group] = {}
+    for number, (above, line) in enumerate(zip([b"", *lines], lines), 1):
+        if number in refused or not NOTED.match(line):
+            continue
+        comment = above.decode(errors="replace")
+        verb, path, *amount = re.split("[ \t]+", line.decode().strip(" \t"))
+        if verb == "demand":
+            take_demand(groups[path], int(amount[0]), comment, slices)
+        elif verb == "rmdir":
+            del groups[path]
+        else:
+            path = path.removeprefix("./")
+            is_placed = comment.startswith("# at ")
+            groups[path] = Group(path, place=names.place_of(comment[5:]) if is_placed else "")
+    for path, group in groups.items():
         taken = model.groups[path]
         taken.place, taken.tasks, taken.demand = group.place, group.tasks, group.demand
 

@@ -21,7 +21,6 @@ from arbiter_host.owned import NONE, Owned, Range, Setting
 from arbiter_host.sources.wish import File, Wish
 
 NOT_SET = ("", "[not set]", "infinity", "18446744073709551615")
-SECOND = 10**6
 # A quota of systemd is a number of hundredths of a percent of one CPU.
 QUOTA = re.compile(r"([0-9]{1,9})(?:\.([0-9]{1,2}))?%")
 # Greatest quota that systemd can write, in hundredths of a percent.
@@ -80,9 +79,9 @@ def set_limit(group: Group, unit: Properties) -> None:
     if per_second is None:
         return
     period = time_of(unit, "CPUQuotaPeriodUSec") or units.DEFAULT_PERIOD
-    least = units.MIN_QUOTA * SECOND // max(per_second, 1)
+    least = units.MIN_QUOTA * units.SECOND // max(per_second, 1)
     group.period = max(min(max(least, period), units.MAX_PERIOD), units.MIN_PERIOD)
-    quota = per_second * group.period // SECOND
+    quota = per_second * group.period // units.SECOND
     group.quota = min(max(quota, units.MIN_QUOTA), units.MAX_QUOTA)
 
 
@@ -138,7 +137,7 @@ def changed_unit(unit: Properties, setting: Setting) -> dict[str, str]:
     hundredths = int(match[1]) * 100 + int((match[2] or "").ljust(2, "0")) if match else 0
     if not is_none and not 1 <= hundredths <= MOST_QUOTA:
         raise setting.fault("not a percentage of one CPU as systemd takes it, such as 150%")
-    per_second = "infinity" if is_none else f"{hundredths * SECOND // 10000}us"
+    per_second = "infinity" if is_none else f"{hundredths * units.SECOND // 10000}us"
     return {**unit, "CPUQuotaPerSecUSec": per_second}
 
 
