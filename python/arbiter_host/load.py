@@ -92,7 +92,11 @@ def model_of(options: argparse.Namespace, files: Sequence[Opened], engine: Engin
     if len(named) < len(files):
         raise HostFault(f"{names.shown(files[0][0])}: Is a directory")
     model = read_files(options, kind, named, engine.library)
-    check_known(options, named[0][0], model)
+    # (a file that is none of the kinds was taken for a script)
+    if options.kind is None and not options.strict and model.refused and not model.groups:
+        raise HostFault(f"{named[0][0]}: no source that is known (--help names them): as a script"
+                        f" it has {len(model.refused)} refused lines and no group, the first:"
+                        f" {names.shown(names.cut(model.refused[0], 200))}")
     return model
 
 
@@ -117,14 +121,6 @@ def read_files(options: argparse.Namespace, kind: str, files: Sequence[File],
         raise UsageFault(f"--used belongs to pods and containers, and not to {kind}")
     model: Model = reader.read(files, library, wish_of(options))
     return finished(options, model)
-
-
-def check_known(options: argparse.Namespace, name: str, model: Model) -> None:
-    """A fault where a file was taken for a script, and no line of it makes a group."""
-    if options.kind is None and not options.strict and model.refused and not model.groups:
-        raise HostFault(f"{name}: no source that is known (--help names them): as a script it has"
-                        f" {len(model.refused)} refused lines and no group, the first:"
-                        f" {names.shown(names.cut(model.refused[0], 200))}")
 
 
 def finished(options: argparse.Namespace, model: Model) -> Model:

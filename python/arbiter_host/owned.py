@@ -7,6 +7,7 @@ container of a pod, 1024 shares of docker for each CPU, 100 of CPUWeight of a un
 """
 from __future__ import annotations
 
+import functools
 from collections.abc import Callable, Mapping, Sequence
 from contextlib import suppress
 from dataclasses import dataclass, field, replace
@@ -81,13 +82,14 @@ class Owned:
     keys = ("request", "limit")
     noun = "container"
 
+    @functools.cached_property
     def plain(self) -> Model:
         """The model as the source makes it. It is shared, and not to be changed."""
         raise NotImplementedError
 
     def model(self) -> Model:
         """The model. Its groups stand in the same order whatever the settings are."""
-        model = replace(self.plain().copy(), owned=self)
+        model = replace(self.plain.copy(), owned=self)
         demands.scale(model, self.scales)
         return model
 
@@ -130,12 +132,12 @@ class Owned:
     @property
     def own(self) -> list[str]:
         """The groups that have settings."""
-        return [path for path in self.plain().groups if self.has(path)]
+        return [path for path in self.plain.groups if self.has(path)]
 
     def matching(self, word: str) -> set[str]:
         """The groups that a pattern means; none where it has no match."""
         with suppress(HostFault):
-            return {group.path for group in demands.matching(self.plain(), word)}
+            return {group.path for group in demands.matching(self.plain, word)}
         return set()
 
     def named(self, word: str) -> list[str]:
@@ -154,7 +156,7 @@ class Owned:
 
     def now(self, path: str) -> Amounts:
         """The request and the limit of a group; None where it has none, or is not told of one."""
-        group = self.plain().groups[path]
+        group = self.plain.groups[path]
         return Amounts(None, None if group.quota is None else 1000 * group.quota // group.period)
 
     def words(self, path: str) -> tuple[str, str]:

@@ -33,13 +33,6 @@ def bounded(file: BinaryIO) -> bytes:
     return bytes(data)
 
 
-def check_trusted(path: str, status: os.stat_result) -> None:
-    """A fault where another user may say what a file holds."""
-    if safe_files.is_of_others(status, 0o002):
-        raise HostFault(f"{names.shown(path)}: other users may change this file, and what it sets;"
-                        " nothing is changed (chown it once it is looked at)")
-
-
 def check_file(path: str, status: os.stat_result, is_plain: bool) -> None:
     """A fault where a file is no plain one but has to be, or is too long to be read."""
     is_regular = stat.S_ISREG(status.st_mode)
@@ -56,8 +49,9 @@ def opened_bytes(path: str, is_plain: bool, is_trusted: bool) -> bytes:
     flags = os.O_RDONLY | os.O_CLOEXEC | (os.O_NONBLOCK if is_plain else 0)
     with os.fdopen(os.open(path, flags), "rb") as file:
         check_file(path, os.fstat(file.fileno()), is_plain)
-        if is_trusted:
-            check_trusted(path, os.fstat(file.fileno()))
+        if is_trusted and safe_files.is_of_others(os.fstat(file.fileno()), 0o002):
+            raise HostFault(f"{names.shown(path)}: other users may change this file, and what it"
+                            " sets; nothing is changed (chown it once it is looked at)")
         return bounded(file)
 
 

@@ -10,7 +10,7 @@ from pathlib import Path
 import pytest
 from arbiter_host import apply, atomic_files, metrics, names, record
 from arbiter_host.atomic_files import Document
-from arbiter_host.exports import base
+from arbiter_host import exports
 from arbiter_host.faults import HostFault
 
 NOBODY = 65534
@@ -24,7 +24,7 @@ def closed(descriptors):
 
 
 def export(folder):
-    base.write(f"{folder}/", [Document("web.service.d/x.conf", f"# {base.MARK}dropin\n")])
+    exports.write(f"{folder}/", [Document("web.service.d/x.conf", f"# {exports.MARK}dropin\n")])
 
 
 def gauges(folder):

@@ -10,7 +10,7 @@ import yaml
 from arbiter import Library
 from arbiter_host import search, units
 from arbiter_host.atomic_files import Document
-from arbiter_host.exports.base import Differing, Draft, head
+from arbiter_host.exports import Differing, Draft, head
 from arbiter_host.names import last_name, shown
 from arbiter_host.sources.data import loads, number, table, text
 

@@ -16,7 +16,7 @@ import yaml
 
 from arbiter_host import apply, load
 from arbiter_host.atomic_files import Document
-from arbiter_host.exports.base import Differing, Draft, head
+from arbiter_host.exports import Differing, Draft, head
 from arbiter_host.exports.compose import shares_of
 from arbiter_host.faults import HostFault
 from arbiter_host.names import shown

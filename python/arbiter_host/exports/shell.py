@@ -6,7 +6,7 @@ import shlex
 
 from arbiter_host import apply
 from arbiter_host.atomic_files import Document
-from arbiter_host.exports.base import Draft, head, of_kubelet
+from arbiter_host.exports import Draft, head, of_kubelet
 from arbiter_host.names import shown
 
 BEGIN = """\

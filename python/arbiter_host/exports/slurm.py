@@ -4,7 +4,7 @@ from __future__ import annotations
 import re
 
 from arbiter_host.atomic_files import Document
-from arbiter_host.exports.base import Differing, Draft, head
+from arbiter_host.exports import Differing, Draft, head
 from arbiter_host.names import last_name
 from arbiter_host.sources import slurm
 

@@ -11,18 +11,15 @@ from arbiter_host.model import Model, bound_notes
 from arbiter_host.sources import systemd
 
 
-def own_use(series: OverTime, path: str, below: Sequence[str]) -> Fraction:
-    """What the tasks of a group with children used themselves, in thousandths of a CPU."""
-    whole, *parts = (demands.mean(demands.used(series.measured(each), series.seconds))
-                     for each in (path, *below))
-    return max(whole - sum(parts, Fraction(0)), Fraction(0))
-
-
 def own_notes(model: Model, series: OverTime) -> list[str]:
     """Notes of what the tasks of inner groups used, from half a slice on."""
     notes, host = [], model.host
     for path, below in model.children().items():
-        use = own_use(series, path, below) if below else Fraction(0)
+        if not below:
+            continue
+        whole, *parts = (demands.mean(demands.used(series.measured(each), series.seconds))
+                         for each in (path, *below))
+        use = max(whole - sum(parts, Fraction(0)), Fraction(0))
         if 2 * use * host.period_us >= 1000 * host.slice_us:
             notes.append(f"{path}: its own tasks used {units.decimal(use, 0)}m of a CPU, which is"
                          " left out")

@@ -246,14 +246,6 @@ def read_host(places: KeyLines, entry: Any) -> Host:
         return checked(host)
 
 
-def check_demands(places: KeyLines, model: Model) -> None:
-    """A fault where a group has a demand and children."""
-    for path, below in model.children().items():
-        if path != "." and below and model.groups[path].demand:
-            raise places.fault("a group with children has no demand: give the children theirs",
-                               path, "demand")
-
-
 def tables_in(places: KeyLines, entry: Any) -> tuple[Any, dict[str, Any]]:
     """The tables `host` and `groups` of a file."""
     if not isinstance(entry, dict):
@@ -281,7 +273,10 @@ def model_of(data: bytes, name: str, is_toml: bool) -> Model:
         if path in model.groups:
             raise places.fault("a group stands before the groups below it", path)
         add(places, model, group)
-    check_demands(places, model)
+    for path, below in model.children().items():
+        if path != "." and below and model.groups[path].demand:
+            raise places.fault("a group with children has no demand: give the children theirs",
+                               path, "demand")
     return model
 
 

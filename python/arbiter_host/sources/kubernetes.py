@@ -68,18 +68,6 @@ def has_ended(item: dict[str, Any]) -> bool:
     return text(item, "status", "phase") in ENDED
 
 
-def without_waiting(items: Sequence[dict[str, Any]], notes: list[str]) -> list[dict[str, Any]]:
-    """The pods of some objects. Beside pods of nodes those that wait for one are left out; a pod
-    that a file of its own describes does not wait."""
-    pods = [each for each in items if is_pod(each)]
-    placed = [each for each in pods if text(each, "spec", "nodeName")
-              or text(each, "status", "phase") != "Pending"]
-    if len(placed) == len(pods) or not any(text(each, "spec", "nodeName") for each in pods):
-        return pods
-    notes.append(f"pods that no node has yet, left out: {len(pods) - len(placed)}")
-    return placed
-
-
 def several(what: str, nodes: Iterable[str]) -> HostFault:
     """A fault where one node is meant, with the names of some."""
     few = names.few(list(map(shown, sorted(nodes))))
@@ -87,9 +75,18 @@ def several(what: str, nodes: Iterable[str]) -> HostFault:
 
 
 def pods_on(items: Sequence[dict[str, Any]], node: str, notes: list[str]) -> list[Pod]:
-    """The pods of one node that have not ended; a fault where several nodes are meant."""
-    pods = [each for each in without_waiting(items, notes)
-            if not node or text(each, "spec", "nodeName") in ("", node)]
+    """The pods of one node that have not ended; a fault where several nodes are meant.
+
+    Beside pods of nodes those that wait for one are left out. A pod that a file of its own
+    describes does not wait.
+    """
+    pods = [each for each in items if is_pod(each)]
+    placed = [each for each in pods if text(each, "spec", "nodeName")
+              or text(each, "status", "phase") != "Pending"]
+    if len(placed) < len(pods) and any(text(each, "spec", "nodeName") for each in pods):
+        notes.append(f"pods that no node has yet, left out: {len(pods) - len(placed)}")
+        pods = placed
+    pods = [each for each in pods if not node or text(each, "spec", "nodeName") in ("", node)]
     nodes = {text(each, "spec", "nodeName") for each in pods} - {""}
     if len(nodes) > 1:
         raise several(f"the pods are of {len(nodes)} nodes", nodes)
@@ -274,7 +271,7 @@ class PodSource(Measurable):
                                   for path, (place, _) in self.built[1].items() if fits[place]))
 
     def title(self, path: str) -> str:
-        return self.plain().groups[path].title
+        return self.plain.groups[path].title
 
     def part(self, path: str) -> tuple[Pod, int, Amounts]:
         """The pod of a container, its number there, and its request and limit."""

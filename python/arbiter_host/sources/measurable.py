@@ -49,6 +49,7 @@ class Measurable(Owned):
         one, two = map(self.folders_by, drivers)
         return {place: (folder, two[place]) for place, folder in one.items()}
 
+    @functools.cached_property
     def plain(self) -> Model:
         return self.built[0]
 
@@ -57,10 +58,6 @@ class Measurable(Owned):
 
     def on_host(self: S, host: Host) -> S:
         return replace(self, host=host)
-
-    def with_readings(self: S, known: Mapping[Place, Measured], seconds: Fraction) -> S:
-        """The same with what was measured in a tree of cgroups."""
-        return replace(self, known=known, seconds=seconds)
 
     def with_usage(self: S, entries: Sequence[Used], name: str) -> S:
         """The same with what others measured. What it has no container of is told."""

@@ -201,12 +201,6 @@ def amounts_of(resources: dict[str, Any], where: str, notes: list[str]) -> Amoun
     return Amounts(limit if request is None else request, limit)
 
 
-def identifier_of(status: dict[str, Any]) -> str:
-    """The runtime's identifier of a container, as the names of groups have it."""
-    kind, _, identifier = text(status, "containerID").partition("://")
-    return SCOPES.get(kind, "") + identifier if identifier else ""
-
-
 def containers_of(pod: dict[str, Any], where: str, notes: list[str]) -> tuple[Container, ...]:
     """All containers of a pod: init containers first, in order.
 
@@ -221,12 +215,13 @@ def containers_of(pod: dict[str, Any], where: str, notes: list[str]) -> tuple[Co
             is_sidecar = is_init and text(each, "restartPolicy") == "Always"
             known = status.get(name, {})
             state = table(known, "state")
+            runtime, _, identifier = text(known, "containerID").partition("://")
             has_failed = bool(below(state, "terminated", "exitCode"))
             is_done = policy == "Never" or policy == "OnFailure" and not has_failed
             containers.append(Container(
                 name, amounts_of(table(each, "resources"), f"{where}/{name}", notes),
-                identifier_of(known), is_init, is_sidecar, "running" in state,
-                "terminated" in state and is_done and not is_sidecar))
+                identifier and SCOPES.get(runtime, "") + identifier, is_init, is_sidecar,
+                "running" in state, "terminated" in state and is_done and not is_sidecar))
     return tuple(containers)
 
 

@@ -171,14 +171,6 @@ class Units(Owned):
 
     noun, keys = "unit", ("CPUWeight", "CPUQuota")
 
-    @functools.cached_property
-    def built(self) -> Model:
-        """The model, which is shared."""
-        raise NotImplementedError
-
-    def plain(self) -> Model:
-        return self.built
-
     def seen(self) -> dict[str, Use]:
         """The demand of each unit without groups below it, where that is what it used."""
         if self.want not in demands.OF_USE:
@@ -189,8 +181,8 @@ class Units(Owned):
                 if group.demand and not below[path] and self.has(path)}
 
     def ranges(self, path: str) -> list[Range]:
-        group = self.built.groups[path]
-        return ranges_of(str(group.weight), group, self.built.host)
+        group = self.plain.groups[path]
+        return ranges_of(str(group.weight), group, self.plain.host)
 
     def words(self, path: str) -> tuple[str, str]:
         """The weight and the quota of its group."""
@@ -215,7 +207,7 @@ class UnitSource(Units):
     has_left_out: bool = False
 
     @functools.cached_property
-    def built(self) -> Model:
+    def plain(self) -> Model:
         model, measured = Model(checked(self.host)), {}
         # Each stands after those above it, siblings by name.
         for path in sorted(self.properties, key=lambda path: path.split("/")):
@@ -260,7 +252,7 @@ class TreeSource(Units):
     settings_since: tuple[Setting, ...] = ()
 
     @functools.cached_property
-    def built(self) -> Model:
+    def plain(self) -> Model:
         after = self.tree.copy()
         for setting in self.settings_since:
             group = after.groups[setting.path]

@@ -9,6 +9,7 @@ import argparse
 import functools
 import os
 from collections.abc import Callable, Sequence
+from dataclasses import replace
 from fractions import Fraction
 
 from arbiter_host import demands, looks, options as table, plain_files, units
@@ -147,7 +148,8 @@ def measured_by(options: argparse.Namespace) -> Callable[[Measurable], Owned]:
         if not is_tree(options):
             return source.with_usage(entries(options), name(options))
         times = by_options.times_of(options)
-        return source.with_readings(*looks.measured_at(options.used, times, source.folders()))
+        known, seconds = looks.measured_at(options.used, times, source.folders())
+        return replace(source, known=known, seconds=seconds)
 
     return measured
 
