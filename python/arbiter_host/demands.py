@@ -142,23 +142,17 @@ def wanted(want: str, group: Group, measured: Measured, host: Host,
     return {"usage": mean(values), "peak": max(values), "p95": percentile(values, 95)}[want]
 
 
-def note_idle(leaves: Sequence[str], measured: dict[str, Measured], model: Model) -> None:
-    """Tells how many groups are not busy, since they have no task.
+def set_demands(model: Model, measured: dict[str, Measured], want: str, seconds: Fraction) -> None:
+    """Sets the demand of each group without children.
 
     A group that is known to request nothing, as a pause container, is not meant to be busy.
     """
-    known = [measured[path] for path in leaves if path in measured]
-    idle = sum(each.tasks == 0 and each.request is None for each in known)
-    if idle:
+    leaves = [path for path, below in model.children().items() if path != "." and not below]
+    idle = sum(each.tasks == 0 and each.request is None
+               for each in (measured[path] for path in leaves if path in measured))
+    if want == "busy" and idle:
         model.notes.append(f"groups without a task, which ask for nothing: {idle} of {len(leaves)}"
                            " (--want busy)")
-
-
-def set_demands(model: Model, measured: dict[str, Measured], want: str, seconds: Fraction) -> None:
-    """Sets the demand of each group without children."""
-    leaves = [path for path, below in model.children().items() if path != "." and not below]
-    if want == "busy":
-        note_idle(leaves, measured, model)
     for path in leaves:
         group, counters = model.groups[path], measured.get(path, Measured())
         group.request = counters.request

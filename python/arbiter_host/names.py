@@ -97,11 +97,6 @@ def padded(text: str, cells: int) -> str:
     return text + " " * max(cells - width(text), 0)
 
 
-def escaped_bytes(letter: str) -> str:
-    """A letter as %XX of each byte; one that stands for a byte that is no UTF-8 is that byte."""
-    return "".join(f"%{byte:02X}" for byte in letter.encode("utf-8", "surrogateescape"))
-
-
 def in_path(raw: str) -> str:
     """A name with %XX for what a path of a script or a terminal cannot hold, and for `%`."""
     if raw.isascii() and raw.isprintable() and not RESERVED.search(raw):
@@ -110,9 +105,10 @@ def in_path(raw: str) -> str:
         data = os.fsencode(raw)
     except UnicodeEncodeError:
         data = raw.encode("utf-8", "replace")
+    # A letter that stands for a byte that is no UTF-8 is that byte.
     letters = data.decode("utf-8", "surrogateescape")
-    return "".join(escaped_bytes(each) if is_raw(each) or RESERVED.match(each) else each
-                   for each in letters)
+    return "".join("".join(f"%{byte:02X}" for byte in each.encode("utf-8", "surrogateescape"))
+                   if is_raw(each) or RESERVED.match(each) else each for each in letters)
 
 
 def place_text(place: str) -> str:

@@ -20,14 +20,10 @@ LABELS = "com.docker.compose."
 
 def by_group(draft: Draft) -> dict[str, dict[str, Any]]:
     """The containers of the files, by the names of their groups."""
-    containers = {}
-    for name, data in draft.files:
-        entries = loads(data or b"[]", shown(name))
-        for each in entries if isinstance(entries, list) else [entries]:
-            identifier = text(each, "Id")
-            for scope in (identifier, f"docker-{identifier}.scope", f"libpod-{identifier}.scope"):
-                containers[scope] = each
-    return containers
+    files = [loads(data or b"[]", shown(name)) for name, data in draft.files]
+    return {f"{begin}{text(each, 'Id')}{end}": each for entries in files
+            for each in (entries if isinstance(entries, list) else [entries])
+            for begin, end in (("", ""), ("docker-", ".scope"), ("libpod-", ".scope"))}
 
 
 def shares_of(library: Library, weight: int, conversion: str) -> int | None:

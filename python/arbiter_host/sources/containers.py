@@ -81,12 +81,6 @@ def is_running(container: Inspected) -> bool:
     return below(container, "State", "Running") is not False
 
 
-def is_paused(container: Inspected) -> bool:
-    """Whether the tasks of a container are frozen."""
-    state = table(container, "State")
-    return state.get("Paused") is True or text(state, "Status") == "paused"
-
-
 def config_with(container: Inspected, setting: Setting, host: Host) -> Inspected:
     """The HostConfig of a container with `--cpus` or `--cpu-shares` as docker takes them."""
     config = table(container, "HostConfig")
@@ -143,8 +137,9 @@ class ContainerSource(Measurable):
         measured = {path: Measured() for path in model.groups}
         measured |= {path: self.known.get(place, Measured()) for path, place in places.items()}
         demands.set_demands(model, measured, want, self.seconds)
-        demands.stop(model, [path for path, each in zip(paths, self.running) if is_paused(each)],
-                     "paused")
+        demands.stop(model, [path for path, each in zip(paths, self.running)
+                             if below(each, "State", "Paused") is True
+                             or text(each, "State", "Status") == "paused"], "paused")
         return model, places
 
     def add(self, model: Model, container: Inspected, taken: dict[str, set[str]]) -> str:
@@ -180,19 +175,16 @@ class ContainerSource(Measurable):
 
     def places_of(self, entry: Used) -> Sequence[Place]:
         """The container of an identifier, else of a name."""
-        place = self.by_id.get(entry.identifier[:SHORT_ID]) if entry.identifier else None
-        place = self.by_name.get(entry.container) if place is None else place
-        return [] if place is None else [place]
+        by_id, by_name = self.by_word
+        place = by_id.get(entry.identifier[:SHORT_ID]) if entry.identifier else None
+        place = by_name.get(entry.container) if place is None else place
+        return [] if place is None else [(place, 0)]
 
     @functools.cached_property
-    def by_name(self) -> dict[str, Place]:
-        """The containers by their names."""
-        return {text(each, "Name").strip("/"): (at, 0) for at, each in enumerate(self.running)}
-
-    @functools.cached_property
-    def by_id(self) -> dict[str, Place]:
-        """The containers by their identifiers, as docker prints them."""
-        return {text(each, "Id")[:SHORT_ID]: (at, 0) for at, each in enumerate(self.running)}
+    def by_word(self) -> tuple[dict[str, int], dict[str, int]]:
+        """The containers by their identifiers, as docker prints them, and by their names."""
+        return ({text(each, "Id")[:SHORT_ID]: at for at, each in enumerate(self.running)},
+                {text(each, "Name").strip("/"): at for at, each in enumerate(self.running)})
 
     def changed(self, settings: Sequence[Setting]) -> ContainerSource:
         running = list(self.running)

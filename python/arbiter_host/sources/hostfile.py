@@ -10,6 +10,7 @@
 """
 from __future__ import annotations
 
+import itertools
 import json
 import re
 import tomllib
@@ -78,14 +79,6 @@ def names_alone(text: str) -> str:
     return TOKENS.sub(blank, text)
 
 
-def is_name(name: str) -> bool:
-    """Whether a name is at most 255 bytes of UTF-8."""
-    try:
-        return len(name.encode()) <= names.MAX_NAME
-    except UnicodeEncodeError:
-        return False
-
-
 def is_head(line: str, path: str) -> bool:
     """Whether a line begins a group or a table of a name."""
     bare = re.escape(path)
@@ -95,10 +88,12 @@ def is_head(line: str, path: str) -> bool:
 
 
 def parsed(text: str, name: str, is_toml: bool) -> Any:
-    """The data of a file."""
+    """The data of a file. Names of TOML with more parts than can be read in time are refused."""
+    dots = itertools.accumulate(line.count(".") ** 2 for line in text.split("\n"))
+    number = next((at for at, total in enumerate(dots, 1) if total > MAX_DOTS), 0)
+    if is_toml and number:
+        raise HostFault(f"{name}:{number}: too many names with dots")
     try:
-        if is_toml:
-            check_dots(text, name)
         return tomllib.loads(text) if is_toml else json.loads(text)
     except tomllib.TOMLDecodeError as error:
         match = re.search(r"\(at line (\d+)", str(error))
@@ -109,15 +104,6 @@ def parsed(text: str, name: str, is_toml: bool) -> Any:
     except (RecursionError, ValueError, TypeError, OverflowError) as error:
         kind = "TOML" if is_toml else "JSON"
         raise HostFault(f"{name}:1: cannot be read as {kind}: {names.shown(str(error))}") from error
-
-
-def check_dots(text: str, name: str) -> None:
-    """A fault where the names of TOML have more parts than can be read in time."""
-    total = 0
-    for number, line in enumerate(text.split("\n"), 1):
-        total += line.count(".") ** 2
-        if total > MAX_DOTS:
-            raise HostFault(f"{name}:{number}: too many names with dots")
 
 
 def text_of(value: Any) -> str:
@@ -218,7 +204,9 @@ def check_path(places: KeyLines, path: Any) -> str:
     for name in path.split("/"):
         if name in ("", ".", "..") or re.search(r"[ \t\n\0]", name):
             raise places.fault("a path is names joined by /, without blanks", path)
-        if not is_name(name):
+        # (half a pair of surrogates, which JSON can hold, has no bytes)
+        is_text = name.encode(errors="replace").decode() == name
+        if not is_text or len(name.encode()) > names.MAX_NAME:
             raise places.fault("a name is 1 to 255 bytes of UTF-8", path)
     return path
 

@@ -311,10 +311,6 @@ class PodSource(Measurable):
             if why:
                 where = f"{pods[place].title}/{pods[place].parts[number].name}"
                 raise HostFault(f"{shown(where)}: {why}, which Kubernetes refuses")
-        return replace(self, pods=tuple(pods), notes=(*self.notes, *self.told(pods)))
-
-    def told(self, pods: Sequence[Pod]) -> list[str]:
-        """What other pods than those that were read are to be told."""
         notes = [f"{now.title}: {now.quality} and no more {was.quality}: its class is that of a pod"
                  " that is made anew" for was, now in zip(self.pods, pods)
                  if was.quality != now.quality]
@@ -322,7 +318,7 @@ class PodSource(Measurable):
         if self.allocatable is not None and asked > max(self.allocatable, requested_by(self.pods)):
             notes.append(f"the pods request {asked}m of the {self.allocatable}m that the node has"
                          " for them: the scheduler puts no such pods there")
-        return notes
+        return replace(self, pods=tuple(pods), notes=(*self.notes, *notes))
 
     def ranges(self, path: str) -> list[Range]:
         amounts = self.now(path)

@@ -31,11 +31,6 @@ def is_toml(path: str, data: bytes) -> bool:
     return path.endswith(".toml") or bool(re.match(rb"\[[A-Za-z]", data.lstrip(BLANK)))
 
 
-def part_of_pods(data: bytes) -> str:
-    """`pods`, or `node` for a file of nodes alone."""
-    return "node" if set(PARTS.findall(data)) == {b"Node"} else "pods"
-
-
 def part_of_jobs(data: bytes) -> str:
     """Which of Slurm's files this is: `jobs`, `nodes`, `sacct`, `sstat` or `accounts`; empty for
     none of these."""
@@ -83,7 +78,8 @@ READERS = {
         "What `docker inspect` or `podman inspect` prints.", is_measured=True, is_here=True),
     "kubernetes": SourceKind(
         "kubernetes", lambda _, data: is_json(data) and bool(OBJECTS.search(data)),
-        "What `kubectl get pods -o json` prints, and a node's JSON beside it.", part_of_pods, True),
+        "What `kubectl get pods -o json` prints, and a node's JSON beside it.",
+        lambda data: "node" if set(PARTS.findall(data)) == {b"Node"} else "pods", True),
     "json": SourceKind("hostfile", lambda _, data: is_json(data), "The same in JSON."),
     "systemd": SourceKind(
         "systemd", lambda _, data: bool(UNITS.search(data)),

@@ -165,26 +165,20 @@ def model_of(data: bytes, name: str, library: Library, host: Host | None = None)
     return model
 
 
-def settings(group: Group) -> list[str]:
-    """The lines that make one group. The burst stands after the quota that bounds it."""
-    path = group.path
-    lines = [f"mkdir {path}"]
+def made(group: Group) -> list[str]:
+    """The lines that make one group, with comments of what a script has no command for. The burst
+    stands after the quota that bounds it."""
+    path, is_below = group.path, not group.place.startswith("/")
+    lines = [f"# {names.shown(path)} is {names.shown(group.title)}"] if group.title else []
+    if is_below and group.place not in ("", names.raw_path(path)):
+        lines.append(f"# at {names.place_text(group.place)}")
+    lines.append(f"mkdir {path}")
     if group.weight != units.DEFAULT_WEIGHT:
         lines.append(f"write {path} cpu.weight {group.weight}")
     if group.quota is not None or group.period != units.DEFAULT_PERIOD:
         lines.append(f"write {path} cpu.max {group.max_words}")
     if group.burst:
         lines.append(f"write {path} cpu.max.burst {group.burst}")
-    return lines
-
-
-def comments(group: Group) -> list[str]:
-    """Lines that say what a script has no command for."""
-    lines = []
-    if group.title:
-        lines.append(f"# {names.shown(group.path)} is {names.shown(group.title)}")
-    if not group.place.startswith("/") and group.place not in ("", names.raw_path(group.path)):
-        lines.append(f"# at {names.place_text(group.place)}")
     return lines
 
 
@@ -202,7 +196,7 @@ def write(model: Model, library: Library) -> str:
     slices = Slices(library, model.host)
     lines = [head_line(model.host), *(f"# ! {names.shown(note)}" for note in model.notes)]
     for group in model.groups.values():
-        lines += [*comments(group), *settings(group)]
+        lines += made(group)
     for group in model.groups.values():
         lines += demanded(group, slices.demand(group.usable))
     return "".join(f"{line}\n" for line in lines)

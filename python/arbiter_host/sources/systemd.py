@@ -151,16 +151,6 @@ def percent(hundredths: Fraction) -> str:
     return f"{units.decimal(hundredths / 100, 2)}%"
 
 
-def ranges_of(weight: str, group: Group, host: Host) -> list[Range]:
-    """The weights and the quotas that can be asked for of a unit's group, and its weight now."""
-    most = 10000 * host.processors
-    quota = "-" if group.quota is None else percent(Fraction(10000 * group.quota, group.period))
-    return [Range("CPUWeight", weight, [(units.MIN_WEIGHT, units.MAX_WEIGHT)], str,
-                  f"{units.MAX_WEIGHT} is the greatest"),
-            Range("CPUQuota", quota, [(1, most)], lambda each: percent(Fraction(each)),
-                  f"{percent(Fraction(most))} are all CPUs")]
-
-
 @dataclass(frozen=True)
 class Units(Owned):
     """Units of systemd, as it prints them or in a tree of cgroups. `CPUWeight=` and `CPUQuota=` of
@@ -181,8 +171,13 @@ class Units(Owned):
                 if group.demand and not below[path] and self.has(path)}
 
     def ranges(self, path: str) -> list[Range]:
-        group = self.plain.groups[path]
-        return ranges_of(str(group.weight), group, self.plain.host)
+        group, most = self.plain.groups[path], 10000 * self.plain.host.processors
+        limit = None if group.quota is None else Fraction(10000 * group.quota, group.period)
+        return [Range("CPUWeight", str(group.weight), [(units.MIN_WEIGHT, units.MAX_WEIGHT)], str,
+                      f"{units.MAX_WEIGHT} is the greatest"),
+                Range("CPUQuota", "-" if limit is None else percent(limit), [(1, most)],
+                      lambda each: percent(Fraction(each)),
+                      f"{percent(Fraction(most))} are all CPUs")]
 
     def words(self, path: str) -> tuple[str, str]:
         """The weight and the quota of its group."""
