@@ -82,9 +82,8 @@ class Group:
     @property
     def usable(self) -> Fraction:
         """The demand that its tasks can use, in thousandths of a CPU."""
-        if self.tasks is None:
-            return self.demand
-        return min(self.demand, Fraction(1000 * self.tasks))
+        most = self.demand if self.tasks is None else Fraction(1000 * self.tasks)
+        return min(self.demand, most)
 
     @property
     def max_words(self) -> str:
@@ -147,18 +146,14 @@ class Model:
         place, rows = {"": 0}, [Row(None, units.DEFAULT_WEIGHT, None, 0)]
         for path, group in self.groups.items():
             place[path] = len(rows)
-            limit = None if group.quota is None else group.limit_slices(slices)
-            rows.append(Row(place[path.rpartition("/")[0]], group.weight, limit,
-                            slices.demand(group.usable)))
+            rows.append(Row(place[path.rpartition("/")[0]], group.weight,
+                            group.limit_slices(slices), slices.demand(group.usable)))
         return rows
 
     def with_host(self, host: Host) -> Model:
         """The same groups on another host. What was saved up is kept in time, rounded down."""
-        before = self.host
-        groups = {}
-        for path, group in self.groups.items():
-            saved = group.saved * before.slice_us // host.slice_us
-            groups[path] = replace(group, saved=saved)
+        groups = {path: replace(group, saved=group.saved * self.host.slice_us // host.slice_us)
+                  for path, group in self.groups.items()}
         return replace(self, host=host, groups=groups)
 
     def copy(self) -> Model:
@@ -169,10 +164,8 @@ class Model:
 
 def bound_notes(paths: Sequence[str]) -> list[str]:
     """What is told of groups that keep to CPUs of their own; nothing of none."""
-    if not paths:
-        return []
     return [f"bound to CPUs: {names.listed(paths)}: each keeps to its own CPUs, so what others"
-            " leave idle does not reach it"]
+            " leave idle does not reach it"] if paths else []
 
 
 def check_count(many: int, what: str) -> None:

@@ -25,10 +25,7 @@ def bounded(file: BinaryIO) -> bytes:
     """The bytes of a file, at most one more than `MAX_FILE`. A `read` takes the memory that it may
     need first, so pieces are read."""
     data = bytearray()
-    while len(data) <= MAX_FILE:
-        piece = file.read(min(PIECE, MAX_FILE + 1 - len(data)))
-        if not piece:
-            break
+    while piece := file.read(min(PIECE, MAX_FILE + 1 - len(data))):
         data += piece
     return bytes(data)
 

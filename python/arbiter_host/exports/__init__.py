@@ -108,10 +108,9 @@ def head(form: str) -> str:
 
 def of_kubelet(draft: Draft) -> list[str]:
     """The groups that change and that kubelet writes again, in words."""
-    paths = [each.path for each in draft.groups()
-             if kubelets(each.path) or kubelets(each.before.place)]
-    return [f"{shown(path)}: kubelet owns this group, and writes its own settings again"
-            " (-o kubectl changes what it writes)" for path in paths]
+    return [f"{shown(each.path)}: kubelet owns this group, and writes its own settings again"
+            " (-o kubectl changes what it writes)" for each in draft.groups()
+            if kubelets(each.path) or kubelets(each.before.place)]
 
 
 def documents(form: str, draft: Draft) -> list[Document]:

@@ -18,7 +18,7 @@ from arbiter_host import apply, load
 from arbiter_host.atomic_files import Document
 from arbiter_host.exports import Differing, Draft, head
 from arbiter_host.exports.compose import shares_of
-from arbiter_host.faults import HostFault
+from arbiter_host.faults import naming
 from arbiter_host.names import shown
 from arbiter_host.sources.data import loads, table, tables, text
 from arbiter_host.sources.kubernetes import is_pod, items_of
@@ -216,10 +216,8 @@ def document(target: Target, rows: Rows, words: Sequence[str]) -> Document:
 
 def documents(draft: Draft) -> list[Document]:
     """A patch of each owner, or of a pod without one."""
-    try:
+    with naming("-o kubectl is for pods"):
         pods = Pods(draft.files)
-    except HostFault as fault:
-        raise HostFault(f"-o kubectl is for pods: {fault.message}") from fault
     patches: dict[Target, Rows] = {}
     words: dict[Target, list[str]] = {}
     for group in paired(draft):
