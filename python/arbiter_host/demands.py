@@ -20,10 +20,8 @@ MOST_PRESSURE = Fraction(19, 20)
 
 
 class Reading(NamedTuple):
-    """Counters of one group at one time; None where the file or the key is missing.
-
-    `usage` and `pressure` are microseconds, `pressure` the time in which some task waited.
-    """
+    """Counters of one group at one time; None where the file or the key is missing. `usage` and
+    `pressure` are microseconds, `pressure` the time in which some task waited."""
 
     usage: int | None = None
     periods: int | None = None
@@ -143,10 +141,8 @@ def wanted(want: str, group: Group, measured: Measured, host: Host,
 
 
 def set_demands(model: Model, measured: dict[str, Measured], want: str, seconds: Fraction) -> None:
-    """Sets the demand of each group without children.
-
-    A group that is known to request nothing, as a pause container, is not meant to be busy.
-    """
+    """Sets the demand of each group without children. A group that is known to request nothing, as
+    a pause container, is not meant to be busy."""
     leaves = [path for path, below in model.children().items() if path != "." and not below]
     idle = sum(each.tasks == 0 and each.request is None
                for each in (measured[path] for path in leaves if path in measured))

@@ -129,10 +129,8 @@ def shortened(name: str, mark: str) -> str:
 
 
 def path_name(raw: str, taken: Container[str]) -> str:
-    """A name that a path of a script can hold, unlike those taken. `raw_name` reads it back.
-
-    A name that is too long or taken is marked: which group it is cannot be told.
-    """
+    """A name that a path of a script can hold, unlike those taken. `raw_name` reads it back. A name
+    that is too long or taken is marked: which group it is cannot be told."""
     name = in_path(raw)
     if name in ("", ".", ".."):
         name = "%" + name

@@ -48,10 +48,8 @@ class Setting(NamedTuple):
 
 
 class Range(NamedTuple):
-    """The values of a setting that can be asked for, as whole numbers.
-
-    In each part, from its first number to its last, a greater number takes nothing from the group.
-    """
+    """The values of a setting that can be asked for, as whole numbers. In each part, from its first
+    number to its last, a greater number takes nothing from the group."""
 
     key: str
     # What the setting is now, as it is written.

@@ -86,10 +86,8 @@ def parse_time(text: str) -> int:
 
 
 class Slices:
-    """Slices of one period of a host, by the library's calls, each of which is made once.
-
-    A conversion depends on no number of CPUs, so that hosts of more than 64 have them too.
-    """
+    """Slices of one period of a host, by the library's calls, each of which is made once. A
+    conversion depends on no number of CPUs, so that hosts of more than 64 have them too."""
 
     def __init__(self, library: Library, host: Host) -> None:
         self.library, self.host = library, Host(1, host.period_us, host.slice_us)
@@ -119,10 +117,8 @@ class Slices:
         return slices
 
     def asked_demand(self, thousandths: int, parts: int) -> int:
-        """Slices that so many parts of a thousandth take.
-
-        The library takes whole thousandths. A part of one is rounded up here.
-        """
+        """Slices that so many parts of a thousandth take. The library takes whole thousandths. A
+        part of one is rounded up here."""
         if parts > 1:
             whole = 1000 * self.host.slice_us * parts
             return min(-(-thousandths * self.host.period_us // whole), MAX_DEMAND)

@@ -126,10 +126,8 @@ class Pod:
         return Amounts(limit if request is None else request, limit)
 
     def with_amounts(self, place: int, amounts: Amounts) -> Pod:
-        """The pod with other amounts of one container.
-
-        What the status tells of its class holds where the rule gives the same class as before.
-        """
+        """The pod with other amounts of one container. What the status tells of its class holds
+        where the rule gives the same class as before."""
         parts = (*self.parts[:place], replace(self.parts[place], amounts=amounts),
                  *self.parts[place + 1:])
         after = replace(self, parts=parts)
@@ -202,10 +200,8 @@ def amounts_of(resources: dict[str, Any], where: str, notes: list[str]) -> Amoun
 
 
 def containers_of(pod: dict[str, Any], where: str, notes: list[str]) -> tuple[Container, ...]:
-    """All containers of a pod: init containers first, in order.
-
-    One that has ended is not begun again by the policy `Never`, nor by `OnFailure` after a success.
-    """
+    """All containers of a pod: init containers first, in order. One that has ended is not begun
+    again by the policy `Never`, nor by `OnFailure` after a success."""
     containers, policy = [], text(pod, "spec", "restartPolicy")
     for key, statuses in (("initContainers", "initContainerStatuses"),
                           ("containers", "containerStatuses")):

@@ -161,10 +161,8 @@ def column_of(labels: Mapping[str, str], url: str) -> str:
 
 
 def told_apart(labels: Sequence[Mapping[str, str]]) -> set[str]:
-    """The labels in which series of one name differ so that they may be the same use twice.
-
-    Parts of a use differ in `PARTS`. Where each has an `id` of its own, a container was made anew.
-    """
+    """The labels in which series of one name differ so that they may be the same use twice. Parts
+    of a use differ in `PARTS`. Where each has an `id` of its own, a container was made anew."""
     if len({tuple(sorted(each.items())) for each in labels}) < len(labels):
         return {"nothing"}
     keys = {key for each in labels for key in each}

@@ -152,10 +152,8 @@ def check_names(groups: Sequence[str], where: str) -> None:
 
 
 def read_csv(data: bytes, name: str, first: int = 0) -> History:
-    """The samples of a CSV: groups in the first row, a number for each in every other.
-
-    Samples without a time are numbered from `first + 1` on.
-    """
+    """The samples of a CSV: groups in the first row, a number for each in every other. Samples
+    without a time are numbered from `first + 1` on."""
     head, rows = rows_of(data, name)
     is_timed = bool(head) and (head[0].lower() in ("", *TIMES) or head[0].lower().endswith("time"))
     check_names(head[is_timed:], f"{name}:1")
@@ -167,10 +165,8 @@ def read_csv(data: bytes, name: str, first: int = 0) -> History:
 
 
 def read_pairs(data: bytes, name: str, first: int = 0) -> History:
-    """The samples of lines `GROUP NUMBER GROUP NUMBER ..`. A line with `#` first is none.
-
-    They are numbered from `first + 1` on.
-    """
+    """The samples of lines `GROUP NUMBER GROUP NUMBER ..`. A line with `#` first is none. They are
+    numbered from `first + 1` on."""
     read: list[Sample] = []
     text = decoded(data, name, MAX_FILE, encoding_of(data))
     for number, line in enumerate(text.removesuffix("\n").split("\n"), 1):

@@ -188,10 +188,8 @@ def rows_of(data: bytes, name: str) -> Iterator[tuple[str, dict[str, str]]]:
 
 
 def step_of(row: dict[str, str], nodes: Sequence[str]) -> JobStep:
-    """The figures of a row on each of its nodes, to which they are shared out equally.
-
-    One that runs and used nothing yet is not accounted yet.
-    """
+    """The figures of a row on each of its nodes, to which they are shared out equally. One that
+    runs and used nothing yet is not accounted yet."""
     many = max(len(nodes), 1)
     step = JobStep(-(-(units.whole(row.get("AllocCPUS", "")) or 0) // many), nodes=nodes)
     if row.get("TotalCPU") and row.get("Elapsed"):
@@ -287,10 +285,8 @@ def host_of(nodes: Sequence[dict[str, Any]], name: str) -> Host:
 
 
 def take_allotted(jobs: Sequence[SlurmJob], model: Model) -> None:
-    """Takes the CPUs that a job was allotted where no use of what runs of it is known.
-
-    Slurm accounts for a step when it ends. So the whole job has the use of steps that have ended.
-    """
+    """Takes the CPUs that a job was allotted where no use of what runs of it is known. Slurm
+    accounts for a step when it ends. So the whole job has the use of steps that have ended."""
     unaccounted = [job for job in jobs
                    if all(step.used is None for step in job.steps.values() or [job.whole])]
     for job in unaccounted:

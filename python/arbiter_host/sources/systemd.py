@@ -37,10 +37,8 @@ def slice_folder(name: str) -> str:
 
 
 def unit_of(folder: str) -> str:
-    """The unit of the system whose group a folder is by its path; empty where it is none.
-
-    What is below a service is that service's, such as the units of a user's manager.
-    """
+    """The unit of the system whose group a folder is by its path; empty where it is none. What is
+    below a service is that service's, such as the units of a user's manager."""
     def is_slice(path: str) -> bool:
         return path.endswith(".slice") and slice_folder(path.rpartition("/")[2]) == path
 
