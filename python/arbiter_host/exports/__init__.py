@@ -122,25 +122,21 @@ def documents(form: str, draft: Draft) -> list[Document]:
     return files
 
 
-def placed(to: str, documents: Sequence[Document]) -> list[Document]:
-    """The files by their whole paths. A path that is no folder is that of one file."""
-    if to.endswith("/") or os.path.isdir(to):
-        for each in documents:
-            parts_of(each.path)
-        return [Document(os.path.join(to, each.path), each.text) for each in documents]
-    if len(documents) > 1:
-        raise UsageFault(f"-o FORM={shown(to)}: {len(documents)} files are to be written: name a"
-                         " folder, with / at its end")
-    return [Document(os.path.abspath(to), each.text) for each in documents]
-
-
 def write(to: str, documents: Sequence[Document]) -> list[str]:
-    """Writes the files, and returns their paths; `-` prints one."""
+    """Writes the files, and returns their paths; `-` prints one. A path that is no folder is that
+    of one file."""
     check_path(to)
     if to == "-" and len(documents) == 1:
         emit(documents[0].text)
         return []
-    files = placed(to, documents)
+    files = [Document(os.path.abspath(to), each.text) for each in documents]
+    if to.endswith("/") or os.path.isdir(to):
+        for each in documents:
+            parts_of(each.path)
+        files = [Document(os.path.join(to, each.path), each.text) for each in documents]
+    elif len(documents) > 1:
+        raise UsageFault(f"-o FORM={shown(to)}: {len(documents)} files are to be written: name a"
+                         " folder, with / at its end")
     if to.endswith("/"):
         os.close(own_folder(to.rstrip("/") or "/"))
     put_all(files, MARK, "`apply -o`")

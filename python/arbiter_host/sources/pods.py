@@ -48,14 +48,8 @@ class Container:
     identifier: str = ""
     is_init: bool = False
     is_sidecar: bool = False
-    is_running: bool = False
-    # It has ended, and is not begun again.
-    has_ended: bool = False
-
-    @property
-    def has_group(self) -> bool:
-        """Whether it has a group: an init container that does not run has none."""
-        return not self.has_ended and (not self.is_init or self.is_sidecar or self.is_running)
+    # An init container that does not run has none, nor has one that ended and is not begun again.
+    has_group: bool = True
 
 
 @dataclass(frozen=True)
@@ -213,11 +207,13 @@ def containers_of(pod: dict[str, Any], where: str, notes: list[str]) -> tuple[Co
             state = table(known, "state")
             runtime, _, identifier = text(known, "containerID").partition("://")
             has_failed = bool(below(state, "terminated", "exitCode"))
-            is_done = policy == "Never" or policy == "OnFailure" and not has_failed
+            is_over = "terminated" in state and (
+                policy == "Never" or policy == "OnFailure" and not has_failed)
+            has_group = is_sidecar or not is_over and (not is_init or "running" in state)
             containers.append(Container(
                 name, amounts_of(table(each, "resources"), f"{where}/{name}", notes),
                 identifier and SCOPES.get(runtime, "") + identifier, is_init, is_sidecar,
-                "running" in state, "terminated" in state and is_done and not is_sidecar))
+                has_group))
     return tuple(containers)
 
 

@@ -85,14 +85,10 @@ def is_address(word: str) -> bool:
 
 
 def instant(at: Any) -> float:
-    """The time of a value, in seconds. A ValueError for one that is none."""
-    try:
-        seconds = float(at)
-    except OverflowError as error:
-        raise ValueError(at) from error
-    if not math.isfinite(seconds):
+    """The time of a value, in seconds. A ValueError or OverflowError for one that is none."""
+    if not math.isfinite(float(at)):
         raise ValueError(at)
-    return seconds
+    return float(at)
 
 
 class QueryRange(NamedTuple):
