@@ -82,8 +82,8 @@ class Group:
     @property
     def usable(self) -> Fraction:
         """The demand that its tasks can use, in thousandths of a CPU."""
-        most = self.demand if self.tasks is None else Fraction(1000 * self.tasks)
-        return min(self.demand, most)
+        tasks, demand = self.tasks, self.demand
+        return demand if tasks is None else min(demand, Fraction(1000 * tasks))
 
     @property
     def max_words(self) -> str:

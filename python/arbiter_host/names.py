@@ -74,7 +74,7 @@ def width(text: str) -> int:
 def fitting(text: str, cells: int) -> str:
     """The beginning of a text that takes at most so many cells."""
     used = itertools.accumulate(map(letter_width, text))
-    return "".join(letter for letter, so_far in zip(text, used) if so_far <= cells)
+    return text[:sum(1 for _ in itertools.takewhile(lambda each: each <= cells, used))]
 
 
 def cut(text: str, cells: int) -> str:
