@@ -221,26 +221,22 @@ def take_row(row: dict[str, str], jobs: dict[str, SlurmJob], aliases: Mapping[st
     return True
 
 
-def used_of(row: dict[str, str]) -> int | None:
-    """Microseconds that a step has used: in all, or on average by each of its tasks; None where a
-    row of sstat does not say it."""
-    cell = CPU_USED.fullmatch(row.get(USED, ""))
-    if cell:
-        return time_of(cell[1])
-    if "NTasks" not in row and USED not in row:
-        raise HostFault(f"{AVERAGE} is of one task: print NTasks beside it, or {USED}")
-    tasks = units.whole(row.get("NTasks", ""), 30)
-    return None if not row.get(AVERAGE) or tasks is None else time_of(row[AVERAGE]) * tasks
-
-
 def take_used(row: dict[str, str], jobs: Mapping[str, SlurmJob]) -> None:
-    """Takes what a row of sstat says that a step which runs has used."""
+    """Takes what a row of sstat says that a step which runs has used: in all, or on average by each
+    of its tasks. Some rows do not say it."""
     match = IDENTIFIER.fullmatch(row.get("JobID", ""))
     job = jobs.get(match[1]) if match else None
     step = job.steps.get(match[2] or "") if match and job else None
-    used = None if step is None else used_of(row)
-    if step is not None and used is not None:
-        step.used = used // max(len(step.nodes), 1)
+    if step is None:
+        return
+    cell, average = CPU_USED.fullmatch(row.get(USED, "")), row.get(AVERAGE)
+    tasks = units.whole(row.get("NTasks", ""), 30)
+    if cell:
+        step.used = time_of(cell[1]) // max(len(step.nodes), 1)
+    elif "NTasks" not in row and USED not in row:
+        raise HostFault(f"{AVERAGE} is of one task: print NTasks beside it, or {USED}")
+    elif average and tasks is not None:
+        step.used = time_of(average) * tasks // max(len(step.nodes), 1)
 
 
 def jobs_of(files: Mapping[str, list[File]], node: str) -> tuple[dict[str, SlurmJob], int]:
