@@ -156,9 +156,9 @@ def set_demands(model: Model, measured: dict[str, Measured], want: str, seconds:
         if demand is None:
             model.notes.append(f"{path}: nothing read for --want {want}: no demand")
             continue
-        throttled, periods = (sum(rises(counters.readings, key))
-                              for key in ("throttled", "periods"))
+        throttled = sum(rises(counters.readings, "throttled"))
         if throttled and want in ("usage", "peak", "p95"):
+            periods = sum(rises(counters.readings, "periods"))
             model.notes.append(f"{path}: throttled in {throttled} of {periods} periods: it wanted"
                                " more than it used (--want psi)")
         group.demand = demand

@@ -124,11 +124,9 @@ class Slices:
             return min(-(-thousandths * self.host.period_us // whole), MAX_DEMAND)
         try:
             return self.library.demand(self.host, thousandths)
-        except OverflowError:
-            return MAX_DEMAND
-        except Refused as refused:
-            if refused.number != TOO_LARGE:
-                raise HostFault(f"{thousandths}m: error {refused}") from refused
+        except (OverflowError, Refused) as error:
+            if isinstance(error, Refused) and error.number != TOO_LARGE:
+                raise HostFault(f"{thousandths}m: error {error}") from error
             return MAX_DEMAND
 
 
