@@ -69,14 +69,12 @@ def fetched(url: str) -> Any:
         with urllib.request.build_opener(Redirects).open(url, timeout=SECONDS) as answer, (
                 naming(shown(answer.url))):
             return json.loads(body_of(answer, until))
-    except urllib.error.HTTPError as error:
-        told = error.read(400).decode(errors="replace") or str(error.reason)[:400]
-        raise HostFault(f"{shown(url)}: {error.code}: {shown(told)}") from error
-    except urllib.error.URLError as error:
-        raise HostFault(f"{shown(url)}: {error.reason}") from error
     except (OSError, http.client.HTTPException, ValueError, RecursionError) as error:
-        raise HostFault(f"{shown(url)}: {shown(str(error)[:400]) or type(error).__name__}"
-                        ) from error
+        cause = error.reason if isinstance(error, urllib.error.URLError) else error
+        told = str(cause)[:400] or type(error).__name__
+        if isinstance(error, urllib.error.HTTPError):
+            told = f"{error.code}: {error.read(400).decode(errors='replace') or told}"
+        raise HostFault(f"{shown(url)}: {shown(told)}") from error
 
 
 def is_address(word: str) -> bool:
