@@ -25,6 +25,7 @@ NOTED = re.compile(rb"[ \t]*(?:mkdir|rmdir|demand)[ \t]")
 # Above a `demand`: the tasks that bound it, and what is asked where they cut it.
 TASKS = re.compile(r"# tasks ([0-9]{1,9})(?:, asks ([0-9]{1,30}[a-z]{0,3}))?")
 OPTION = re.compile(r"--([a-z]+)[ =]([0-9]+)")
+FIELDS = {"processors": "processors", "period": "period_us", "slice": "slice_us"}
 # Most lines that are refused, one by one.
 MAX_REFUSED = 100000
 # Ranges that are said behind the names of faults, by their numbers.
@@ -49,10 +50,8 @@ def head_host(lines: list[bytes]) -> Host | None:
             return None
         match = HEAD.match(text)
         if match:
-            given = {name: int(value) for name, value in OPTION.findall(match.group(1))}
-            host = Host()
-            return Host(given.get("processors", host.processors),
-                        given.get("period", host.period_us), given.get("slice", host.slice_us))
+            return replace(Host(), **{FIELDS[name]: int(value) for name, value in
+                                      OPTION.findall(match[1]) if name in FIELDS})
     return None
 
 
