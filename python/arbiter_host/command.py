@@ -81,14 +81,6 @@ def parsed(words: Sequence[str]) -> argparse.Namespace:
     return table.fill(options)
 
 
-def die_by_interrupt() -> NoReturn:
-    """Ends by the signal, so that the caller sees it."""
-    import signal
-    signal.signal(signal.SIGINT, signal.SIG_DFL)
-    os.kill(os.getpid(), signal.SIGINT)
-    sys.exit(130)
-
-
 def unavailable() -> type[Unavailable]:
     """What a call raises whose process has ended. (No help needs the package.)"""
     from arbiter import Unavailable
@@ -127,12 +119,14 @@ def run(words: Sequence[str] | None = None) -> int:
 
 
 def main() -> NoReturn:
-    """The entry of the program."""
+    """The entry of the program. An interrupt ends it by the signal, so that the caller sees it."""
     try:
-        status = run()
+        sys.exit(run())
     except KeyboardInterrupt:
-        die_by_interrupt()
-    sys.exit(status)
+        import signal
+        signal.signal(signal.SIGINT, signal.SIG_DFL)
+        os.kill(os.getpid(), signal.SIGINT)
+        sys.exit(130)
 
 
 if __name__ == "__main__":

@@ -2,7 +2,7 @@
 from __future__ import annotations
 
 import math
-from collections.abc import Sequence
+from collections.abc import Callable, Sequence
 from dataclasses import dataclass, field, replace
 from fractions import Fraction
 from typing import NamedTuple
@@ -20,10 +20,8 @@ MOST_PRESSURE = Fraction(19, 20)
 
 
 class Reading(NamedTuple):
-    """Counters of one group at one time; None where the file or the key is missing.
-
-    `usage` and `pressure` are microseconds, `pressure` the time in which some task waited.
-    """
+    """Counters of one group at one time; None where the file or the key is missing. `usage` and
+    `pressure` are microseconds, `pressure` the time in which some task waited."""
 
     usage: int | None = None
     periods: int | None = None
@@ -142,31 +140,15 @@ def wanted(want: str, group: Group, measured: Measured, host: Host,
     return {"usage": mean(values), "peak": max(values), "p95": percentile(values, 95)}[want]
 
 
-def note_throttled(group: Group, measured: Measured, model: Model) -> None:
-    """Tells that a group was throttled, so that its usage is not its demand."""
-    throttled, periods = (sum(rises(measured.readings, key)) for key in ("throttled", "periods"))
-    if throttled:
-        model.notes.append(f"{group.path}: throttled in {throttled} of {periods} periods: it"
-                           " wanted more than it used (--want psi)")
-
-
-def note_idle(leaves: Sequence[str], measured: dict[str, Measured], model: Model) -> None:
-    """Tells how many groups are not busy, since they have no task.
-
-    A group that is known to request nothing, as a pause container, is not meant to be busy.
-    """
-    known = [measured[path] for path in leaves if path in measured]
-    idle = sum(each.tasks == 0 and each.request is None for each in known)
-    if idle:
+def set_demands(model: Model, measured: dict[str, Measured], want: str, seconds: Fraction) -> None:
+    """Sets the demand of each group without children. A group that is known to request nothing, as
+    a pause container, is not meant to be busy."""
+    leaves = [path for path, below in model.children().items() if path != "." and not below]
+    idle = sum(each.tasks == 0 and each.request is None
+               for each in (measured[path] for path in leaves if path in measured))
+    if want == "busy" and idle:
         model.notes.append(f"groups without a task, which ask for nothing: {idle} of {len(leaves)}"
                            " (--want busy)")
-
-
-def set_demands(model: Model, measured: dict[str, Measured], want: str, seconds: Fraction) -> None:
-    """Sets the demand of each group without children."""
-    leaves = [path for path, below in model.children().items() if path != "." and not below]
-    if want == "busy":
-        note_idle(leaves, measured, model)
     for path in leaves:
         group, counters = model.groups[path], measured.get(path, Measured())
         group.request = counters.request
@@ -174,8 +156,11 @@ def set_demands(model: Model, measured: dict[str, Measured], want: str, seconds:
         if demand is None:
             model.notes.append(f"{path}: nothing read for --want {want}: no demand")
             continue
-        if want in ("usage", "peak", "p95"):
-            note_throttled(group, counters, model)
+        throttled = sum(rises(counters.readings, "throttled"))
+        if throttled and want in ("usage", "peak", "p95"):
+            periods = sum(rises(counters.readings, "periods"))
+            model.notes.append(f"{path}: throttled in {throttled} of {periods} periods: it wanted"
+                               " more than it used (--want psi)")
         group.demand = demand
         if counters.tasks:
             needed = math.ceil(percentile(used(counters, seconds), 100) / 1000)
@@ -191,30 +176,22 @@ def stop(model: Model, paths: Sequence[str], why: str) -> None:
 
 
 def matching(model: Model, pattern: str) -> list[Group]:
-    """The groups of a path, a path's end, a title, or a pattern with `*` of these; a fault where
-    none is. In a pattern of a path's end `*` stands for no slash."""
-    shape = names.pattern(pattern)
-    groups = [group for group in model.groups.values()
-             if pattern in (".", group.path, group.title) or shape.fullmatch(group.path)]
-    if not groups:
-        groups = [each for each in model.groups.values() if each.path.endswith("/" + pattern)]
-    if not groups:
-        groups = [each for each in model.groups.values() if shape.fullmatch(each.title)]
-    if not groups:
-        end = names.pattern_of_end(pattern)
-        groups = [each for each in model.groups.values() if end.fullmatch(each.path)]
-    if not groups:
-        raise absent(model, pattern)
-    return groups
-
-
-def absent(model: Model, pattern: str) -> NothingFound:
-    """The fault of a group that is not there. It names some whose names have its letters."""
+    """The groups of a path, a path's end, a title, or a pattern with `*` of these. In a pattern of
+    a path's end `*` stands for no slash. The fault where none is names some alike."""
+    shape, end = names.pattern(pattern), names.pattern_of_end(pattern)
+    ways: tuple[Callable[[Group], object], ...] = (
+        lambda each: pattern in (".", each.path, each.title) or shape.fullmatch(each.path),
+        lambda each: each.path.endswith(f"/{pattern}"),
+        lambda each: shape.fullmatch(each.title), lambda each: end.fullmatch(each.path))
+    for fits in ways:
+        groups = [each for each in model.groups.values() if fits(each)]
+        if groups:
+            return groups
     part = pattern.strip("*/").lower()
     like = [names.shown(path) for path, group in model.groups.items()
             if part and part in f"{path} {group.title}".lower()]
     there = f" (there is {names.few(like, 3)})" if like else ""
-    return NothingFound(f"no group {names.shown(pattern)}{there}")
+    raise NothingFound(f"no group {names.shown(pattern)}{there}")
 
 
 def scale(model: Model, words: Sequence[str]) -> None:

@@ -1,22 +1,24 @@
 """Faults that end a command with one line, and warnings that do not."""
 from __future__ import annotations
 
-from collections.abc import Sequence
+from collections.abc import Iterator, Sequence
+from contextlib import contextmanager
 
 
 class HostFault(Exception):
     """Fault that ends a command with one line on standard error, and its exit status."""
 
-    def __init__(self, message: str, status: int = 1) -> None:
+    status = 1
+
+    def __init__(self, message: str, status: int | None = None) -> None:
         super().__init__(message)
-        self.message, self.status = message, status
+        self.message, self.status = message, self.status if status is None else status
 
 
 class UsageFault(HostFault):
-    """Fault in the words of the command line: status 2."""
+    """Fault in the words of the command line."""
 
-    def __init__(self, message: str) -> None:
-        super().__init__(message, 2)
+    status = 2
 
 
 class NoHost(HostFault):
@@ -24,32 +26,40 @@ class NoHost(HostFault):
 
 
 class NoLibrary(HostFault):
-    """The C library is missing, or older than this package: status 3."""
+    """The C library is missing, or older than this package."""
 
-    def __init__(self, message: str) -> None:
-        super().__init__(message, 3)
+    status = 3
 
 
 class RefusedLines(HostFault):
-    """Lines that were refused, under `--strict`: status 4."""
+    """Lines that were refused, under `--strict`."""
 
-    def __init__(self, lines: list[str]) -> None:
-        super().__init__("\n".join(lines), 4)
+    status = 4
 
 
 class Alerted(HostFault):
-    """Alerts of `top` that hold: status 5."""
+    """Alerts of `top` that hold."""
+
+    status = 5
 
     def __init__(self, alerts: Sequence[tuple[str, str]]) -> None:
         super().__init__("\n".join(f"alert: {condition}: {group}" for condition, group in alerts)
-                         or "alert: none holds any more", 5)
+                         or "alert: none holds any more")
 
 
 class NothingFound(HostFault):
-    """A search that ended with nothing, or a pattern that fits no group: status 6."""
+    """A search that ended with nothing, or a pattern that fits no group."""
 
-    def __init__(self, message: str) -> None:
-        super().__init__(message, 6)
+    status = 6
+
+
+@contextmanager
+def naming(place: str) -> Iterator[None]:
+    """Faults of what is done here, each with the place where it was found before it."""
+    try:
+        yield
+    except HostFault as fault:
+        raise HostFault(f"{place}: {fault.message}") from fault
 
 
 # Debian's packages of modules that are imported where they are needed.

@@ -43,7 +43,8 @@ def wish_of(options: argparse.Namespace) -> Wish:
     measured = None
     if options.used:
         from arbiter_host.sources import used
-        tree, measured = used.tree_of(options) or tree, used.measured_by(options)
+        tree = options.used[0] if used.is_tree(options) else tree
+        measured = used.measured_by(options)
     return replace(host, node=options.node, kubelet="log" if weights == "log" else "linear",
                    runtime="linear" if weights == "linear" else "log", tree=tree,
                    want=options.want or "", seconds=by_options.times_of(options).interval,
@@ -91,7 +92,11 @@ def model_of(options: argparse.Namespace, files: Sequence[Opened], engine: Engin
     if len(named) < len(files):
         raise HostFault(f"{names.shown(files[0][0])}: Is a directory")
     model = read_files(options, kind, named, engine.library)
-    check_known(options, named[0][0], model)
+    # (a file that is none of the kinds was taken for a script)
+    if options.kind is None and not options.strict and model.refused and not model.groups:
+        raise HostFault(f"{named[0][0]}: no source that is known (--help names them): as a script"
+                        f" it has {len(model.refused)} refused lines and no group, the first:"
+                        f" {names.shown(names.cut(model.refused[0], 200))}")
     return model
 
 
@@ -118,21 +123,13 @@ def read_files(options: argparse.Namespace, kind: str, files: Sequence[File],
     return finished(options, model)
 
 
-def check_known(options: argparse.Namespace, name: str, model: Model) -> None:
-    """A fault where a file was taken for a script, and no line of it makes a group."""
-    if options.kind is None and not options.strict and model.refused and not model.groups:
-        raise HostFault(f"{name}: no source that is known (--help names them): as a script it has"
-                        f" {len(model.refused)} refused lines and no group, the first:"
-                        f" {names.shown(names.cut(model.refused[0], 200))}")
-
-
 def finished(options: argparse.Namespace, model: Model) -> Model:
     """A model that was read, with the options that hold for every kind of source."""
     if model.owned is not None:
         model.owned = replace(model.owned, scales=tuple(options.scale))
     demands.scale(model, options.scale)
     if options.strict and model.refused:
-        raise RefusedLines(model.refused)
+        raise RefusedLines("\n".join(model.refused))
     return model
 
 

@@ -82,9 +82,13 @@ class Group:
     @property
     def usable(self) -> Fraction:
         """The demand that its tasks can use, in thousandths of a CPU."""
-        if self.tasks is None:
-            return self.demand
-        return min(self.demand, Fraction(1000 * self.tasks))
+        tasks, demand = self.tasks, self.demand
+        return demand if tasks is None else min(demand, Fraction(1000 * tasks))
+
+    @property
+    def max_words(self) -> str:
+        """Quota and period as `cpu.max` has them."""
+        return f"{'max' if self.quota is None else self.quota} {self.period}"
 
     def limit_slices(self, slices: Slices) -> int | None:
         """The limit of the next period, in slices: the quota with what was saved up."""
@@ -142,18 +146,14 @@ class Model:
         place, rows = {"": 0}, [Row(None, units.DEFAULT_WEIGHT, None, 0)]
         for path, group in self.groups.items():
             place[path] = len(rows)
-            limit = None if group.quota is None else group.limit_slices(slices)
-            rows.append(Row(place[path.rpartition("/")[0]], group.weight, limit,
-                            slices.demand(group.usable)))
+            rows.append(Row(place[path.rpartition("/")[0]], group.weight,
+                            group.limit_slices(slices), slices.demand(group.usable)))
         return rows
 
     def with_host(self, host: Host) -> Model:
         """These groups on another host. Saved-up quota is kept in time, rounded down."""
-        before = self.host
-        groups = {}
-        for path, group in self.groups.items():
-            saved = group.saved * before.slice_us // host.slice_us
-            groups[path] = replace(group, saved=saved)
+        groups = {path: replace(group, saved=group.saved * self.host.slice_us // host.slice_us)
+                  for path, group in self.groups.items()}
         return replace(self, host=host, groups=groups)
 
     def copy(self) -> Model:
@@ -164,10 +164,8 @@ class Model:
 
 def bound_notes(paths: Sequence[str]) -> list[str]:
     """A warning of groups that keep to CPUs of their own, if there are any."""
-    if not paths:
-        return []
     return [f"bound to CPUs: {names.listed(paths)}: each keeps to its own CPUs, so what others"
-            " leave idle does not reach it"]
+            " leave idle does not reach it"] if paths else []
 
 
 def check_count(many: int, what: str) -> None:
@@ -176,23 +174,17 @@ def check_count(many: int, what: str) -> None:
         raise HostFault(f"{what}: more than {MAX_GROUPS} groups with the root")
 
 
-def checked_number(value: int, least: int, most: int, what: str) -> int:
-    """A number in its range; a fault names the range."""
-    if not least <= value <= most:
-        raise HostFault(f"{what} {value}: not {least} to {most}")
-    return value
-
-
 def check_settings(group: Group) -> None:
     """A fault where a setting is out of the kernel's range."""
-    checked_number(group.weight, units.MIN_WEIGHT, units.MAX_WEIGHT, "weight")
-    checked_number(group.period, units.MIN_PERIOD, units.MAX_PERIOD, "period")
-    checked_number(group.burst, 0, units.MAX_QUOTA, "burst")
-    if group.quota is not None:
-        checked_number(group.quota, units.MIN_QUOTA, units.MAX_QUOTA, "quota")
-        if group.burst > group.quota:
-            raise HostFault(f"burst {group.burst}: above the quota {group.quota}")
-    if group.tasks is not None:
-        checked_number(group.tasks, 0, 10**9, "tasks")
+    for what, value, least, most in (
+            ("weight", group.weight, units.MIN_WEIGHT, units.MAX_WEIGHT),
+            ("period", group.period, units.MIN_PERIOD, units.MAX_PERIOD),
+            ("burst", group.burst, 0, units.MAX_QUOTA),
+            ("quota", group.quota, units.MIN_QUOTA, units.MAX_QUOTA),
+            ("tasks", group.tasks, 0, 10**9)):
+        if value is not None and not least <= value <= most:
+            raise HostFault(f"{what} {value}: not {least} to {most}")
+    if group.quota is not None and group.burst > group.quota:
+        raise HostFault(f"burst {group.burst}: above the quota {group.quota}")
     if group.demand.numerator < 0:
         raise HostFault("a demand is 0 or more")

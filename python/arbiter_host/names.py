@@ -71,17 +71,15 @@ def width(text: str) -> int:
     return len(text) if text.isascii() else sum(map(letter_width, text))
 
 
+def fitting(text: str, cells: int) -> str:
+    """The beginning of a text that takes at most so many cells."""
+    used = itertools.accumulate(map(letter_width, text))
+    return text[:sum(1 for _ in itertools.takewhile(lambda each: each <= cells, used))]
+
+
 def cut(text: str, cells: int) -> str:
     """A text of at most so many cells, with an ellipsis where letters were left out."""
-    if width(text) <= cells:
-        return text
-    kept, used = [], 1
-    for letter in text:
-        used += letter_width(letter)
-        if used > cells:
-            break
-        kept.append(letter)
-    return "".join(kept) + "\u2026"
+    return text if width(text) <= cells else fitting(text, cells - 1) + "\u2026"
 
 
 def tail(path: str, cells: int) -> str:
@@ -91,23 +89,12 @@ def tail(path: str, cells: int) -> str:
     last = last_name(path)
     if width(last) + 2 > cells:
         return cut("\u2026/" + last, cells)
-    kept, used = "", 1
-    for letter in reversed(path):
-        used += letter_width(letter)
-        if used > cells:
-            break
-        kept = letter + kept
-    return "\u2026" + kept
+    return "\u2026" + fitting(path[::-1], cells - 1)[::-1]
 
 
 def padded(text: str, cells: int) -> str:
     """A text filled up with blanks to so many cells."""
     return text + " " * max(cells - width(text), 0)
-
-
-def escaped_bytes(letter: str) -> str:
-    """A letter as %XX of each byte; one that stands for a byte that is no UTF-8 is that byte."""
-    return "".join(f"%{byte:02X}" for byte in letter.encode("utf-8", "surrogateescape"))
 
 
 def in_path(raw: str) -> str:
@@ -118,9 +105,10 @@ def in_path(raw: str) -> str:
         data = os.fsencode(raw)
     except UnicodeEncodeError:
         data = raw.encode("utf-8", "replace")
+    # A letter that stands for a byte that is no UTF-8 is that byte.
     letters = data.decode("utf-8", "surrogateescape")
-    return "".join(escaped_bytes(each) if is_raw(each) or RESERVED.match(each) else each
-                   for each in letters)
+    return "".join("".join(f"%{byte:02X}" for byte in each.encode("utf-8", "surrogateescape"))
+                   if is_raw(each) or RESERVED.match(each) else each for each in letters)
 
 
 def place_text(place: str) -> str:
@@ -131,8 +119,7 @@ def place_text(place: str) -> str:
 def place_of(text: str) -> str:
     """The folder that `place_text` writes so; `NOWHERE` where it writes none so."""
     parts = [each if each in ("", NOWHERE) else raw_name(each) for each in text.split("/")]
-    known = [each for each in parts if each is not None]
-    return "/".join(known) if len(known) == len(parts) else NOWHERE
+    return NOWHERE if None in parts else "/".join(each or "" for each in parts)
 
 
 def shortened(name: str, mark: str) -> str:
@@ -142,10 +129,8 @@ def shortened(name: str, mark: str) -> str:
 
 
 def path_name(raw: str, taken: Container[str]) -> str:
-    """A name that a path of a script can hold, unlike those taken. `raw_name` reads it back.
-
-    A name that is too long or taken is marked: which group it is cannot be told.
-    """
+    """A name that a path of a script can hold, unlike those taken. `raw_name` reads it back. A name
+    that is too long or taken is marked: which group it is cannot be told."""
     name = in_path(raw)
     if name in ("", ".", ".."):
         name = "%" + name
@@ -169,11 +154,15 @@ def raw_name(name: str) -> str | None:
     return raw if path_name(raw, ()) == name and "/" not in raw and "\0" not in raw else None
 
 
+def path_of_folder(folder: str) -> str:
+    """The path of the group that has a folder of a host; empty for the root."""
+    return "/".join(path_name(each, ()) for each in folder.split("/") if each)
+
+
 def raw_path(path: str) -> str | None:
     """The folder whose names are those of a path; None where a name cannot be told."""
     parts = [raw_name(each) for each in path.split("/")]
-    known = [each for each in parts if each is not None]
-    return "/".join(known) if len(known) == len(parts) else None
+    return None if None in parts else "/".join(each or "" for each in parts)
 
 
 def listed(words: Sequence[str], most: int = 5) -> str:

@@ -100,7 +100,7 @@ def is_lone(model: Model, source: Owned, cap: Cap) -> bool:
     if cap.least >= cap.most:
         return False
     try:
-        after = source.changed([Setting(cap.path, cap.key, cap.written(cap.least))]).plain()
+        after = source.changed([Setting(cap.path, cap.key, cap.written(cap.least))]).plain
     except HostFault:
         return False
     return [(path, each.weight) for path, each in after.groups.items()] == [

@@ -7,13 +7,15 @@ container of a pod, 1024 shares of docker for each CPU, 100 of CPUWeight of a un
 """
 from __future__ import annotations
 
+import functools
 from collections.abc import Callable, Mapping, Sequence
 from contextlib import suppress
 from dataclasses import dataclass, field, replace
+from fractions import Fraction
 from typing import NamedTuple
 
 from arbiter import Host
-from arbiter_host import demands, names
+from arbiter_host import demands, names, units
 from arbiter_host.demands import Use
 from arbiter_host.faults import HostFault
 from arbiter_host.model import Model
@@ -37,12 +39,17 @@ class Setting(NamedTuple):
         value = names.shown(self.value[:60])
         return HostFault(f"{names.shown(self.path)}.{self.key}={value}: {words}")
 
+    def cpu(self) -> Fraction | None:
+        """Its value in thousandths of a CPU; None where it takes the setting away."""
+        try:
+            return None if self.value in NONE else units.parse_cpu(self.value)
+        except HostFault as fault:
+            raise self.fault(fault.message) from fault
+
 
 class Range(NamedTuple):
-    """The values of a setting that can be asked for, as whole numbers.
-
-    In each part, from its first number to its last, a greater number takes nothing from the group.
-    """
+    """The values of a setting that can be asked for, as whole numbers. In each part, from its first
+    number to its last, a greater number takes nothing from the group."""
 
     key: str
     # Present value of the setting, as it is written.
@@ -73,13 +80,14 @@ class Owned:
     keys = ("request", "limit")
     noun = "container"
 
+    @functools.cached_property
     def plain(self) -> Model:
         """The model as the source makes it. It is shared, and not to be changed."""
         raise NotImplementedError
 
     def model(self) -> Model:
         """The model. Its groups stand in the same order whatever the settings are."""
-        model = replace(self.plain().copy(), owned=self)
+        model = replace(self.plain.copy(), owned=self)
         demands.scale(model, self.scales)
         return model
 
@@ -122,12 +130,12 @@ class Owned:
     @property
     def own(self) -> list[str]:
         """The groups that have settings."""
-        return [path for path in self.plain().groups if self.has(path)]
+        return [path for path in self.plain.groups if self.has(path)]
 
     def matching(self, word: str) -> set[str]:
         """The groups that a pattern means; none where it has no match."""
         with suppress(HostFault):
-            return {group.path for group in demands.matching(self.plain(), word)}
+            return {group.path for group in demands.matching(self.plain, word)}
         return set()
 
     def named(self, word: str) -> list[str]:
@@ -146,7 +154,7 @@ class Owned:
 
     def now(self, path: str) -> Amounts:
         """The request and the limit of a group; None where it has none, or is not told of one."""
-        group = self.plain().groups[path]
+        group = self.plain.groups[path]
         return Amounts(None, None if group.quota is None else 1000 * group.quota // group.period)
 
     def words(self, path: str) -> tuple[str, str]:

@@ -25,19 +25,9 @@ def bounded(file: BinaryIO) -> bytes:
     """The bytes of a file, at most one more than `MAX_FILE`. A `read` takes the memory that it may
     need first, so pieces are read."""
     data = bytearray()
-    while len(data) <= MAX_FILE:
-        piece = file.read(min(PIECE, MAX_FILE + 1 - len(data)))
-        if not piece:
-            break
+    while piece := file.read(min(PIECE, MAX_FILE + 1 - len(data))):
         data += piece
     return bytes(data)
-
-
-def check_trusted(path: str, status: os.stat_result) -> None:
-    """A fault where another user may say what a file holds."""
-    if safe_files.is_of_others(status, 0o002):
-        raise HostFault(f"{names.shown(path)}: other users may change this file, and what it sets;"
-                        " nothing is changed (chown it once it is looked at)")
 
 
 def check_file(path: str, status: os.stat_result, is_plain: bool) -> None:
@@ -56,8 +46,9 @@ def opened_bytes(path: str, is_plain: bool, is_trusted: bool) -> bytes:
     flags = os.O_RDONLY | os.O_CLOEXEC | (os.O_NONBLOCK if is_plain else 0)
     with os.fdopen(os.open(path, flags), "rb") as file:
         check_file(path, os.fstat(file.fileno()), is_plain)
-        if is_trusted:
-            check_trusted(path, os.fstat(file.fileno()))
+        if is_trusted and safe_files.is_of_others(os.fstat(file.fileno()), 0o002):
+            raise HostFault(f"{names.shown(path)}: other users may change this file, and what it"
+                            " sets; nothing is changed (chown it once it is looked at)")
         return bounded(file)
 
 

@@ -56,7 +56,7 @@ class Raised:
         if row in self.goals.kept:
             return f"{where} falls short, and its setting is kept"
         changed = self.source.changed(list(self.settings.values()))
-        return row, changed.weighing(list(changed.plain().groups)[row - 1])
+        return row, changed.weighing(list(changed.plain.groups)[row - 1])
 
     def raised(self, goal: Goal) -> Raised | str:
         """These settings with the least value that meets one goal, or why there is none."""

@@ -32,13 +32,11 @@ CPU_UNITS = {
     "%": Fraction(10), "u": Fraction(1, 1000), "n": Fraction(1, 10**6), "k": Fraction(10**6),
     "M": Fraction(10**9),
 }
-TIME_UNITS = {
-    "": Fraction(1), "us": Fraction(1), "usec": Fraction(1), "ns": Fraction(1, 1000),
-    "ms": Fraction(1000), "s": Fraction(10**6), "sec": Fraction(10**6), "min": Fraction(60 * 10**6),
-    "m": Fraction(60 * 10**6), "h": Fraction(3600 * 10**6), "d": Fraction(86400 * 10**6),
-    "w": Fraction(7 * 86400 * 10**6), "month": Fraction(2629800 * 10**6),
-    "y": Fraction(31557600 * 10**6),
-}
+SECOND = 10**6
+TIME_UNITS = {"ns": Fraction(1, 1000)} | {name: Fraction(usec) for name, usec in {
+    "": 1, "us": 1, "usec": 1, "ms": 1000, "s": SECOND, "sec": SECOND, "min": 60 * SECOND,
+    "m": 60 * SECOND, "h": 3600 * SECOND, "d": 86400 * SECOND, "w": 7 * 86400 * SECOND,
+    "month": 2629800 * SECOND, "y": 31557600 * SECOND}.items()}
 
 
 def number_and_unit(text: str) -> tuple[Fraction, str] | None:
@@ -53,6 +51,11 @@ def number_and_unit(text: str) -> tuple[Fraction, str] | None:
     moved = exponent - len(decimals)
     value = Fraction(int(whole + decimals) * 10**max(moved, 0), 10**max(-moved, 0))
     return value, text.strip()[match.end():].strip()
+
+
+def whole(text: str, most: int = 9) -> int | None:
+    """The number that a text of at most so many digits is; None for any other text."""
+    return int(text) if text.isascii() and text.isdigit() and len(text) <= most else None
 
 
 def parse_cpu(text: str) -> Fraction:
@@ -83,10 +86,8 @@ def parse_time(text: str) -> int:
 
 
 class Slices:
-    """Slices of one period of a host, by the library's calls, each of which is made once.
-
-    A conversion depends on no number of CPUs, so that hosts of more than 64 have them too.
-    """
+    """Slices of one period of a host, by the library's calls, each of which is made once. A
+    conversion depends on no number of CPUs, so that hosts of more than 64 have them too."""
 
     def __init__(self, library: Library, host: Host) -> None:
         self.library, self.host = library, Host(1, host.period_us, host.slice_us)
@@ -99,17 +100,13 @@ class Slices:
 
     def limit(self, usec: int, own_period: int) -> int:
         """Slices that a quota or burst allows, rounded down."""
-        slices = self.limits.get((usec, own_period))
-        if slices is None:
-            slices = self.limits[usec, own_period] = self.asked_limit(usec, own_period)
-        return slices
-
-    def asked_limit(self, usec: int, own_period: int) -> int:
-        """The library's answer to `limit`."""
-        try:
-            return self.library.slices(self.host, usec, own_period)
-        except (Refused, OverflowError) as error:
-            raise HostFault(f"{usec} microseconds in {own_period}: {error}") from error
+        key = (usec, own_period)
+        if key not in self.limits:
+            try:
+                self.limits[key] = self.library.slices(self.host, usec, own_period)
+            except (Refused, OverflowError) as error:
+                raise HostFault(f"{usec} microseconds in {own_period}: {error}") from error
+        return self.limits[key]
 
     def demand(self, thousandths: Fraction) -> int:
         """Slices that a demand takes, rounded up, at most 1000000."""
@@ -120,20 +117,16 @@ class Slices:
         return slices
 
     def asked_demand(self, thousandths: int, parts: int) -> int:
-        """Slices that so many parts of a thousandth take.
-
-        The library takes whole thousandths. A part of one is rounded up here.
-        """
+        """Slices that so many parts of a thousandth take. The library takes whole thousandths. A
+        part of one is rounded up here."""
         if parts > 1:
             whole = 1000 * self.host.slice_us * parts
             return min(-(-thousandths * self.host.period_us // whole), MAX_DEMAND)
         try:
             return self.library.demand(self.host, thousandths)
-        except OverflowError:
-            return MAX_DEMAND
-        except Refused as refused:
-            if refused.number != TOO_LARGE:
-                raise HostFault(f"{thousandths}m: error {refused}") from refused
+        except (OverflowError, Refused) as error:
+            if isinstance(error, Refused) and error.number != TOO_LARGE:
+                raise HostFault(f"{thousandths}m: error {error}") from error
             return MAX_DEMAND
 
 

@@ -13,7 +13,8 @@ import trees
 import yaml
 from arbiter_host import options
 from arbiter_host.atomic_files import Document
-from arbiter_host.exports import base, compose, files
+from arbiter_host import exports
+from arbiter_host.exports import compose
 from arbiter_host.faults import HostFault
 from places import PACKAGE
 
@@ -518,28 +519,28 @@ def test_one_file_or_a_folder(ctl, folder):
 def test_files_of_others_stay(folder):
     """A file that was not written so, and a link, are not replaced; one of its own is."""
     os.mkdir(folder / "d", 0o700)
-    (folder / "mine").write_text(f"# {base.MARK}dropin\n")
+    (folder / "mine").write_text(f"# {exports.MARK}dropin\n")
     for name, make in (("a", lambda path: path.write_text("mine")),
                        ("b", lambda path: path.symlink_to(folder / "mine")),
                        ("c", os.mkfifo), ("e", os.mkdir)):
         make(folder / "d" / name)
         with pytest.raises(HostFault, match="nothing is written"):
-            files.write(f"{folder}/d/", [Document("new", "x"), Document(name, "x")])
+            exports.write(f"{folder}/d/", [Document("new", "x"), Document(name, "x")])
     assert sorted(os.listdir(folder / "d")) == ["a", "b", "c", "e"]
-    assert (folder / "mine").read_text() == f"# {base.MARK}dropin\n"
-    for text in (f"# {base.MARK}x 1\n", f"# {base.MARK}x 2\n"):
-        files.write(f"{folder}/d/", [Document("own", text)])
+    assert (folder / "mine").read_text() == f"# {exports.MARK}dropin\n"
+    for text in (f"# {exports.MARK}x 1\n", f"# {exports.MARK}x 2\n"):
+        exports.write(f"{folder}/d/", [Document("own", text)])
         assert (folder / "d/own").read_text() == text
     (folder / "d/link.d").symlink_to(folder)
     with pytest.raises(HostFault):
-        files.write(f"{folder}/d/", [Document("link.d/x", "x")])
+        exports.write(f"{folder}/d/", [Document("link.d/x", "x")])
     assert not (folder / "x").exists()
 
 
 @pytest.mark.parametrize("name", ["../x", "/etc/x", "a/../../x", "", ".", "a//b", "a\0b"])
 def test_no_name_leads_out(folder, name):
     with pytest.raises(HostFault):
-        files.write(f"{folder}/d/", [Document(name, "x")])
+        exports.write(f"{folder}/d/", [Document(name, "x")])
     assert [path for path in folder.rglob("*") if path.is_file()] == []
 
 
@@ -547,7 +548,7 @@ def test_a_folder_that_others_may_change(folder):
     os.mkdir(folder / "d", 0o700)
     os.chmod(folder / "d", 0o777)
     with pytest.raises(HostFault, match="other users may change this folder"):
-        files.write(f"{folder}/d/", [Document("a", "x")])
+        exports.write(f"{folder}/d/", [Document("a", "x")])
 
 
 def test_all_or_none(folder, monkeypatch):
@@ -562,7 +563,7 @@ def test_all_or_none(folder, monkeypatch):
 
     monkeypatch.setattr(os, "fsync", full)
     with pytest.raises(HostFault, match="No space left"):
-        files.write(f"{folder}/d/", [Document(f"n{at}/f", "x") for at in range(4)])
+        exports.write(f"{folder}/d/", [Document(f"n{at}/f", "x") for at in range(4)])
     assert [path for path in folder.rglob("*") if path.is_file()] == []
 
 

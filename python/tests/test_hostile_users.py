@@ -10,8 +10,7 @@ from pathlib import Path
 import pytest
 from arbiter_host import apply, atomic_files, metrics, names, record
 from arbiter_host.atomic_files import Document
-from arbiter_host.exports import files
-from arbiter_host.exports.base import MARK
+from arbiter_host import exports
 from arbiter_host.faults import HostFault
 
 NOBODY = 65534
@@ -25,7 +24,7 @@ def closed(descriptors):
 
 
 def export(folder):
-    files.write(f"{folder}/", [Document("web.service.d/x.conf", f"# {MARK}dropin\n")])
+    exports.write(f"{folder}/", [Document("web.service.d/x.conf", f"# {exports.MARK}dropin\n")])
 
 
 def gauges(folder):

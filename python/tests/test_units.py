@@ -26,6 +26,15 @@ def test_cpu_refused(text):
         units.parse_cpu(text)
 
 
+@pytest.mark.parametrize("text, most, number", [
+    ("7", 9, 7), ("0", 9, 0), ("999999999", 9, 999999999), ("1000000000", 9, None),
+    ("1000000000", 30, 10**9), ("", 9, None), ("-1", 9, None), ("+1", 9, None), (" 1", 9, None),
+    ("1.0", 9, None), ("٣", 9, None), ("1_0", 9, None),
+])
+def test_whole(text, most, number):
+    assert units.whole(text, most) == number
+
+
 @pytest.mark.parametrize("text, usec", [
     ("100ms", 100000), ("1s", 10**6), ("1min 30s", 90 * 10**6), ("5m", 300 * 10**6), ("17", 17),
     ("2min 4.5s", 124500000), ("0", 0),

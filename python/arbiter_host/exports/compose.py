@@ -2,7 +2,7 @@
 from __future__ import annotations
 
 import re
-from collections.abc import Iterator
+from collections.abc import Sequence
 from typing import Any
 
 import yaml
@@ -10,7 +10,7 @@ import yaml
 from arbiter import Library
 from arbiter_host import search, units
 from arbiter_host.atomic_files import Document
-from arbiter_host.exports.base import Differing, Draft, head
+from arbiter_host.exports import Differing, Draft, head
 from arbiter_host.names import last_name, shown
 from arbiter_host.sources.data import loads, number, table, text
 
@@ -20,14 +20,10 @@ LABELS = "com.docker.compose."
 
 def by_group(draft: Draft) -> dict[str, dict[str, Any]]:
     """The containers of the files, by the names of their groups."""
-    containers = {}
-    for name, data in draft.files:
-        entries = loads(data or b"[]", shown(name))
-        for each in entries if isinstance(entries, list) else [entries]:
-            identifier = text(each, "Id")
-            for scope in (identifier, f"docker-{identifier}.scope", f"libpod-{identifier}.scope"):
-                containers[scope] = each
-    return containers
+    files = [loads(data or b"[]", shown(name)) for name, data in draft.files]
+    return {f"{begin}{text(each, 'Id')}{end}": each for entries in files
+            for each in (entries if isinstance(entries, list) else [entries])
+            for begin, end in (("", ""), ("docker-", ".scope"), ("libpod-", ".scope"))}
 
 
 def shares_of(library: Library, weight: int, conversion: str) -> int | None:
@@ -38,96 +34,83 @@ def shares_of(library: Library, weight: int, conversion: str) -> int | None:
 
 
 def told_shares(draft: Draft, group: Differing) -> int | None:
-    """The shares that AFTER itself has, 0 for the default; None where it has none to tell."""
+    """The shares that AFTER has, 0 for the default, else the least of its weight; None for none."""
     owned = draft.after.owned
     if owned is None or "cpu-shares" not in owned.keys or not owned.has(group.path):
-        return None
-    now = owned.weighing(group.path).now
-    return int(now) if now.isdigit() else 0
+        return shares_of(draft.library, group.after.weight, draft.runtime)
+    return units.whole(owned.weighing(group.path).now) or 0
 
 
 def limit_of(group: Differing, config: dict[str, Any]) -> dict[str, Any] | None:
     """The keys of a limit; None where the key that the service has cannot say it."""
     quota, period = group.after.quota, group.after.period
-    has_quota = number(config, "CpuQuota") > 0 and not number(config, "NanoCpus")
-    if has_quota:
+    has_cpus = number(config, "NanoCpus") != 0
+    if number(config, "CpuQuota") > 0 and not has_cpus:
         return {"cpu_quota": quota or 0, "cpu_period": period}
     if quota is None:
         return {"cpus": 0}
     if period == units.DEFAULT_PERIOD:
         whole, rest = divmod(quota, period)
         return {"cpus": whole + rest / period if rest else whole}
-    return None if number(config, "NanoCpus") else {"cpu_quota": quota, "cpu_period": period}
+    return None if has_cpus else {"cpu_quota": quota, "cpu_period": period}
 
 
 def keys_of(draft: Draft, group: Differing, config: dict[str, Any]) -> dict[str, Any]:
     """The keys of a service. What compose has no key for is refused."""
     keys: dict[str, Any] = {}
-    if group.has_weight:
-        shares = told_shares(draft, group)
-        if shares is None:
-            shares = shares_of(draft.library, group.after.weight, draft.runtime)
-        if shares is None:
-            draft.refuse(group.path, f"no cpu_shares give weight {group.after.weight}")
-        else:
-            keys["cpu_shares"] = shares
-    if group.has_limit:
-        limit = limit_of(group, config)
-        if limit is None:
-            draft.refuse(group.path, f"`cpus` has a period of 100000, not {group.after.period}")
-        keys |= limit or {}
+    shares = told_shares(draft, group) if group.has_weight else None
+    limit = limit_of(group, config) if group.has_limit else {}
+    if shares is not None:
+        keys["cpu_shares"] = shares
+    elif group.has_weight:
+        draft.refuse(group.path, f"no cpu_shares give weight {group.after.weight}")
+    if limit is None:
+        draft.refuse(group.path, f"`cpus` has a period of 100000, not {group.after.period}")
     if group.has_burst:
         draft.refuse(group.path, "a burst: compose has no key for it")
-    return keys
+    return keys | (limit or {})
 
 
 def service_of(container: dict[str, Any]) -> tuple[str, str]:
     """The project and the service that the labels of a container name; empty for none."""
-    labels = table(container, "Config", "Labels")
-    return text(labels, f"{LABELS}project"), text(labels, f"{LABELS}service")
+    project, service = (text(container, "Config", "Labels", f"{LABELS}{key}")
+                        for key in ("project", "service"))
+    return project, service
 
 
-def services(draft: Draft) -> Iterator[tuple[str, str, Differing, dict[str, Any]]]:
-    """The project and service of each container that changes, and its keys."""
-    containers = by_group(draft)
+def documents(draft: Draft) -> list[Document]:
+    """An override of each project."""
+    containers, changed = by_group(draft), set()
+    projects: dict[str, dict[str, dict[str, Any]]] = {}
+    words: dict[str, list[str]] = {}
     for group in draft.groups():
-        container = containers.get(last_name(group.before.place), {})
+        scope = last_name(group.before.place)
+        changed.add(scope)
+        container = containers.get(scope, {})
         project, service = service_of(container)
         if not (NAME.fullmatch(project) and NAME.fullmatch(service)):
             draft.refuse(group.path, f"no service of compose ({LABELS}project and .service are"
                          " not among its labels)")
             continue
-        yield project, service, group, keys_of(draft, group, table(container, "HostConfig"))
-
-
-def check_replicas(draft: Draft, services_: dict[tuple[str, str], dict[str, Any]]) -> None:
-    """Refuses a service some of whose containers keep their settings."""
-    changed = {last_name(each.before.place) for each in draft.groups()}
-    for scope, container in by_group(draft).items():
-        service = service_of(container)
-        is_group = any(last_name(each.place) == scope for each in draft.before.groups.values())
-        if is_group and scope not in changed and service in services_:
-            draft.refuse(text(container, "Name").strip("/"),
-                         f"is of the service {service[1]} too, and does not change")
-
-
-def documents(draft: Draft) -> list[Document]:
-    """An override of each project."""
-    services_: dict[tuple[str, str], dict[str, Any]] = {}
-    words: dict[str, list[str]] = {}
-    for project, service, group, keys in services(draft):
-        if services_.setdefault((project, service), keys) != keys:
+        keys = keys_of(draft, group, table(container, "HostConfig"))
+        if projects.setdefault(project, {}).setdefault(service, keys) != keys:
             draft.refuse(group.path, f"the service {service} is to have two settings")
         words.setdefault(project, []).append(f"# {group.words}\n")
-    check_replicas(draft, services_)
-    documents_ = []
-    for project, lines in words.items():
-        data = {"services": {name: keys for (each, name), keys in services_.items()
-                             if each == project}}
-        use = f"# docker compose -p {project} -f COMPOSE.yaml -f {project}.override.yaml up -d\n"
-        if any("cpus" in keys for keys in data["services"].values()):
-            use += ("# Compose takes no `cpus` beside deploy.resources.limits.cpus: where a service"
-                    " has that, change it there.\n")
-        documents_.append(Document(f"{project}.override.yaml", head("compose") + use
-                                   + "".join(lines) + yaml.safe_dump(data, sort_keys=False)))
-    return documents_
+    # A service has all its containers changed or none.
+    here = {last_name(each.place) for each in draft.before.groups.values()} - changed
+    for scope, container in containers.items():
+        project, service = service_of(container)
+        if scope in here and service in projects.get(project, {}):
+            draft.refuse(text(container, "Name").strip("/"),
+                         f"is of the service {service} too, and does not change")
+    return [document(project, services, words[project]) for project, services in projects.items()]
+
+
+def document(project: str, services: dict[str, dict[str, Any]], words: Sequence[str]) -> Document:
+    """The override of a project."""
+    use = f"# docker compose -p {project} -f COMPOSE.yaml -f {project}.override.yaml up -d\n"
+    if any("cpus" in keys for keys in services.values()):
+        use += ("# Compose takes no `cpus` beside deploy.resources.limits.cpus: where a service"
+                " has that, change it there.\n")
+    return Document(f"{project}.override.yaml", head("compose") + use + "".join(words)
+                    + yaml.safe_dump({"services": services}, sort_keys=False))

@@ -5,7 +5,7 @@ from collections.abc import Iterator
 
 from arbiter_host import apply
 from arbiter_host.atomic_files import Document
-from arbiter_host.exports.base import Differing, Draft, head, of_kubelet
+from arbiter_host.exports import Differing, Draft, head, of_kubelet
 from arbiter_host.names import shown
 from arbiter_host.sources.systemd import unit_of
 

@@ -6,7 +6,6 @@ set otherwise than is asked is refused.
 """
 from __future__ import annotations
 
-import copy
 import json
 import re
 from collections.abc import Iterator, Sequence
@@ -17,24 +16,28 @@ import yaml
 
 from arbiter_host import apply, load
 from arbiter_host.atomic_files import Document
-from arbiter_host.exports.base import Differing, Draft, head
+from arbiter_host.exports import Differing, Draft, head
 from arbiter_host.exports.compose import shares_of
-from arbiter_host.faults import HostFault
+from arbiter_host.faults import naming
 from arbiter_host.names import shown
 from arbiter_host.sources.data import loads, table, tables, text
 from arbiter_host.sources.kubernetes import is_pod, items_of
 from arbiter_host.sources.pods import MIRROR
 
-# Form of a name of an object that can be a part of a file's name and of a command.
+# What a name of an object may be, so that it can be a part of a file's name and of a command.
 NAME = re.compile(r"[a-z0-9]([-a-z0-9.]{0,251}[a-z0-9])?")
 # Kinds whose template of pods may be changed, and their versions.
 OWNERS = {"Deployment": "apps/v1", "StatefulSet": "apps/v1", "DaemonSet": "apps/v1",
           "ReplicaSet": "apps/v1", "ReplicationController": "v1"}
 HASH = "pod-template-hash"
+# The amounts of a container by `requests` and `limits`; those of the containers by their names, for
+# each list of a pod. None takes an amount away.
+Resources = dict[str, dict[str, str | None]]
+Rows = dict[str, dict[str, Resources]]
 
 
 class Target(NamedTuple):
-    """The object of a patch."""
+    """What a patch is of."""
 
     kind: str
     namespace: str
@@ -46,41 +49,6 @@ class Target(NamedTuple):
         return f"{self.kind} {shown(self.namespace)}/{shown(self.name)}"
 
 
-def namespace_of(item: dict[str, Any]) -> str:
-    """The namespace of an object."""
-    return text(table(item, "metadata"), "namespace") or "default"
-
-
-def controller_of(item: dict[str, Any]) -> tuple[str, str]:
-    """Kind and name of what controls an object; both empty where nothing does."""
-    for each in tables(table(item, "metadata"), "ownerReferences"):
-        if each.get("controller") is True:
-            return text(each, "kind"), text(each, "name")
-    return "", ""
-
-
-def deployment_of(pod: dict[str, Any], name: str, items: Sequence[dict[str, Any]]) -> str:
-    """The Deployment of a pod's ReplicaSet: as its object says, else by the pod's hash."""
-    for each in items:
-        own = (each.get("kind"), namespace_of(each), text(table(each, "metadata"), "name"))
-        if own == ("ReplicaSet", namespace_of(pod), name):
-            kind, above = controller_of(each)
-            return above if kind == "Deployment" else ""
-    mark = text(table(pod, "metadata", "labels"), HASH)
-    return name.removesuffix(f"-{mark}") if mark and name.endswith(f"-{mark}") else ""
-
-
-def target_of(pod: dict[str, Any], items: Sequence[dict[str, Any]]) -> Target:
-    """Owner of a pod as far up as its template may be changed; else the pod."""
-    kind, name = controller_of(pod)
-    if kind == "ReplicaSet":
-        above = deployment_of(pod, name, items)
-        kind, name = ("Deployment", above) if above else (kind, name)
-    if kind not in OWNERS:
-        kind, name = "Pod", text(table(pod, "metadata"), "name")
-    return Target(kind, namespace_of(pod), name)
-
-
 class Pods:
     """The pods of the files, which are changed here, and the containers by their titles."""
 
@@ -88,10 +56,10 @@ class Pods:
         self.files = [(name, loads(data or b"{}", shown(name))) for name, data in files]
         self.items = [item for name, data in self.files for item in items_of(data, shown(name))]
         self.pods = [each for each in self.items if is_pod(each)]
-        self.containers = {f"{namespace_of(pod)}/{text(table(pod, 'metadata'), 'name')}/"
-                           f"{text(each, 'name')}": (pod, each)
+        # With the pod of each, and the list of the pod in which it stands.
+        self.containers = {"/".join([*name_of(pod), text(each, "name")]): (pod, key, each)
                            for pod in self.pods for key in ("initContainers", "containers")
-                           for each in tables(table(pod, "spec"), key)}
+                           for each in tables(pod, "spec", key)}
 
     def of(self, target: Target) -> list[dict[str, Any]]:
         """The pods of a target."""
@@ -101,10 +69,52 @@ class Pods:
         """The files as they are after the change."""
         return [(name, json.dumps(data).encode()) for name, data in self.files]
 
+    def patch(self, target: Target, rows: Rows) -> None:
+        """Changes all pods of a target, as its patch does. Their class is reckoned again."""
+        for pod in self.of(target):
+            table(pod, "status").pop("qosClass", None)
+            for key, entries in rows.items():
+                known = {text(each, "name"): each for each in tables(pod, "spec", key)}
+                for name in entries.keys() & known.keys():
+                    held = known[name].setdefault("resources", {})
+                    for kind, value in entries[name].items():
+                        cpu = held.setdefault(kind, {})
+                        cpu |= value
+                        if cpu["cpu"] is None:
+                            del cpu["cpu"]
 
-def amount(many: int | None) -> str | None:
-    """An amount of CPU as Kubernetes has it; None takes one away."""
-    return None if many is None else f"{many}m"
+
+def name_of(item: dict[str, Any]) -> tuple[str, str]:
+    """The namespace and the name of an object."""
+    return text(item, "metadata", "namespace") or "default", text(item, "metadata", "name")
+
+
+def controller_of(item: dict[str, Any]) -> tuple[str, str]:
+    """Kind and name of what controls an object; both empty where nothing does."""
+    owners = tables(item, "metadata", "ownerReferences")
+    owner: Any = next((each for each in owners if each.get("controller") is True), {})
+    return text(owner, "kind"), text(owner, "name")
+
+
+def deployment_of(pod: dict[str, Any], name: str, items: Sequence[dict[str, Any]]) -> str:
+    """The Deployment of a pod's ReplicaSet: as its object says, else by the pod's hash."""
+    own = (name_of(pod)[0], name)
+    for each in items:
+        if each.get("kind") == "ReplicaSet" and name_of(each) == own:
+            kind, above = controller_of(each)
+            return above if kind == "Deployment" else ""
+    mark = text(pod, "metadata", "labels", HASH)
+    return name.removesuffix(f"-{mark}") if mark and name.endswith(f"-{mark}") else ""
+
+
+def target_of(pod: dict[str, Any], items: Sequence[dict[str, Any]]) -> Target:
+    """What owns a pod as far up as its template may be changed; else the pod."""
+    kind, name = controller_of(pod)
+    if kind == "ReplicaSet":
+        above = deployment_of(pod, name, items)
+        kind, name = ("Deployment", above) if above else (kind, name)
+    namespace, own = name_of(pod)
+    return Target(kind, namespace, name) if kind in OWNERS else Target("Pod", namespace, own)
 
 
 def request_of(draft: Draft, group: Differing) -> int | None:
@@ -127,38 +137,16 @@ def limit_of(draft: Draft, group: Differing) -> int | None:
     return int(exact)
 
 
-def changes(draft: Draft, group: Differing,
-            raw: dict[str, Any]) -> dict[str, dict[str, str | None]]:
+def changes(draft: Draft, group: Differing, raw: dict[str, Any]) -> Resources:
     """The resources of a container that change. A limit alone must not become the request."""
-    resources: dict[str, dict[str, str | None]] = {}
+    amounts = {}
     if group.has_weight or group.has_request:
-        resources["requests"] = {"cpu": amount(request_of(draft, group))}
+        amounts["requests"] = request_of(draft, group)
     elif group.has_limit and "cpu" not in table(raw, "resources", "requests"):
-        resources["requests"] = {"cpu": amount(int(group.before.request or 0))}
+        amounts["requests"] = int(group.before.request or 0)
     if group.has_limit:
-        resources["limits"] = {"cpu": amount(limit_of(draft, group))}
-    return resources
-
-
-def patch_raw(container: dict[str, Any], resources: dict[str, dict[str, str | None]]) -> None:
-    """Changes a container of the files as its patch does."""
-    held = container.setdefault("resources", {})
-    for key, value in resources.items():
-        cpu = held.setdefault(key, {})
-        cpu |= value
-        if cpu["cpu"] is None:
-            del cpu["cpu"]
-
-
-def patch_pods(pods: Pods, target: Target, rows: dict[str, Any]) -> None:
-    """Changes all pods of a target, as its patch does. Their class is reckoned again."""
-    for pod in pods.of(target):
-        table(pod, "status").pop("qosClass", None)
-        for key, entries in rows.items():
-            known = {text(each, "name"): each for each in tables(table(pod, "spec"), key)}
-            for each in entries:
-                if each["name"] in known:
-                    patch_raw(known[each["name"]], each["resources"])
+        amounts["limits"] = limit_of(draft, group)
+    return {key: {"cpu": None if each is None else f"{each}m"} for key, each in amounts.items()}
 
 
 def paired(draft: Draft) -> Iterator[Differing]:
@@ -180,13 +168,21 @@ def check_again(draft: Draft, pods: Pods) -> None:
     for path, group in draft.after.groups.items():
         if path not in draft.before.groups and path not in draft.moved:
             continue
-        wanted, would = apply.settings_of(group), None
-        if path in groups:
-            would = apply.settings_of(groups[path])
+        wanted = apply.settings_of(group)
+        would = apply.settings_of(groups[path]) if path in groups else None
         if wanted != would:
             told = f"set {apply.in_words(would)}" if would else "put it into another class"
             draft.refuse(path, f"{apply.in_words(wanted)} is asked for, and Kubernetes would"
                          f" {told}: requests and limits of containers decide it")
+
+
+def refusal_of(pod: dict[str, Any], target: Target) -> str:
+    """Why a pod cannot be patched; empty where it can."""
+    if not (NAME.fullmatch(target.namespace) and NAME.fullmatch(target.name)):
+        return f"{target.words} is no name that Kubernetes takes"
+    if text(pod, "metadata", "annotations", MIRROR):
+        return f"{target.words} is a static pod: its file on the node says its requests and limits"
+    return ""
 
 
 def check_class(draft: Draft, group: Differing, target: Target) -> None:
@@ -200,83 +196,53 @@ def check_class(draft: Draft, group: Differing, target: Target) -> None:
                           f" {shown(group.after.path)}")
 
 
-def key_of(pod: dict[str, Any], name: str) -> str:
-    """The list of a pod in which a container stands."""
-    inits = [text(each, "name") for each in tables(table(pod, "spec"), "initContainers")]
-    return "initContainers" if name in inits else "containers"
-
-
-def add(draft: Draft, patches: dict[Target, dict[str, Any]], target: Target,
-        entry: tuple[str, str, dict[str, dict[str, str | None]]]) -> None:
-    """Adds a container to the patch of its target."""
-    key, name, resources = entry
-    rows = patches.setdefault(target, {}).setdefault(key, [])
-    known = next((each for each in rows if each["name"] == name), None)
-    if known is None:
-        rows.append({"name": name, "resources": resources})
-    elif known["resources"] != resources:
-        draft.refuse(f"{target.words}, container {name}", "two of its pods are to have two"
-                     " settings")
-
-
-def command_of(target: Target, file: str) -> str:
-    """Command that applies a patch."""
-    more = " --subresource resize" if target.kind == "Pod" else ""
-    return (f"# kubectl -n {target.namespace} patch {target.kind.lower()} {target.name}{more}"
-            f" --patch-file {file}\n")
-
-
-def document(target: Target, rows: dict[str, Any], words: Sequence[str]) -> Document:
-    """The patch of one target."""
-    data: dict[str, Any] = {
-        "apiVersion": OWNERS.get(target.kind, "v1"), "kind": target.kind,
-        "metadata": {"name": target.name, "namespace": target.namespace}}
-    data["spec"] = rows if target.kind == "Pod" else {"template": {"spec": rows}}
-    file = f"{target.namespace}.{target.kind.lower()}.{target.name}.yaml"
-    lines = "".join(f"# {each}\n" for each in words)
-    return Document(file, head("kubectl") + command_of(target, file) + lines
+def document(target: Target, rows: Rows, words: Sequence[str]) -> Document:
+    """The patch of one target, and how it is applied."""
+    kind, more = target.kind.lower(), ""
+    spec: dict[str, Any] = {key: [{"name": name, "resources": each}
+                                  for name, each in entries.items()]
+                            for key, entries in rows.items()}
+    if target.kind == "Pod":
+        more = " --subresource resize"
+    else:
+        spec = {"template": {"spec": spec}}
+    file = f"{target.namespace}.{kind}.{target.name}.yaml"
+    command = f"kubectl -n {target.namespace} patch {kind} {target.name}{more} --patch-file {file}"
+    data = {"apiVersion": OWNERS.get(target.kind, "v1"), "kind": target.kind,
+            "metadata": {"name": target.name, "namespace": target.namespace}, "spec": spec}
+    return Document(file, head("kubectl") + "".join(f"# {each}\n" for each in (command, *words))
                     + yaml.safe_dump(data, sort_keys=False))
-
-
-def tell(draft: Draft, pods: Pods, targets: Sequence[Target]) -> None:
-    """Tells how far a patch reaches: all pods of an owner, or one pod that has none."""
-    for target in targets:
-        if target.kind == "Pod":
-            draft.told.append(f"{target.words}: nothing owns it whose template may change: its"
-                              " patch lasts as long as it")
-        else:
-            draft.told.append(f"{target.words}: the patch changes all its pods, on all nodes; in"
-                              f" these files it has {len(pods.of(target))}")
 
 
 def documents(draft: Draft) -> list[Document]:
     """A patch of each owner, or of a pod without one."""
-    try:
-        pods = Pods(copy.deepcopy(list(draft.files)))
-    except HostFault as fault:
-        raise HostFault(f"-o kubectl is for pods: {fault.message}") from fault
-    patches: dict[Target, dict[str, Any]] = {}
+    with naming("-o kubectl is for pods"):
+        pods = Pods(draft.files)
+    patches: dict[Target, Rows] = {}
     words: dict[Target, list[str]] = {}
     for group in paired(draft):
-        if group.before.title not in pods.containers:
+        if group.before.title not in pods.containers or not (
+                group.has_weight or group.has_limit or group.has_request):
             continue
-        if not (group.has_weight or group.has_limit or group.has_request):
-            continue
-        pod, container = pods.containers[group.before.title]
+        pod, key, container = pods.containers[group.before.title]
         target, name = target_of(pod, pods.items), text(container, "name")
-        if not (NAME.fullmatch(target.namespace) and NAME.fullmatch(target.name)):
-            draft.refuse(group.path, f"{target.words} is no name that Kubernetes takes")
-            continue
-        if text(table(pod, "metadata", "annotations"), MIRROR):
-            draft.refuse(group.path, f"{target.words} is a static pod: its file on the node says"
-                         " its requests and limits")
+        refusal = refusal_of(pod, target)
+        if refusal:
+            draft.refuse(group.path, refusal)
             continue
         check_class(draft, group, target)
         resources = changes(draft, group, container)
-        add(draft, patches, target, (key_of(pod, name), name, resources))
+        row = patches.setdefault(target, {}).setdefault(key, {})
+        if row.setdefault(name, resources) != resources:
+            draft.refuse(f"{target.words}, container {name}", "two of its pods are to have two"
+                         " settings")
         words.setdefault(target, []).append(group.words)
     for target, rows in patches.items():
-        patch_pods(pods, target, rows)
+        pods.patch(target, rows)
     check_again(draft, pods)
-    tell(draft, pods, list(patches))
+    for target in patches:
+        draft.told.append(f"{target.words}: " + (
+            "nothing owns it whose template may change: its patch lasts as long as it"
+            if target.kind == "Pod" else "the patch changes all its pods, on all nodes; in these"
+            f" files it has {len(pods.of(target))}"))
     return [document(target, rows, words[target]) for target, rows in patches.items()]

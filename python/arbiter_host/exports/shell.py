@@ -6,7 +6,7 @@ import shlex
 
 from arbiter_host import apply
 from arbiter_host.atomic_files import Document
-from arbiter_host.exports.base import Draft, head, of_kubelet
+from arbiter_host.exports import Draft, head, of_kubelet
 from arbiter_host.names import shown
 
 BEGIN = """\
@@ -44,11 +44,12 @@ def quoted(text: str) -> str:
 
 def lines_of(step: apply.Step) -> list[str]:
     """A step as lines."""
+    def call(name: str, *words: str) -> str:
+        return " ".join([name, *map(quoted, words)])
+
     there = (f"{step.folder}/{step.file}", step.old)
-    if step.unit:
-        return [" ".join(["unit", *map(quoted, (step.unit, step.folder))]),
-                " ".join(["look", *map(quoted, there)]), shlex.join(apply.command_of(step))]
-    return [" ".join(["put", *map(quoted, (*there, step.new))])]
+    return [call("unit", step.unit, step.folder), call("look", *there),
+            shlex.join(apply.command_of(step))] if step.unit else [call("put", *there, step.new)]
 
 
 def documents(draft: Draft) -> list[Document]:

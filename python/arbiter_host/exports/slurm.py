@@ -4,7 +4,7 @@ from __future__ import annotations
 import re
 
 from arbiter_host.atomic_files import Document
-from arbiter_host.exports.base import Differing, Draft, head
+from arbiter_host.exports import Differing, Draft, head
 from arbiter_host.names import last_name
 from arbiter_host.sources import slurm
 
@@ -18,30 +18,29 @@ def user_of(group: Differing) -> str:
     return user if slash and is_job and USER.fullmatch(user) else ""
 
 
-def cpus_of(draft: Draft, group: Differing) -> int | None:
-    """The CPUs of a job's limit, -1 without one; None where Slurm cannot say the change."""
-    quota, rest = divmod(group.after.quota or 0, group.after.period)
+def refusal_of(group: Differing) -> str:
+    """Why Slurm cannot say a change; empty where it can."""
     if not user_of(group):
-        draft.refuse(group.path, "no job of a user of Slurm")
-    elif group.has_weight:
-        draft.refuse(group.path, "a weight: Slurm has none for the CPUs of jobs that run")
-    elif group.has_burst:
-        draft.refuse(group.path, "a burst: Slurm has no setting for it")
-    elif group.after.quota is not None and (rest or not quota):
-        draft.refuse(group.path, "the limit is no whole number of CPUs")
-    else:
-        return -1 if group.after.quota is None else quota
-    return None
+        return "no job of a user of Slurm"
+    if group.has_weight:
+        return "a weight: Slurm has none for the CPUs of jobs that run"
+    if group.has_burst:
+        return "a burst: Slurm has no setting for it"
+    quota, rest = divmod(group.after.quota or 0, group.after.period)
+    is_whole = group.after.quota is None or quota and not rest
+    return "" if is_whole else "the limit is no whole number of CPUs"
 
 
 def documents(draft: Draft) -> list[Document]:
-    """One script of bash: the most CPUs of each later job of a user."""
+    """One script of bash: the most CPUs of each later job of a user, -1 without a limit."""
     most: dict[str, int] = {}
     lines = []
     for group in draft.groups():
-        cpus, user = cpus_of(draft, group), user_of(group)
-        if cpus is None:
+        user, quota, refusal = user_of(group), group.after.quota, refusal_of(group)
+        if refusal:
+            draft.refuse(group.path, refusal)
             continue
+        cpus = -1 if quota is None else quota // group.after.period
         if most.setdefault(user, cpus) != cpus:
             draft.refuse(group.path, f"the jobs of {user} are to have two limits, and Slurm has"
                          " one for each of a user's jobs")

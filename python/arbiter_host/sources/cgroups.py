@@ -8,21 +8,18 @@ from arbiter import Host
 from arbiter_host import demands, looks, units
 from arbiter_host.looks import OverTime, Times
 from arbiter_host.model import Model, bound_notes
-from arbiter_host.sources import tree_units
-
-
-def own_use(series: OverTime, path: str, below: Sequence[str]) -> Fraction:
-    """What the tasks of a group with children used themselves, in thousandths of a CPU."""
-    whole, *parts = (demands.mean(demands.used(series.measured(each), series.seconds))
-                     for each in (path, *below))
-    return max(whole - sum(parts, Fraction(0)), Fraction(0))
+from arbiter_host.sources import systemd
 
 
 def own_notes(model: Model, series: OverTime) -> list[str]:
     """Notes of what the tasks of inner groups used, from half a slice on."""
     notes, host = [], model.host
     for path, below in model.children().items():
-        use = own_use(series, path, below) if below else Fraction(0)
+        if not below:
+            continue
+        whole, *parts = (demands.mean(demands.used(series.measured(each), series.seconds))
+                         for each in (path, *below))
+        use = max(whole - sum(parts, Fraction(0)), Fraction(0))
         if 2 * use * host.period_us >= 1000 * host.slice_us:
             notes.append(f"{path}: its own tasks used {units.decimal(use, 0)}m of a CPU, which is"
                          " left out")
@@ -55,5 +52,5 @@ def read(folders: Sequence[str], host: Host, times: Times = Times(), want: str =
     measured = {path: series.measured(path) for path in model.groups}
     demands.set_demands(model, measured, want, series.seconds)
     model.notes += [*own_notes(model, series), *slice_notes(model)]
-    model.owned = tree_units.TreeSource(model.copy(), want=want)
+    model.owned = systemd.TreeSource(model.copy(), want=want)
     return model

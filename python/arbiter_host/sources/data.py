@@ -1,7 +1,8 @@
-"""Access to JSON data whose form is not known: each call gives a value of the type or nothing."""
+"""Access to data whose form is not known: each call gives a value of the type or nothing."""
 from __future__ import annotations
 
 import json
+from collections.abc import Sequence
 from typing import Any
 
 from arbiter_host.faults import HostFault
@@ -10,43 +11,70 @@ MAX_TEXT = 253
 MAX_BYTES = 128 << 20
 
 
-def loads(data: bytes, name: str) -> Any:
-    """The data of a JSON file; a fault names file and line."""
-    if len(data) > MAX_BYTES:
-        raise HostFault(f"{name}: more than {MAX_BYTES >> 20} MiB")
+def check_size(data: bytes, name: str, most: int = MAX_BYTES) -> None:
+    """A fault where a file has more bytes than that."""
+    if len(data) > most:
+        raise HostFault(f"{name}: more than {most >> 20} MiB")
+
+
+def decoded(data: bytes, name: str, most: int = MAX_BYTES, encoding: str = "utf-8-sig",
+            errors: str = "strict") -> str:
+    """The text of a file of at most so many bytes; a fault names the line that is none."""
+    check_size(data, name, most)
     try:
-        return json.loads(data.decode("utf-8-sig"))
+        return data.decode(encoding, errors)
     except UnicodeDecodeError as error:
         line = data[:error.start].count(b"\n") + 1
         raise HostFault(f"{name}:{line}: not UTF-8") from error
+
+
+def loads(data: bytes, name: str) -> Any:
+    """The data of a JSON file; a fault names file and line."""
+    words = decoded(data, name)
+    try:
+        return json.loads(words)
     except json.JSONDecodeError as error:
         raise HostFault(f"{name}:{error.lineno}: no JSON: {error.msg}") from error
     except (RecursionError, ValueError) as error:
         raise HostFault(f"{name}:1: no JSON that can be read: {error}") from error
 
 
-def table(value: Any, *keys: str) -> dict[str, Any]:
-    """A table below a value; an empty one where there is none."""
+def cells_of(cells: Sequence[str], head: Sequence[str], where: str,
+             what: str = "cells") -> dict[str, str]:
+    """The cells of a row by the names of its columns; a fault where it has more or fewer."""
+    if len(cells) != len(head):
+        raise HostFault(f"{where}: {len(cells)} {what} and not {len(head)}")
+    return dict(zip(head, cells))
+
+
+def below(value: Any, *keys: str) -> Any:
+    """The value below tables, by their keys; None where there is none."""
     for key in keys:
         value = value.get(key) if isinstance(value, dict) else None
-    return value if isinstance(value, dict) else {}
+    return value
 
 
-def tables(value: Any, key: str) -> list[dict[str, Any]]:
+def table(value: Any, *keys: str) -> dict[str, Any]:
+    """A table below a value; an empty one where there is none."""
+    found = below(value, *keys)
+    return found if isinstance(found, dict) else {}
+
+
+def tables(value: Any, *keys: str) -> list[dict[str, Any]]:
     """The tables of a list below a value."""
-    rows = value.get(key) if isinstance(value, dict) else None
+    rows = below(value, *keys)
     return [each for each in rows if isinstance(each, dict)] if isinstance(rows, list) else []
 
 
-def text(value: Any, key: str) -> str:
+def text(value: Any, *keys: str) -> str:
     """A text below a value; empty where there is none."""
-    word = value.get(key) if isinstance(value, dict) else None
+    word = below(value, *keys)
     return word[:MAX_TEXT] if isinstance(word, str) else ""
 
 
-def number(value: Any, key: str) -> int:
+def number(value: Any, *keys: str) -> int:
     """A whole number below a value, at most 2^63; 0 where there is none."""
-    value_ = value.get(key) if isinstance(value, dict) else None
-    if isinstance(value_, bool) or not isinstance(value_, int):
+    found = below(value, *keys)
+    if isinstance(found, bool) or not isinstance(found, int):
         return 0
-    return min(max(value_, -2**63), 2**63)
+    return min(max(found, -2**63), 2**63)

@@ -10,10 +10,12 @@
 """
 from __future__ import annotations
 
+import itertools
 import json
 import re
 import tomllib
-from collections.abc import Callable, Sequence
+from collections.abc import Callable, Iterator, Mapping, Sequence
+from contextlib import contextmanager
 from dataclasses import replace
 from fractions import Fraction
 from typing import Any
@@ -22,12 +24,10 @@ from arbiter import Host, Library
 from arbiter_host import names, units
 from arbiter_host.faults import HostFault
 from arbiter_host.model import Group, Model, check_count, check_settings, checked
+from arbiter_host.sources.data import decoded
 from arbiter_host.sources.register import is_json
 from arbiter_host.sources.wish import File, Wish, only
 
-# The keys of `host`, and the fields that they set.
-HOST_KEYS = {"cpus": "processors", "period": "period_us", "slice": "slice_us"}
-GROUP_KEYS = ("weight", "max", "period", "burst", "demand", "tasks", "title", "place")
 # Most bytes of a host file.
 MAX_BYTES = 32 << 20
 # Most of the sum over the lines of TOML of the squares of their dots: a name of n parts takes n^2.
@@ -49,16 +49,23 @@ class KeyLines:
         entry."""
         lines = names_alone(self.text).split("\n")
         begin = next((place for place, line in enumerate(lines) if is_head(line, path)), 0)
-        if key:
-            for place in range(begin, len(lines)):
-                if re.search(rf"(^|[\s{{,\"']){re.escape(key)}[\"']?\s*[:=]", lines[place]):
-                    return place + 1
-        return begin + 1
+        shape = re.compile(rf"(^|[\s{{,\"']){re.escape(key)}[\"']?\s*[:=]")
+        places = (place for place in range(begin, len(lines)) if shape.search(lines[place]))
+        return 1 + (next(places, begin) if key else begin)
 
     def fault(self, message: str, path: str = "", key: str = "") -> HostFault:
         """A fault with file and line."""
         which = f"{names.shown(path)}: " if path else ""
         return HostFault(f"{self.name}:{self.line(path, key)}: {which}{message}")
+
+    @contextmanager
+    def finding(self, path: str, key: str = "") -> Iterator[None]:
+        """Faults of what is done here, with the line of an entry or of its key."""
+        try:
+            yield
+        except HostFault as fault:
+            what = f"{key}: {fault.message}" if key else fault.message
+            raise self.fault(what, path, key) from fault
 
 
 def names_alone(text: str) -> str:
@@ -81,14 +88,16 @@ def is_head(line: str, path: str) -> bool:
 
 
 def parsed(text: str, name: str, is_toml: bool) -> Any:
-    """The data of a file."""
+    """The data of a file. Names of TOML with more parts than can be read in time are refused."""
+    dots = itertools.accumulate(line.count(".") ** 2 for line in text.split("\n"))
+    number = next((at for at, total in enumerate(dots, 1) if total > MAX_DOTS), 0)
+    if is_toml and number:
+        raise HostFault(f"{name}:{number}: too many names with dots")
     try:
-        if is_toml:
-            check_dots(text, name)
         return tomllib.loads(text) if is_toml else json.loads(text)
     except tomllib.TOMLDecodeError as error:
         match = re.search(r"\(at line (\d+)", str(error))
-        line = match.group(1) if match else str(text.count("\n") + 1)
+        line = match[1] if match else str(text.count("\n") + 1)
         raise HostFault(f"{name}:{line}: {re.sub(r' .at .*', '', str(error))}") from error
     except json.JSONDecodeError as error:
         raise HostFault(f"{name}:{error.lineno}: {error.msg}") from error
@@ -97,13 +106,11 @@ def parsed(text: str, name: str, is_toml: bool) -> Any:
         raise HostFault(f"{name}:1: cannot be read as {kind}: {names.shown(str(error))}") from error
 
 
-def check_dots(text: str, name: str) -> None:
-    """A fault where the names of TOML have more parts than can be read in time."""
-    total = 0
-    for number, line in enumerate(text.split("\n"), 1):
-        total += line.count(".") ** 2
-        if total > MAX_DOTS:
-            raise HostFault(f"{name}:{number}: too many names with dots")
+def text_of(value: Any) -> str:
+    """A short text of a value. Lists and tables are named alone: they may hold themselves."""
+    if isinstance(value, (list, tuple, set, dict)):
+        return "a table" if isinstance(value, dict) else "a list"
+    return names.cut(names.shown(repr(value)), 60)
 
 
 def whole(value: Any) -> int:
@@ -113,19 +120,10 @@ def whole(value: Any) -> int:
     return value
 
 
-def text_of(value: Any) -> str:
-    """A short text of a value. Lists and tables are named alone: they may hold themselves."""
-    if isinstance(value, (list, tuple, set)):
-        return "a list"
-    if isinstance(value, dict):
-        return "a table"
-    return names.cut(names.shown(repr(value)), 60)
-
-
 def cpu(value: Any) -> Fraction:
     """A CPU amount: text with a unit, or a number of CPUs."""
     if isinstance(value, (int, float)) and not isinstance(value, bool):
-        return units.parse_cpu(repr(value))
+        value = repr(value)
     if not isinstance(value, str):
         raise HostFault(f"{text_of(value)} is no amount of CPU: write 250m, 1.5cpu or 40%")
     return units.parse_cpu(value)
@@ -143,27 +141,28 @@ def text(value: Any) -> str:
     return value
 
 
-def place(value: Any) -> str:
-    """A folder of the host."""
-    return names.place_of(text(value))
+# The keys of `host` with the fields that they set, and those of a group, with what reads a value.
+HOST_KEYS = {"cpus": "processors", "period": "period_us", "slice": "slice_us"}
+GROUP_KEYS: dict[str, Callable[[Any], Any]] = {
+    "weight": whole, "max": cpu, "period": time, "burst": time, "demand": cpu, "tasks": whole,
+    "title": text, "place": lambda value: names.place_of(text(value))}
 
 
 def set_max(group: Group, value: Any) -> None:
     """Sets a limit: a CPU amount of its period, `max`, or the two words of `cpu.max`."""
-    if value is None or value == "max":
+    words = re.fullmatch(r"\s*([0-9]{1,18}|max)\s+([0-9]{1,9})\s*",
+                         value if isinstance(value, str) else "")
+    if words:
+        group.quota = None if words[1] == "max" else int(words[1])
+        group.period = int(words[2])
+    elif value is None or value == "max":
         group.quota = None
-        return
-    words = value if isinstance(value, str) else ""
-    pair = re.fullmatch(r"\s*([0-9]{1,18}|max)\s+([0-9]{1,9})\s*", words)
-    if pair:
-        group.quota = None if pair.group(1) == "max" else int(pair.group(1))
-        group.period = int(pair.group(2))
-        return
-    exact = cpu(value) * group.period / 1000
-    if exact.denominator != 1:
-        raise HostFault(f"{text_of(value)} is no whole number of microseconds in a period of"
-                        f" {group.period}")
-    group.quota = int(exact)
+    else:
+        exact = cpu(value) * group.period / 1000
+        if exact.denominator != 1:
+            raise HostFault(f"{text_of(value)} is no whole number of microseconds in a period of"
+                            f" {group.period}")
+        group.quota = int(exact)
 
 
 def set_key(group: Group, key: str, value: Any) -> None:
@@ -171,9 +170,13 @@ def set_key(group: Group, key: str, value: Any) -> None:
     if key == "max":
         set_max(group, value)
     else:
-        take: Callable[[Any], Any] = {"weight": whole, "tasks": whole, "demand": cpu, "title": text,
-                                      "place": place}.get(key, time)
-        setattr(group, key, take(value))
+        setattr(group, key, GROUP_KEYS[key](value))
+
+
+def check_key(places: KeyLines, path: str, key: Any, known: Mapping[str, Any]) -> None:
+    """A fault for a key that a table does not have."""
+    if key not in known:
+        raise places.fault(f"no key {text_of(key)}: {', '.join(known)}", path, str(key))
 
 
 def read_group(places: KeyLines, path: str, entry: Any) -> Group:
@@ -181,18 +184,16 @@ def read_group(places: KeyLines, path: str, entry: Any) -> Group:
     if not isinstance(entry, dict):
         raise places.fault("a group is a table of keys", path)
     group = Group(path)
+    # (the period stands before the limit, which may be a CPU amount of it)
     for key in [*(each for each in entry if each == "period"), *entry]:
-        if key not in GROUP_KEYS:
-            raise places.fault(f"no key {text_of(key)}: {', '.join(GROUP_KEYS)}", path, str(key))
-        try:
+        check_key(places, path, key, GROUP_KEYS)
+        with places.finding(path, key):
             set_key(group, key, entry[key])
-        except HostFault as fault:
-            raise places.fault(f"{key}: {fault.message}", path, key) from fault
     try:
         check_settings(group)
     except HostFault as fault:
-        key = {"quota": "max"}.get(fault.message.split(" ")[0], fault.message.split(" ")[0])
-        raise places.fault(fault.message, path, key) from fault
+        setting = fault.message.partition(" ")[0]
+        raise places.fault(fault.message, path, {"quota": "max"}.get(setting, setting)) from fault
     return group
 
 
@@ -203,17 +204,11 @@ def check_path(places: KeyLines, path: Any) -> str:
     for name in path.split("/"):
         if name in ("", ".", "..") or re.search(r"[ \t\n\0]", name):
             raise places.fault("a path is names joined by /, without blanks", path)
-        if not is_name(name):
+        # (half a pair of surrogates, which JSON can hold, has no bytes)
+        is_text = name.encode(errors="replace").decode() == name
+        if not is_text or len(name.encode()) > names.MAX_NAME:
             raise places.fault("a name is 1 to 255 bytes of UTF-8", path)
     return path
-
-
-def is_name(name: str) -> bool:
-    """Whether a name is at most 255 bytes of UTF-8."""
-    try:
-        return len(name.encode()) <= names.MAX_NAME
-    except UnicodeEncodeError:
-        return False
 
 
 def add(places: KeyLines, model: Model, group: Group) -> None:
@@ -221,10 +216,8 @@ def add(places: KeyLines, model: Model, group: Group) -> None:
     above = names.parent_path(group.path)
     if above != "." and above not in model.groups:
         add(places, model, Group(above))
-    try:
+    with places.finding(group.path):
         model.add(group)
-    except HostFault as fault:
-        raise places.fault(fault.message, group.path) from fault
 
 
 def read_host(places: KeyLines, entry: Any) -> Host:
@@ -233,49 +226,23 @@ def read_host(places: KeyLines, entry: Any) -> Host:
         raise places.fault("host is a table", "host")
     host = Host()
     for key, value in entry.items():
-        if key not in HOST_KEYS:
-            raise places.fault(f"no key {text_of(key)}: {', '.join(HOST_KEYS)}", "host", str(key))
-        try:
+        check_key(places, "host", key, HOST_KEYS)
+        with places.finding("host", key):
             number = whole(value) if key == "cpus" else time(value)
-        except HostFault as fault:
-            raise places.fault(f"{key}: {fault.message}", "host", key) from fault
-        host = replace(host, **{HOST_KEYS[key]: number})
-    try:
+            host = replace(host, **{HOST_KEYS[key]: number})
+    with places.finding("host"):
         return checked(host)
-    except HostFault as fault:
-        raise places.fault(fault.message, "host") from fault
-
-
-def check_demands(places: KeyLines, model: Model) -> None:
-    """A fault where a group has a demand and children."""
-    for path, below in model.children().items():
-        if path != "." and below and model.groups[path].demand:
-            raise places.fault("a group with children has no demand: give the children theirs",
-                               path, "demand")
-
-
-def text_in(data: bytes, name: str) -> str:
-    """The text of a file; a fault names the line that is none."""
-    if len(data) > MAX_BYTES:
-        raise HostFault(f"{name}: more than {MAX_BYTES >> 20} MiB")
-    try:
-        return data.decode("utf-8-sig")
-    except UnicodeDecodeError as error:
-        line = data[:error.start].count(b"\n") + 1
-        raise HostFault(f"{name}:{line}: not UTF-8") from error
 
 
 def tables_in(places: KeyLines, entry: Any) -> tuple[Any, dict[str, Any]]:
     """The tables `host` and `groups` of a file."""
     if not isinstance(entry, dict):
         raise HostFault(f"{places.name}:1: a host file is a table with host and groups")
-    for key in entry:
-        if key not in ("host", "groups"):
-            line = places.line(str(key))
-            if "apiVersion" in entry:
-                raise HostFault(f"{places.name}:{line}: an object of Kubernetes, of which pods and"
-                                " nodes are read as JSON: kubectl get pods -o json")
-            raise HostFault(f"{places.name}:{line}: no table {text_of(key)}: host, groups")
+    unknown = next((key for key in entry if key not in ("host", "groups")), None)
+    if unknown is not None:
+        raise HostFault(f"{places.name}:{places.line(str(unknown))}: " + (
+            "an object of Kubernetes, of which pods and nodes are read as JSON: kubectl get pods -o"
+            " json" if "apiVersion" in entry else f"no table {text_of(unknown)}: host, groups"))
     groups = entry.get("groups") or {}
     if not isinstance(groups, dict):
         raise places.fault("groups is a table of paths", "groups")
@@ -284,18 +251,20 @@ def tables_in(places: KeyLines, entry: Any) -> tuple[Any, dict[str, Any]]:
 
 def model_of(data: bytes, name: str, is_toml: bool) -> Model:
     """The model of a host file."""
-    text_ = text_in(data, name)
-    places = KeyLines(name, text_)
-    entry = parsed(text_, name, is_toml)
+    places = KeyLines(name, decoded(data, name, MAX_BYTES))
+    entry = parsed(places.text, name, is_toml)
     host, groups = tables_in(places, entry)
     model = Model(read_host(places, host), names_host="host" in entry)
     check_count(len(groups), f"{name}: {len(groups)} groups")
     for path, each in groups.items():
-        group = read_group(places, check_path(places, path), each if each is not None else {})
+        group = read_group(places, check_path(places, path), {} if each is None else each)
         if path in model.groups:
             raise places.fault("a group stands before the groups below it", path)
         add(places, model, group)
-    check_demands(places, model)
+    for path, below in model.children().items():
+        if path != "." and below and model.groups[path].demand:
+            raise places.fault("a group with children has no demand: give the children theirs",
+                               path, "demand")
     return model
 
 
@@ -309,22 +278,17 @@ def read(files: Sequence[File], _: Library, wish: Wish) -> Model:
 
 def group_data(group: Group) -> dict[str, Any]:
     """The keys of a group that are not the default."""
-    keys: dict[str, Any] = {}
-    if group.weight != units.DEFAULT_WEIGHT:
-        keys["weight"] = group.weight
-    if group.quota is not None or group.period != units.DEFAULT_PERIOD:
-        keys["max"] = f"{'max' if group.quota is None else group.quota} {group.period}"
-    if group.burst:
-        keys["burst"] = f"{group.burst}us"
-    if group.demand:
-        keys["demand"] = units.cpu_text(group.demand)
-    if group.tasks is not None:
-        keys["tasks"] = group.tasks
-    if group.title:
-        keys["title"] = group.title
-    if group.place:
-        keys["place"] = names.place_text(group.place)
-    return keys
+    has_max = group.quota is not None or group.period != units.DEFAULT_PERIOD
+    keys = {
+        "weight": group.weight if group.weight != units.DEFAULT_WEIGHT else None,
+        "max": group.max_words if has_max else None,
+        "burst": f"{group.burst}us" if group.burst else None,
+        "demand": units.cpu_text(group.demand) if group.demand else None,
+        "tasks": group.tasks,
+        "title": group.title or None,
+        "place": names.place_text(group.place) if group.place else None,
+    }
+    return {key: value for key, value in keys.items() if value is not None}
 
 
 def data(model: Model) -> dict[str, Any]:
@@ -339,19 +303,17 @@ def data(model: Model) -> dict[str, Any]:
 
 def toml_value(value: Any) -> str:
     """A whole number or a text in TOML."""
-    if isinstance(value, int):
-        return str(value)
     return json.dumps(value, ensure_ascii=False).replace("\x7f", "\\u007f")
 
 
 def write_toml(model: Model) -> str:
     """A host file in TOML, with the notes as comments."""
-    tables = data(model)
-    lines = [*(f"# ! {names.shown(note)}" for note in model.notes), "[host]"]
-    lines += [f"{key} = {toml_value(value)}" for key, value in tables["host"].items()]
-    for path, entry in tables["groups"].items():
-        lines += ["", f"[groups.{toml_value(path)}]"]
-        lines += [f"{key} = {toml_value(value)}" for key, value in entry.items()]
+    written = data(model)
+    lines = [f"# ! {names.shown(note)}" for note in model.notes]
+    tables = {"[host]": written["host"], **{f"\n[groups.{toml_value(path)}]": entry
+                                            for path, entry in written["groups"].items()}}
+    for head, entry in tables.items():
+        lines += [head, *(f"{key} = {toml_value(value)}" for key, value in entry.items())]
     return "".join(f"{line}\n" for line in lines)
 
 

@@ -1,6 +1,7 @@
 """Sources of containers: each may be measured in a tree of cgroups, or by others."""
 from __future__ import annotations
 
+import functools
 from collections.abc import Mapping, Sequence
 from dataclasses import dataclass, field, replace
 from fractions import Fraction
@@ -9,8 +10,9 @@ from typing import TypeVar
 from arbiter import Host, Library
 from arbiter_host.demands import Measured, Place, Use, use_of
 from arbiter_host.faults import HostFault
+from arbiter_host.model import Model
 from arbiter_host.owned import Owned
-from arbiter_host.sources.usage import Used, some, told_twice
+from arbiter_host.sources.usage import Used, some
 from arbiter_host.sources.wish import Wish
 
 S = TypeVar("S", bound="Measurable")
@@ -28,29 +30,34 @@ class Measurable(Owned):
     known: Mapping[Place, Measured] = field(default_factory=dict, kw_only=True)
     seconds: Fraction = field(default=Fraction(1), kw_only=True)
 
-    def places(self) -> Mapping[str, Place]:
-        """The place of each container by the path of its group."""
+    @functools.cached_property
+    def built(self) -> tuple[Model, Mapping[str, Place]]:
+        """The model, which is shared, and the place of each container by the path of its group."""
         raise NotImplementedError
 
     def places_of(self, entry: Used) -> Sequence[Place]:
         """The containers that an entry of a measurement names."""
         raise NotImplementedError
 
-    def folders(self) -> dict[Place, tuple[str, ...]]:
-        """Where each container may be below the top of a tree."""
+    def folders_by(self, driver: str) -> dict[Place, str]:
+        """Where each container is below the top of a tree, by a driver of its groups."""
         raise NotImplementedError
 
+    def folders(self) -> dict[Place, tuple[str, ...]]:
+        """Where each container may be below the top of a tree. The wish's driver comes first."""
+        drivers = sorted(("systemd", "cgroupfs"), key=lambda each: each != self.wish.driver)
+        one, two = map(self.folders_by, drivers)
+        return {place: (folder, two[place]) for place, folder in one.items()}
+
+    @functools.cached_property
+    def plain(self) -> Model:
+        return self.built[0]
+
     def has(self, path: str) -> bool:
-        """Whether a group is a container that was read."""
-        return path in self.places()
+        return path in self.built[1]
 
     def on_host(self: S, host: Host) -> S:
-        """The same on another host."""
         return replace(self, host=host)
-
-    def with_readings(self: S, known: Mapping[Place, Measured], seconds: Fraction) -> S:
-        """The same with what was measured in a tree of cgroups."""
-        return replace(self, known=known, seconds=seconds)
 
     def with_usage(self: S, entries: Sequence[Used], name: str) -> S:
         """The same with what others measured. What it has no container of is told."""
@@ -59,17 +66,17 @@ class Measurable(Owned):
             places = self.places_of(entry)
             if len(places) != 1:
                 missing.append(entry.title + (f" ({len(places)} containers)" if places else ""))
-                continue
-            told_twice(known, places[0], f"{name}: {entry.title}")
-            known[places[0]] = Measured(told=entry.amounts)
+            elif places[0] in known:
+                raise HostFault(f"{name}: {entry.title}: two numbers for what one container used")
+            else:
+                known[places[0]] = Measured(told=entry.amounts)
         told = f"{name}: used by containers that are not here, {some(missing)}"
         if not known:
             raise HostFault(told)
         return replace(self, known=known, notes=(*self.notes, *([told] if missing else [])))
 
     def seen(self) -> dict[str, Use]:
-        """The use of each container that was measured."""
-        model = self.plain()
+        model, places = self.built
         uses = {path: use_of(model.groups[path], self.known.get(place, Measured()), model.host,
-                             self.seconds) for path, place in self.places().items()}
+                             self.seconds) for path, place in places.items()}
         return {path: use for path, use in uses.items() if use is not None}

@@ -1,4 +1,7 @@
-"""Pods as their JSON has them, and what kubelet reckons of them: requests, limits, classes."""
+"""Pods as their JSON has them, and what kubelet reckons of them: requests, limits, classes.
+
+Whether the scheduler may put a pod on a node: cordons, taints and labels of the node.
+"""
 from __future__ import annotations
 
 import json
@@ -7,20 +10,26 @@ import re
 from collections.abc import Sequence
 from dataclasses import dataclass, replace
 from fractions import Fraction
-from typing import Any
+from typing import Any, NamedTuple
 
 from arbiter_host import units
 from arbiter_host.faults import HostFault
 from arbiter_host.names import NOWHERE, shown
 from arbiter_host.owned import Amounts
-from arbiter_host.sources.data import table, tables, text
+from arbiter_host.sources.data import below, table, tables, text
+from arbiter_host.sources.systemd import slice_folder
 
 TOP = "kubepods"
+KEYS = ("requests", "limits")
 CLASSES = {"Guaranteed": TOP, "Burstable": f"{TOP}/burstable", "BestEffort": f"{TOP}/besteffort"}
 # Names of kubelet's groups, by either of its drivers.
 KUBELET = re.compile(r"kubepods([-.].*)?")
 # The annotation by which the API server's copy of a static pod has kubelet's own identifier of it.
 MIRROR = "kubernetes.io/config.mirror"
+# What the runtimes put before an identifier in the name of a group.
+SCOPES = {"containerd": "cri-containerd-", "cri-o": "crio-", "docker": "docker-"}
+# The effects of a taint that keep a new pod away.
+EFFECTS = ("NoSchedule", "NoExecute")
 # A quantity: a number, and either a suffix or an exponent. None below 0 is an amount of CPU.
 QUANTITY = re.compile(r"\+?([0-9]{1,30}(?:\.[0-9]{0,30})?|\.[0-9]{1,30})"
                       r"(?:([numkMGTPE]|[KMGTPE]i)|[eE]([+-]?[0-9]{1,2}))?")
@@ -39,14 +48,8 @@ class Container:
     identifier: str = ""
     is_init: bool = False
     is_sidecar: bool = False
-    is_running: bool = False
-    # It has ended, and is not begun again.
-    has_ended: bool = False
-
-    @property
-    def has_group(self) -> bool:
-        """Whether it has a group: an init container that does not run has none."""
-        return not self.has_ended and (not self.is_init or self.is_sidecar or self.is_running)
+    # An init container that does not run has none, nor has one that ended and is not begun again.
+    has_group: bool = True
 
 
 @dataclass(frozen=True)
@@ -85,7 +88,6 @@ class Pod:
 
     @property
     def title(self) -> str:
-        """Namespace and name."""
         return f"{self.namespace}/{self.name}"
 
     @property
@@ -118,10 +120,8 @@ class Pod:
         return Amounts(limit if request is None else request, limit)
 
     def with_amounts(self, place: int, amounts: Amounts) -> Pod:
-        """The pod with other amounts of one container.
-
-        What the status tells of its class holds where the rule gives the same class as before.
-        """
+        """The pod with other amounts of one container. What the status tells of its class holds
+        where the rule gives the same class as before."""
         parts = (*self.parts[:place], replace(self.parts[place], amounts=amounts),
                  *self.parts[place + 1:])
         after = replace(self, parts=parts)
@@ -130,15 +130,48 @@ class Pod:
         return replace(after, told="")
 
 
+class Taint(NamedTuple):
+    """A taint of a node."""
+
+    key: str
+    value: str
+    effect: str
+
+    def is_tolerated(self, by: Toleration) -> bool:
+        """Whether a toleration is of this taint. A key that is empty is of any."""
+        return (by.effect in ("", self.effect) and by.value in (None, self.value)
+                and (by.key == self.key or not by.key and by.value is None))
+
+
+@dataclass(frozen=True)
+class NodeFacts:
+    """What a node says of the pods that it takes."""
+
+    is_cordoned: bool = False
+    taints: tuple[Taint, ...] = ()
+    labels: tuple[tuple[str, str], ...] = ()
+
+    def check(self, pod: Pod) -> None:
+        """A fault where the scheduler puts no such pod on the node."""
+        if self.is_cordoned:
+            raise HostFault("the node takes no new pods (unschedulable)")
+        for key, value in pod.selector:
+            if (key, value) not in self.labels:
+                raise HostFault(f"the node has no label {shown(key)}={shown(value)}")
+        for taint in self.taints:
+            if not any(taint.is_tolerated(each) for each in pod.tolerations):
+                raise HostFault(f"it does not tolerate the taint {shown(taint.key)}")
+
+
 def quantity(value: Any) -> Fraction:
     """Thousandths of a CPU of a quantity; a fault where Kubernetes takes none of this form."""
     word = json.dumps(value) if isinstance(value, (int, float, bool)) else str(value)[:60]
     match = QUANTITY.fullmatch(word)
     if not match:
         raise HostFault(f"{shown(word)!r} is no quantity of CPU")
-    amount = Fraction(match.group(1)) * SUFFIXES[match.group(2) or ""] * 1000
-    if match.group(3):
-        amount *= Fraction(10) ** int(match.group(3))
+    amount = Fraction(match[1]) * SUFFIXES[match[2] or ""] * 1000
+    if match[3]:
+        amount *= Fraction(10) ** int(match[3])
     if amount > units.MAX_CPUS * 1000:
         raise HostFault(f"{word!r} is above {units.MAX_CPUS} CPUs")
     return amount
@@ -146,10 +179,8 @@ def quantity(value: Any) -> Fraction:
 
 def thousandths(value: Any, where: str, notes: list[str]) -> int | None:
     """A quantity in whole thousandths, rounded up as kubelet does."""
-    if value is None:
-        return None
     try:
-        return math.ceil(quantity(value))
+        return None if value is None else math.ceil(quantity(value))
     except HostFault as fault:
         notes.append(f"{where}: {fault.message}: it is left out")
         return None
@@ -157,56 +188,48 @@ def thousandths(value: Any, where: str, notes: list[str]) -> int | None:
 
 def amounts_of(resources: dict[str, Any], where: str, notes: list[str]) -> Amounts:
     """Request and limit of CPU. A limit without a request is the request too."""
-    limit = thousandths(table(resources, "limits").get("cpu"), where, notes)
-    request = thousandths(table(resources, "requests").get("cpu"), where, notes)
+    limit, request = (thousandths(below(resources, key, "cpu"), where, notes)
+                      for key in ("limits", "requests"))
     return Amounts(limit if request is None else request, limit)
 
 
-def identifier_of(status: dict[str, Any]) -> str:
-    """The runtime's identifier of a container, as the names of groups have it."""
-    kind, _, identifier = text(status, "containerID").partition("://")
-    prefix = {"containerd": "cri-containerd-", "cri-o": "crio-", "docker": "docker-"}.get(kind, "")
-    return prefix + identifier if identifier else ""
-
-
-def has_ended(state: dict[str, Any], pod: dict[str, Any], is_sidecar: bool) -> bool:
-    """Whether a container is at its end by its state, and kubelet does not begin it again."""
-    policy = text(table(pod, "spec"), "restartPolicy")
-    is_done = policy == "Never" or policy == "OnFailure" and not table(state, "terminated").get(
-        "exitCode")
-    return "terminated" in state and is_done and not is_sidecar
-
-
 def containers_of(pod: dict[str, Any], where: str, notes: list[str]) -> tuple[Container, ...]:
-    """All containers of a pod: init containers first, in order."""
-    containers = []
+    """All containers of a pod: init containers first, in order. One that has ended is not begun
+    again by the policy `Never`, nor by `OnFailure` after a success."""
+    containers, policy = [], text(pod, "spec", "restartPolicy")
     for key, statuses in (("initContainers", "initContainerStatuses"),
                           ("containers", "containerStatuses")):
-        status = {text(each, "name"): each for each in tables(table(pod, "status"), statuses)}
-        for each in tables(table(pod, "spec"), key):
-            name = text(each, "name") or "unnamed"
-            known = status.get(name, {})
-            is_init, state = key == "initContainers", table(known, "state")
+        status = {text(each, "name"): each for each in tables(pod, "status", statuses)}
+        for each in tables(pod, "spec", key):
+            name, is_init = text(each, "name") or "unnamed", key == "initContainers"
             is_sidecar = is_init and text(each, "restartPolicy") == "Always"
-            amounts = amounts_of(table(each, "resources"), f"{where}/{name}", notes)
-            containers.append(Container(name, amounts, identifier_of(known), is_init, is_sidecar,
-                                   "running" in state, has_ended(state, pod, is_sidecar)))
+            known = status.get(name, {})
+            state = table(known, "state")
+            runtime, _, identifier = text(known, "containerID").partition("://")
+            has_failed = bool(below(state, "terminated", "exitCode"))
+            is_over = "terminated" in state and (
+                policy == "Never" or policy == "OnFailure" and not has_failed)
+            has_group = is_sidecar or not is_over and (not is_init or "running" in state)
+            containers.append(Container(
+                name, amounts_of(table(each, "resources"), f"{where}/{name}", notes),
+                identifier and SCOPES.get(runtime, "") + identifier, is_init, is_sidecar,
+                has_group))
     return tuple(containers)
 
 
 def requested(containers: Sequence[Container], key: str) -> int:
     """What a pod's containers take at most at once, in thousandths, by request or limit."""
-    def value(container: Container) -> int:
-        return getattr(container.amounts, key) or 0
-
-    sidecars, most = 0, 0
+    sidecars, most, together = 0, 0, 0
     for each in containers:
+        value = getattr(each.amounts, key) or 0
         if each.is_sidecar:
-            sidecars += value(each)
+            sidecars += value
             most = max(most, sidecars)
         elif each.is_init:
-            most = max(most, sidecars + value(each))
-    return max(sum(value(each) for each in containers if not each.is_init) + sidecars, most)
+            most = max(most, sidecars + value)
+        else:
+            together += value
+    return max(together + sidecars, most)
 
 
 def is_limited(containers: Sequence[Container]) -> bool:
@@ -224,20 +247,10 @@ def is_limited(containers: Sequence[Container]) -> bool:
     return bool(containers)
 
 
-def memory_of(container: dict[str, Any], key: str) -> Any:
-    """A memory quantity of a container, for the quality class."""
-    return table(container, "resources", key).get("memory")
-
-
 def is_memory_limited(container: dict[str, Any]) -> bool:
     """Whether a container has a limit of memory that is its request."""
-    limit = memory_of(container, "limits")
-    return bool(limit) and memory_of(container, "requests") in (None, limit)
-
-
-def uid_of(metadata: dict[str, Any]) -> str:
-    """The identifier in the name of a pod's group: of a static pod its mirror has another."""
-    return text(table(metadata, "annotations"), MIRROR) or text(metadata, "uid")
+    request, limit = (below(container, "resources", key, "memory") for key in KEYS)
+    return bool(limit) and request in (None, limit)
 
 
 def names_of(pod: dict[str, Any]) -> tuple[str, str]:
@@ -246,49 +259,52 @@ def names_of(pod: dict[str, Any]) -> tuple[str, str]:
     return text(metadata, "namespace") or "default", text(metadata, "name") or "unnamed"
 
 
-def pod_of(pod: dict[str, Any], notes: list[str]) -> Pod:
-    """A pod as kubelet reckons with it."""
-    metadata, spec = table(pod, "metadata"), table(pod, "spec")
-    namespace, name = names_of(pod)
-    where = f"{namespace}/{name}"
-    told = text(table(pod, "status"), "qosClass")
-    is_whole = any(name in table(spec, "resources", key) for key in ("requests", "limits")
-                   for name in ("cpu", "memory"))
-    raw = [spec] if is_whole else tables(spec, "initContainers") + tables(spec, "containers")
-    parts = containers_of(pod, where, notes)
-    overhead = thousandths(table(spec, "overhead").get("cpu"), where, notes) or 0
-    own = amounts_of(table(spec, "resources"), where, notes)
-    asks = any(memory_of(each, key) for each in raw for key in ("requests", "limits"))
-    return Pod(namespace, name, uid_of(metadata), parts, overhead, own, is_whole,
-               told if told in CLASSES else "", asks, all(map(is_memory_limited, raw)),
-               pairs_of(table(spec, "nodeSelector")),
-               tuple(map(toleration_of, tables(spec, "tolerations"))),
-               pairs_of(table(metadata, "labels")))
-
-
 def pairs_of(labels: dict[str, Any]) -> tuple[tuple[str, str], ...]:
-    """Labels in order: those of a pod, or those that its node must have."""
+    """Labels in order: those of a pod or a node, or those that a pod's node must have."""
     return tuple(sorted((key, text(labels, key)) for key in labels))
 
 
-def toleration_of(raw: dict[str, Any]) -> Toleration:
-    """A toleration. Without an operator the value has to be equal."""
-    is_any = text(raw, "operator") == "Exists"
-    return Toleration(text(raw, "key"), None if is_any else text(raw, "value"),
-                      text(raw, "effect"))
+def pod_of(pod: dict[str, Any], notes: list[str]) -> Pod:
+    """A pod as kubelet reckons with it."""
+    metadata, spec, (namespace, name) = table(pod, "metadata"), table(pod, "spec"), names_of(pod)
+    where, told = f"{namespace}/{name}", text(pod, "status", "qosClass")
+    is_whole = any({"cpu", "memory"} & table(spec, "resources", key).keys() for key in KEYS)
+    raw = [spec] if is_whole else tables(spec, "initContainers") + tables(spec, "containers")
+    return Pod(
+        namespace, name,
+        # The mirror of a static pod has an identifier that is not the one of its group.
+        uid=text(metadata, "annotations", MIRROR) or text(metadata, "uid"),
+        parts=containers_of(pod, where, notes),
+        overhead=thousandths(below(spec, "overhead", "cpu"), where, notes) or 0,
+        own=amounts_of(table(spec, "resources"), where, notes), is_whole=is_whole,
+        told=told if told in CLASSES else "",
+        asks_memory=any(below(each, "resources", key, "memory") for each in raw for key in KEYS),
+        is_memory_equal=all(map(is_memory_limited, raw)),
+        selector=pairs_of(table(spec, "nodeSelector")),
+        tolerations=tuple(Toleration(
+            text(each, "key"), None if text(each, "operator") == "Exists" else text(each, "value"),
+            text(each, "effect")) for each in tables(spec, "tolerations")),
+        labels=pairs_of(table(metadata, "labels")))
+
+
+def node_facts(node: dict[str, Any] | None) -> NodeFacts:
+    """What a node's JSON says of the pods that it takes."""
+    return NodeFacts(below(node, "spec", "unschedulable") is True,
+                     tuple(Taint(*(text(each, key) for key in Taint._fields))
+                           for each in tables(node, "spec", "taints")
+                           if text(each, "effect") in EFFECTS),
+                     pairs_of(table(node, "metadata", "labels")))
+
+
+def folder_at(parts: Sequence[str], driver: str) -> str:
+    """The folder below /sys/fs/cgroup of kubelet's groups of these names, one in the other."""
+    return "/".join(parts) if driver == "cgroupfs" else slice_folder("-".join(parts) + ".slice")
 
 
 def folder_of(pod: Pod, driver: str) -> str:
     """The folder of a pod below /sys/fs/cgroup, by the driver of kubelet."""
-    quality = {"Guaranteed": "", "Burstable": "burstable", "BestEffort": "besteffort"}[pod.quality]
-    if driver == "cgroupfs":
-        return "/".join(each for each in (TOP, quality, f"pod{pod.uid}") if each)
-    slices, prefix = [f"{TOP}.slice"], TOP
-    for part in (quality, "pod" + pod.uid.replace("-", "_")):
-        if part:
-            prefix += f"-{part}"
-            slices.append(f"{prefix}.slice")
-    return "/".join(slices)
+    uid = pod.uid if driver == "cgroupfs" else pod.uid.replace("-", "_")
+    return folder_at([*CLASSES[pod.quality].split("/"), f"pod{uid}"], driver)
 
 
 def scope_of(folder: str, container: Container, driver: str) -> str:

@@ -14,7 +14,7 @@ from fractions import Fraction
 from typing import Any, NamedTuple, TypeVar
 
 from arbiter_host import units
-from arbiter_host.faults import HostFault, UsageFault
+from arbiter_host.faults import HostFault, UsageFault, naming
 from arbiter_host.names import cut, shown
 from arbiter_host.sources.samples import EMPTY, TABLE, History, Sample, time_name
 
@@ -54,12 +54,11 @@ def body_of(answer: Any, until: float) -> bytes:
     while piece := answer.read1(PIECE):
         data += piece
         if len(data) > MAX_ANSWER:
-            raise HostFault(f"{shown(answer.url)}: an answer of more than {MAX_ANSWER >> 20} MiB")
+            raise HostFault(f"an answer of more than {MAX_ANSWER >> 20} MiB")
         if time.monotonic() > until:
-            raise HostFault(f"{shown(answer.url)}: its answer takes more than {MOST_SECONDS}"
-                            " seconds")
+            raise HostFault(f"its answer takes more than {MOST_SECONDS} seconds")
     if answer.length:
-        raise HostFault(f"{shown(answer.url)}: its answer ends in the middle")
+        raise HostFault("its answer ends in the middle")
     return bytes(data)
 
 
@@ -67,16 +66,15 @@ def fetched(url: str) -> Any:
     """The JSON of an address."""
     until = time.monotonic() + MOST_SECONDS
     try:
-        with urllib.request.build_opener(Redirects).open(url, timeout=SECONDS) as answer:
+        with urllib.request.build_opener(Redirects).open(url, timeout=SECONDS) as answer, (
+                naming(shown(answer.url))):
             return json.loads(body_of(answer, until))
-    except urllib.error.HTTPError as error:
-        told = error.read(400).decode(errors="replace") or str(error.reason)[:400]
-        raise HostFault(f"{shown(url)}: {error.code}: {shown(told)}") from error
-    except urllib.error.URLError as error:
-        raise HostFault(f"{shown(url)}: {error.reason}") from error
     except (OSError, http.client.HTTPException, ValueError, RecursionError) as error:
-        raise HostFault(f"{shown(url)}: {shown(str(error)[:400]) or type(error).__name__}"
-                        ) from error
+        cause = error.reason if isinstance(error, urllib.error.URLError) else error
+        told = str(cause)[:400] or type(error).__name__
+        if isinstance(error, urllib.error.HTTPError):
+            told = f"{error.code}: {error.read(400).decode(errors='replace') or told}"
+        raise HostFault(f"{shown(url)}: {shown(told)}") from error
 
 
 def is_address(word: str) -> bool:
@@ -85,14 +83,10 @@ def is_address(word: str) -> bool:
 
 
 def instant(at: Any) -> float:
-    """The time of a value, in seconds. A ValueError for one that is none."""
-    try:
-        seconds = float(at)
-    except OverflowError as error:
-        raise ValueError(at) from error
-    if not math.isfinite(seconds):
+    """The time of a value, in seconds. A ValueError or OverflowError for one that is none."""
+    if not math.isfinite(float(at)):
         raise ValueError(at)
-    return seconds
+    return float(at)
 
 
 class QueryRange(NamedTuple):
@@ -161,10 +155,8 @@ def column_of(labels: Mapping[str, str], url: str) -> str:
 
 
 def told_apart(labels: Sequence[Mapping[str, str]]) -> set[str]:
-    """The labels in which series of one name differ so that they may be the same use twice.
-
-    Parts of a use differ in `PARTS`. Where each has an `id` of its own, a container was made anew.
-    """
+    """The labels in which series of one name differ so that they may be the same use twice. Parts
+    of a use differ in `PARTS`. Where each has an `id` of its own, a container was made anew."""
     if len({tuple(sorted(each.items())) for each in labels}) < len(labels):
         return {"nothing"}
     keys = {key for each in labels for key in each}
@@ -189,21 +181,6 @@ def series_of(answer: Any) -> list[Metric]:
             for each in answer["data"]["result"]]
 
 
-def summed(columns: Mapping[str, Sequence[Metric]], url: str) -> dict[str, dict[float, str]]:
-    """The values of each column. Metric that are parts of one are added up; else a fault."""
-    sums = {}
-    for name, parts in columns.items():
-        apart = told_apart([each.labels for each in parts]) if len(parts) > 1 else ()
-        if apart:
-            raise HostFault(f"{shown(url)}: {len(parts)} series of {shown(cut(name, 100))} differ"
-                            f" in {', '.join(sorted(map(shown, apart)))}: choose by --query, as"
-                            " 'sum by (namespace, pod, container) (..)'")
-        times = dict.fromkeys(at for each in parts for at in each.values)
-        sums[name] = {at: total([each.values[at] for each in parts if at in each.values])
-                       for at in times}
-    return sums
-
-
 def total(words: Sequence[str]) -> str:
     """The sum of numbers as they are written, exactly."""
     if len(words) == 1:
@@ -212,38 +189,38 @@ def total(words: Sequence[str]) -> str:
     return units.decimal(sum((each[0] for each in parsed if each), Fraction(0)), 12)
 
 
-def without_totals(columns: dict[str, list[Metric]]) -> None:
-    """Takes out the series of pods whose containers have series of their own."""
-    above = {name.rpartition("/")[0] for name, parts in columns.items()
-             if parts[0].labels.get("container")}
-    for name in above & columns.keys():
-        if not columns[name][0].labels.get("container"):
-            del columns[name]
+def summed(name: str, parts: Sequence[Metric], url: str) -> dict[float, str]:
+    """The values of a column. Series that are parts of one are added up; else a fault."""
+    apart = told_apart([each.labels for each in parts]) if len(parts) > 1 else ()
+    if apart:
+        raise HostFault(f"{shown(url)}: {len(parts)} series of {shown(cut(name, 100))} differ"
+                        f" in {', '.join(sorted(map(shown, apart)))}: choose by --query, as"
+                        " 'sum by (namespace, pod, container) (..)'")
+    return {at: total([each.values[at] for each in parts if at in each.values])
+            for at in dict.fromkeys(at for each in parts for at in each.values)}
 
 
 def history_of(metrics: Sequence[Metric], url: str) -> History:
-    """The samples of series."""
+    """The samples of series. Those of pods whose containers have series of their own are none."""
     columns: dict[str, list[Metric]] = {}
     for each in metrics:
         columns.setdefault(column_of(each.labels, url), []).append(each)
-    without_totals(columns)
-    values = summed(columns, url)
-    times = sorted({at for each in values.values() for at in each})
+    leaves = {name for name, parts in columns.items() if parts[0].labels.get("container")}
+    above = {name.rpartition("/")[0] for name in leaves} - leaves
+    values = {name: summed(name, parts, url) for name, parts in columns.items()
+              if name not in above}
     return History(list(values), [
         Sample(time_name(str(int(at))), {name: each[at] for name, each in values.items()
-                                         if at in each}, shown(url)) for at in times])
-
-
-def query_of(step: float) -> str:
-    """What is asked where no query is said: the CPU that cAdvisor counts."""
-    rate = f"{max(step, LEAST_RATE):g}s"
-    return " or ".join(f"rate(container_cpu_usage_seconds_total{{{each}}}[{rate}])"
-                       for each in LEAVES)
+                                         if at in each}, shown(url))
+        for at in sorted({at for each in values.values() for at in each})])
 
 
 def read(url: str, query: str | None, asked: QueryRange) -> list[Metric]:
-    """The series of a query, which is cAdvisor's unless it is said."""
-    return of_range(url, query or query_of(asked.step), asked, series_of)
+    """The series of a query. That of the CPU which cAdvisor counts is asked unless it is said."""
+    rate = f"{max(asked.step, LEAST_RATE):g}s"
+    default = " or ".join(f"rate(container_cpu_usage_seconds_total{{{each}}}[{rate}])"
+                          for each in LEAVES)
+    return of_range(url, query or default, asked, series_of)
 
 
 def by_host(metrics: Sequence[Metric], url: str) -> dict[str, History]:

@@ -11,6 +11,8 @@ from typing import NamedTuple
 
 # What a file may begin with before its first word.
 BLANK = b"\xef\xbb\xbf \t\r\n"
+# What begins a table of TOML, and no list of JSON.
+TABLE = re.compile(rb"\[[A-Za-z]")
 OBJECTS = re.compile(rb'"kind"\s*:\s*"(Pod|PodList|Node|NodeList|List|Deployment|StatefulSet'
                      rb'|DaemonSet|ReplicaSet)"')
 PARTS = re.compile(rb'"kind"\s*:\s*"(Pod|Node)(?:List)?"')
@@ -23,17 +25,7 @@ USED, AVERAGE = "TRESUsageInTot", "AveCPU"
 def is_json(data: bytes) -> bool:
     """Whether a file begins as JSON does."""
     begin = data.lstrip(BLANK)
-    return begin[:1] in (b"{", b"[") and not re.match(rb"\[[A-Za-z]", begin)
-
-
-def is_toml(path: str, data: bytes) -> bool:
-    """Whether a file is a host file in TOML: its name says so, or it begins with a table."""
-    return path.endswith(".toml") or bool(re.match(rb"\[[A-Za-z]", data.lstrip(BLANK)))
-
-
-def part_of_pods(data: bytes) -> str:
-    """`pods`, or `node` for a file of nodes alone."""
-    return "node" if set(PARTS.findall(data)) == {b"Node"} else "pods"
+    return begin[:1] in (b"{", b"[") and not TABLE.match(begin)
 
 
 def part_of_jobs(data: bytes) -> str:
@@ -70,8 +62,8 @@ class SourceKind(NamedTuple):
 
 # In the order in which they are tried. A folder is a tree; what is none of these is a script.
 READERS = {
-    "toml": SourceKind("hostfile", is_toml,
-                       "A host file, with amounts such as 250m, 1.5cpu or 40%."),
+    "toml": SourceKind("hostfile", lambda path, data: path.endswith(".toml") or bool(
+        TABLE.match(data.lstrip(BLANK))), "A host file, with amounts such as 250m, 1.5cpu or 40%."),
     "slurm": SourceKind(
         "slurm", lambda _, data: bool(part_of_jobs(data)),
         "What `squeue --json` or `sacct --parsable2` print, and beside them `sstat --parsable2` and"
@@ -83,7 +75,8 @@ READERS = {
         "What `docker inspect` or `podman inspect` prints.", is_measured=True, is_here=True),
     "kubernetes": SourceKind(
         "kubernetes", lambda _, data: is_json(data) and bool(OBJECTS.search(data)),
-        "What `kubectl get pods -o json` prints, and a node's JSON beside it.", part_of_pods, True),
+        "What `kubectl get pods -o json` prints, and a node's JSON beside it.",
+        lambda data: "node" if set(PARTS.findall(data)) == {b"Node"} else "pods", True),
     "json": SourceKind("hostfile", lambda _, data: is_json(data), "The same in JSON."),
     "systemd": SourceKind(
         "systemd", lambda _, data: bool(UNITS.search(data)),

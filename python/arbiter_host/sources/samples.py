@@ -16,6 +16,8 @@ from arbiter import Host
 from arbiter_host import units
 from arbiter_host.faults import HostFault
 from arbiter_host.names import cut, shown
+from arbiter_host.plain_files import MAX_FILE
+from arbiter_host.sources.data import cells_of, decoded
 
 TIMES = ("time", "period", "timestamp", "date", "datetime", "_time", "ts")
 EMPTY = ("", "nan", "null", "none", "undefined", "-")
@@ -103,56 +105,40 @@ def time_name(text: str) -> str:
         return text
 
 
-def decoded(data: bytes, name: str) -> str:
-    """The text of a file, without a mark at its beginning."""
-    try:
-        return data.decode("utf-16" if data[:2] in (b"\xff\xfe", b"\xfe\xff") else "utf-8-sig")
-    except UnicodeDecodeError as error:
-        line = data[:error.start].count(b"\n") + 1
-        raise HostFault(f"{name}:{line}: not UTF-8") from error
+def encoding_of(data: bytes) -> str:
+    """The encoding of a file, by the mark at its beginning."""
+    return "utf-16" if data[:2] in (b"\xff\xfe", b"\xfe\xff") else "utf-8-sig"
 
 
-def delimiter_of(head: str) -> str:
-    """What separates the cells: the most frequent of `;`, tab and `,` in the first line."""
-    return max(";\t,", key=lambda each: (head.count(each), each == ","))
+def rows_of(data: bytes, name: str) -> tuple[list[str], list[tuple[str, list[str]]]]:
+    """The first row of a CSV, and the others with their places. All have as many cells.
 
-
-def rows_of(text: str, name: str) -> list[tuple[int, list[str]]]:
-    """The rows of a CSV with their lines. Empty rows and Grafana's `sep=` line are left out."""
-    lines = text.split("\n", 1)
-    begin = 0
-    if lines[0].strip().lower().startswith("sep="):
-        text, begin = lines[1] if len(lines) > 1 else "", 1
-    reader = csv.reader(io.StringIO(text, newline=""), delimiter=delimiter_of(text.split("\n")[0]))
+    Empty rows and Grafana's `sep=` line are left out. The most frequent of `;`, tab and `,` in the
+    first line separates the cells.
+    """
+    lines = decoded(data, name, MAX_FILE, encoding_of(data)).split("\n")
+    begin = int(lines[0].strip().lower().startswith("sep="))
+    head = lines[begin] if len(lines) > begin else ""
+    delimiter = max(";\t,", key=lambda each: (head.count(each), each == ","))
+    reader = csv.reader(io.StringIO("\n".join(lines[begin:]), newline=""), delimiter=delimiter)
     rows = []
     try:
         for row in reader:
             if any(cell.strip() for cell in row):
-                rows.append((reader.line_num + begin, [cell.strip() for cell in row]))
+                where = f"{name}:{reader.line_num + begin}"
+                rows.append((where, [cell.strip() for cell in row]))
     except csv.Error as error:
         raise HostFault(f"{name}:{reader.line_num + begin}: {error}") from error
-    return rows
-
-
-def checked_rows(data: bytes, name: str) -> tuple[list[str], list[tuple[int, list[str]]]]:
-    """The first row of a CSV, and the others with their lines. All have as many cells."""
-    rows = rows_of(decoded(data, name), name)
-    if not rows:
-        return [], []
-    head = rows[0][1]
-    for number, row in rows[1:]:
-        if len(row) != len(head):
-            raise HostFault(f"{name}:{number}: {len(row)} cells and not {len(head)}")
-    return head, rows[1:]
+    for where, row in rows[1:]:
+        cells_of(row, rows[0][1], where)
+    return (rows[0][1], rows[1:]) if rows else ([], [])
 
 
 def is_csv(path: str, data: bytes) -> bool:
     """Whether a file is CSV, by its name or its first line, and has no lines of pairs."""
     if path.lower().endswith((".csv", ".tsv")):
         return True
-    text = data[:4096].decode("utf-16" if data[:2] in (b"\xff\xfe", b"\xfe\xff") else "utf-8",
-                              "replace")
-    line = text.lstrip("\ufeff").split("\n")[0]
+    line = data[:4096].decode(encoding_of(data), "replace").lstrip("\ufeff").partition("\n")[0]
     words = line.split()
     are_pairs = len(words) % 2 == 0 and all(map(NUMBER.match, words[1::2]))
     return any(each in line for each in ",;\t") and not are_pairs and not line.startswith("#")
@@ -166,31 +152,24 @@ def check_names(groups: Sequence[str], where: str) -> None:
 
 
 def read_csv(data: bytes, name: str, first: int = 0) -> History:
-    """The samples of a CSV: groups in the first row, a number for each in every other.
-
-    Samples without a time are numbered from `first + 1` on.
-    """
-    head, rows = checked_rows(data, name)
+    """The samples of a CSV: groups in the first row, a number for each in every other. Samples
+    without a time are numbered from `first + 1` on."""
+    head, rows = rows_of(data, name)
     is_timed = bool(head) and (head[0].lower() in ("", *TIMES) or head[0].lower().endswith("time"))
-    groups = head[1:] if is_timed else head
-    check_names(groups, f"{name}:1")
-    read: list[Sample] = []
-    for number, row in rows:
-        cells = {column: cell for column, cell in zip(groups, row[len(head) - len(groups):])
-                 if cell.lower() not in EMPTY}
-        title = time_name(row[0]) if is_timed else str(first + len(read) + 1)
-        read.append(Sample(title, cells, f"{name}:{number}"))
-    return History(groups, read)
+    check_names(head[is_timed:], f"{name}:1")
+    return History(head[is_timed:], [
+        Sample(time_name(row[0]) if is_timed else str(number),
+               {column: cell for column, cell in zip(head[is_timed:], row[is_timed:])
+                if cell.lower() not in EMPTY}, where)
+        for number, (where, row) in enumerate(rows, first + 1)])
 
 
 def read_pairs(data: bytes, name: str, first: int = 0) -> History:
-    """The samples of lines `GROUP NUMBER GROUP NUMBER ..`. A line with `#` first is none.
-
-    They are numbered from `first + 1` on.
-    """
+    """The samples of lines `GROUP NUMBER GROUP NUMBER ..`. A line with `#` first is none. They are
+    numbered from `first + 1` on."""
     read: list[Sample] = []
-    lines = decoded(data, name).split("\n")
-    for number, line in enumerate(lines[:-1] if lines[-1] == "" else lines, 1):
+    text = decoded(data, name, MAX_FILE, encoding_of(data))
+    for number, line in enumerate(text.removesuffix("\n").split("\n"), 1):
         words, where = line.split(), f"{name}:{number}"
         if words and words[0].startswith("#"):
             continue
@@ -207,35 +186,27 @@ def read(data: bytes, path: str, first: int = 0) -> History:
     return (read_csv if is_csv(path, data) else read_pairs)(data, shown(path), first)
 
 
-def places(head: Sequence[str], where: str) -> list[int]:
-    """Where the columns of one table of hosts are, in the order time, host, group, demand."""
-    low, columns_ = [each.lower() for each in head], []
-    for key, known in TABLE.items():
-        at = next((low.index(name) for name in known if name in low), None)
-        if at is None:
-            raise HostFault(f"{where}:1: no column {key}: time, host, group, demand")
-        columns_.append(at)
-    return columns_
-
-
 def read_table(data: bytes, name: str) -> dict[str, History]:
     """The samples of each host, from one CSV with the columns time, host, group, demand. Times of
     a host stand in the order in which they come."""
-    head, rows = checked_rows(data, name)
+    head, rows = rows_of(data, name)
     if not head:
         raise HostFault(f"{name}: no sample")
-    order = places(head, name)
+    low, order = [each.lower() for each in head], []
+    for key, known in TABLE.items():
+        if not set(known) & set(low):
+            raise HostFault(f"{name}:1: no column {key}: time, host, group, demand")
+        order.append(low.index(next(each for each in known if each in low)))
     tables: dict[str, History] = {}
     by_time: dict[tuple[str, str], dict[str, str]] = {}
-    for number, row in rows:
+    for where, row in rows:
         time, host, group, demand = (row[at] for at in order)
         history = tables.setdefault(host, History([], []))
         if (host, time) not in by_time:
             by_time[host, time] = {}
-            history.samples.append(Sample(time_name(time), by_time[host, time],
-                                          f"{name}:{number}"))
+            history.samples.append(Sample(time_name(time), by_time[host, time], where))
         if group in by_time[host, time]:
-            raise HostFault(f"{name}:{number}: two numbers of {shown(cut(group, 60))} on"
+            raise HostFault(f"{where}: two numbers of {shown(cut(group, 60))} on"
                             f" {shown(cut(host, 60))} at one time")
         if group not in history.holes:
             history.holes.append(group)

@@ -25,6 +25,7 @@ NOTED = re.compile(rb"[ \t]*(?:mkdir|rmdir|demand)[ \t]")
 # Above a `demand`: the tasks that bound it, and what is asked where they cut it.
 TASKS = re.compile(r"# tasks ([0-9]{1,9})(?:, asks ([0-9]{1,30}[a-z]{0,3}))?")
 OPTION = re.compile(r"--([a-z]+)[ =]([0-9]+)")
+FIELDS = {"processors": "processors", "period": "period_us", "slice": "slice_us"}
 # Most lines that are refused, one by one.
 MAX_REFUSED = 100000
 # Ranges that are said behind the names of faults, by their numbers.
@@ -49,59 +50,40 @@ def head_host(lines: list[bytes]) -> Host | None:
             return None
         match = HEAD.match(text)
         if match:
-            given = {name: int(value) for name, value in OPTION.findall(match.group(1))}
-            host = Host()
-            return Host(given.get("processors", host.processors),
-                        given.get("period", host.period_us), given.get("slice", host.slice_us))
+            return replace(Host(), **{FIELDS[name]: int(value) for name, value in
+                                      OPTION.findall(match[1]) if name in FIELDS})
     return None
 
 
-def words_of(line: bytes) -> list[str]:
-    """The words of a line that was not refused."""
-    return [word for word in line.decode().replace("\t", " ").split(" ") if word]
-
-
-class Noted:
-    """What the comments of a script say of its groups, which are told of each line in turn."""
-
-    def __init__(self, slices: Slices) -> None:
-        self.slices = slices
-        self.groups: dict[str, Group] = {}
-
-    def take(self, before: bytes, line: bytes) -> None:
-        """Takes a line that was not refused, and the line above it."""
-        words = words_of(line)
-        if words[0] == "mkdir":
-            path = words[1].removeprefix("./")
-            self.groups[path] = Group(path)
-            if before.startswith(b"# at "):
-                self.groups[path].place = names.place_of(before[5:].decode(errors="replace"))
-        elif words[0] == "rmdir":
-            del self.groups[words[1]]
-        else:
-            host, group = self.slices.host, self.groups[words[1]]
-            group.demand = units.thousandths_of_slices(int(words[2]), host.period_us,
-                                                       host.slice_us)
-            self.take_tasks(group, before)
-
-    def take_tasks(self, group: Group, before: bytes) -> None:
-        """Takes what the comment above a demand says of tasks, unless it is of another demand."""
-        match = TASKS.fullmatch(before.decode(errors="replace"))
-        if not match:
-            return
-        asks = units.parse_cpu(match.group(2)) if match.group(2) else group.demand
-        told = replace(group, tasks=int(match.group(1)), demand=asks)
-        if self.slices.demand(told.usable) == self.slices.demand(group.usable):
+def take_demand(group: Group, demand: int, comment: str, slices: Slices) -> None:
+    """Takes a demand in slices, and what the comment above it says of tasks, unless that is of
+    another demand."""
+    group.demand = units.thousandths_of_slices(demand, slices.host.period_us, slices.host.slice_us)
+    match = TASKS.fullmatch(comment)
+    if match:
+        asks = units.parse_cpu(match[2]) if match[2] else group.demand
+        told = replace(group, tasks=int(match[1]), demand=asks)
+        if slices.demand(told.usable) == slices.demand(group.usable):
             group.tasks, group.demand = told.tasks, told.demand
 
 
 def take_comments(model: Model, lines: list[bytes], refused: set[int], slices: Slices) -> None:
     """Takes what the comments say of the groups: their places, tasks and what they ask for."""
-    noted = Noted(slices)
-    for number, (before, line) in enumerate(zip([b"", *lines], lines), 1):
-        if NOTED.match(line) and number not in refused:
-            noted.take(before, line)
-    for path, group in noted.groups.items():
+    groups: dict[str, Group] = {}
+    for number, (above, line) in enumerate(zip([b"", *lines], lines), 1):
+        if number in refused or not NOTED.match(line):
+            continue
+        comment = above.decode(errors="replace")
+        verb, path, *amount = re.split("[ \t]+", line.decode().strip(" \t"))
+        if verb == "demand":
+            take_demand(groups[path], int(amount[0]), comment, slices)
+        elif verb == "rmdir":
+            del groups[path]
+        else:
+            path = path.removeprefix("./")
+            is_placed = comment.startswith("# at ")
+            groups[path] = Group(path, place=names.place_of(comment[5:]) if is_placed else "")
+    for path, group in groups.items():
         taken = model.groups[path]
         taken.place, taken.tasks, taken.demand = group.place, group.tasks, group.demand
 
@@ -125,10 +107,8 @@ def add_groups(model: Model, script: Script, slices: Slices) -> None:
 
 
 def asked_of(library: Library, host: Host, data: bytes) -> Script:
-    """What the library makes of a script.
-
-    On more than 64 CPUs it is asked for 64: that decides only what a `period` leaves over.
-    """
+    """What the library makes of a script. On more than 64 CPUs it is asked for 64: that decides
+    only what a `period` leaves over."""
     with asking("the script"):
         of_host = replace(host, processors=min(host.processors, MAX_PROCESSORS))
         script = library.script(of_host, data)
@@ -182,27 +162,20 @@ def model_of(data: bytes, name: str, library: Library, host: Host | None = None)
     return model
 
 
-def settings(group: Group) -> list[str]:
-    """The lines that make one group. The burst stands after the quota that bounds it."""
-    path = group.path
-    lines = [f"mkdir {path}"]
+def made(group: Group) -> list[str]:
+    """The lines that make one group, with comments of what a script has no command for. The burst
+    stands after the quota that bounds it."""
+    path, is_below = group.path, not group.place.startswith("/")
+    lines = [f"# {names.shown(path)} is {names.shown(group.title)}"] if group.title else []
+    if is_below and group.place not in ("", names.raw_path(path)):
+        lines.append(f"# at {names.place_text(group.place)}")
+    lines.append(f"mkdir {path}")
     if group.weight != units.DEFAULT_WEIGHT:
         lines.append(f"write {path} cpu.weight {group.weight}")
     if group.quota is not None or group.period != units.DEFAULT_PERIOD:
-        quota = "max" if group.quota is None else group.quota
-        lines.append(f"write {path} cpu.max {quota} {group.period}")
+        lines.append(f"write {path} cpu.max {group.max_words}")
     if group.burst:
         lines.append(f"write {path} cpu.max.burst {group.burst}")
-    return lines
-
-
-def comments(group: Group) -> list[str]:
-    """Lines that say what a script has no command for."""
-    lines = []
-    if group.title:
-        lines.append(f"# {names.shown(group.path)} is {names.shown(group.title)}")
-    if not group.place.startswith("/") and group.place not in ("", names.raw_path(group.path)):
-        lines.append(f"# at {names.place_text(group.place)}")
     return lines
 
 
@@ -220,7 +193,7 @@ def write(model: Model, library: Library) -> str:
     slices = Slices(library, model.host)
     lines = [head_line(model.host), *(f"# ! {names.shown(note)}" for note in model.notes)]
     for group in model.groups.values():
-        lines += [*comments(group), *settings(group)]
+        lines += made(group)
     for group in model.groups.values():
         lines += demanded(group, slices.demand(group.usable))
     return "".join(f"{line}\n" for line in lines)

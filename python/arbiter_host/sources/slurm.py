@@ -12,18 +12,18 @@ from __future__ import annotations
 import functools
 import itertools
 import re
-from collections.abc import Iterator, Mapping, Sequence
-from dataclasses import dataclass, field
+from collections.abc import Iterable, Iterator, Mapping, Sequence
+from dataclasses import dataclass, field, replace
 from fractions import Fraction
 from typing import Any
 
 from arbiter import Host, Library
 from arbiter_host import demands, names, units
 from arbiter_host.demands import Measured, Reading
-from arbiter_host.faults import HostFault, NoHost
+from arbiter_host.faults import HostFault, NoHost, naming
 from arbiter_host.model import Group, Model, check_count
 from arbiter_host.names import NOWHERE, listed, shown
-from arbiter_host.sources.data import MAX_BYTES, loads, number, table, tables, text
+from arbiter_host.sources.data import cells_of, decoded, loads, number, table, tables, text
 from arbiter_host.sources.register import AVERAGE, USED, part_of_jobs
 from arbiter_host.sources.wish import File, Wish
 
@@ -50,6 +50,14 @@ class JobStep:
     used: int | None = None
     passed: int = 0
     nodes: Sequence[str] = ()
+
+    @property
+    def measured(self) -> Measured:
+        """Its use as two readings, with the CPUs as request and as tasks."""
+        readings = []
+        if self.used is not None and self.passed > 0:
+            readings = [Reading(0), Reading(self.used * 10**6 // self.passed)]
+        return Measured(readings, Fraction(1000 * self.cpus), self.cpus or None)
 
 
 @dataclass
@@ -83,42 +91,28 @@ class SlurmJob:
 
 def count(value: Any, key: str) -> int:
     """A number, which newer versions hold in a table: `{"set": true, "number": 8}`."""
-    wrapped = table(value, key)
-    return number(wrapped, "number") if wrapped else number(value, key)
-
-
-def words_of(value: Any, key: str) -> list[str]:
-    """Words: a list in newer versions, one text in older ones."""
-    words = value.get(key) if isinstance(value, dict) else None
-    if isinstance(words, list):
-        return [each for each in words if isinstance(each, str)]
-    return [words] if isinstance(words, str) else []
-
-
-def split_outside(hosts: str) -> list[str]:
-    """The parts of a list of hosts: a comma in brackets separates none."""
-    return [each for each in re.findall(r"(?:[^,\[]|\[[^\]]*\])+", hosts) if each]
+    return number(value, key, "number") if table(value, key) else number(value, key)
 
 
 def ranged(part: str) -> Iterator[str]:
     """The hosts of one part, such as `n[01-04,7]`, which has at most one pair of brackets."""
-    match = re.fullmatch(r"([^\[\]]*)\[([^\[\]]*)\]([^\[\]]*)", part)
-    if not match and "[" not in part and "]" not in part:
+    if not set(part) & {"[", "]"}:
         yield part
         return
-    for each in match.group(2).split(",") if match else [""]:
+    match = re.fullmatch(r"([^\[\]]*)\[([^\[\]]*)\]([^\[\]]*)", part)
+    for each in match[2].split(",") if match else [""]:
         pair = RANGE.fullmatch(each)
         if not (match and pair):
             raise HostFault(f"{shown(part[:60])!r} is no list of nodes")
-        first, last = int(pair.group(1)), int(pair.group(2) or pair.group(1))
-        for at in range(first, last + 1):
-            yield f"{match.group(1)}{at:0{len(pair.group(1))}}{match.group(3)}"
+        for place in range(int(pair[1]), int(pair[2] or pair[1]) + 1):
+            yield f"{match[1]}{place:0{len(pair[1])}}{match[3]}"
 
 
 @functools.lru_cache(maxsize=1024)
 def hosts_of(text_: str) -> list[str]:
-    """The nodes of Slurm's list of hosts."""
-    named = itertools.chain.from_iterable(map(ranged, split_outside(text_)))
+    """The nodes of Slurm's list of hosts. A comma in brackets separates none."""
+    parts = re.findall(r"(?:[^,\[]|\[[^\]]*\])+", text_)
+    named = itertools.chain.from_iterable(map(ranged, parts))
     hosts = list(itertools.islice(named, MOST_NODES + 1))
     if len(hosts) > MOST_NODES:
         raise HostFault(f"a job of more than {MOST_NODES} nodes")
@@ -132,30 +126,26 @@ def time_of(word: str) -> int:
         raise HostFault(f"{shown(word[:40])!r} is no time of Slurm")
     days, hours, minutes, seconds = (int(each or 0) for each in match.groups()[:4])
     whole = ((days * 24 + hours) * 60 + minutes) * 60 + seconds
-    return int((whole + Fraction(match.group(5) or 0)) * 10**6)
+    return int((whole + Fraction(match[5] or 0)) * 10**6)
 
 
 def cores_of(node: dict[str, Any]) -> int:
     """How many cores of a node a job was allotted, as Slurm 22.05 tells them."""
-    sockets = table(node, "sockets")
-    return sum(text(table(sockets, each, "cores"), core) == "allocated"
-               for each in sockets for core in table(sockets, each, "cores"))
+    return sum(text(cores, core) == "allocated" for socket in table(node, "sockets").values()
+               for cores in [table(socket, "cores")] for core in cores)
 
 
 def allotted(raw: dict[str, Any]) -> list[tuple[str, int, bool]]:
     """The nodes of a job with its CPUs there, and whether cores are told."""
-    cpus_of = []
-    older = tables(table(raw, "job_resources"), "allocated_nodes")
-    counts, cpus = [cores_of(each) for each in older], count(raw, "cpus")
-    if sum(counts):
+    older, cpus = tables(raw, "job_resources", "allocated_nodes"), count(raw, "cpus")
+    cores = list(map(cores_of, older))
+    if sum(cores):
         # (`cpus_used` there is 0 of some jobs that run)
-        return [(text(each, "nodename"), -(-cpus * many // sum(counts)), True)
-                for each, many in zip(older, counts)]
-    for each in tables(table(raw, "job_resources", "nodes"), "allocation"):
-        sockets = tables(each, "sockets")
-        cores = any(tables(socket, "cores") for socket in sockets)
-        cpus_of.append((text(each, "name"), number(table(each, "cpus"), "count"), cores))
-    return cpus_of
+        return [(text(each, "nodename"), -(-cpus * many // sum(cores)), True)
+                for each, many in zip(older, cores)]
+    return [(text(each, "name"), number(each, "cpus", "count"),
+             any(tables(socket, "cores") for socket in tables(each, "sockets")))
+            for each in tables(raw, "job_resources", "nodes", "allocation")]
 
 
 def alias_of(raw: dict[str, Any]) -> str:
@@ -168,59 +158,40 @@ def alias_of(raw: dict[str, Any]) -> str:
     return ""
 
 
+def states_of(raw: dict[str, Any]) -> set[str]:
+    """The states of a job: a list in newer versions, one text in older ones."""
+    words = raw.get("job_state")
+    return {each for each in (words if isinstance(words, list) else [words])
+            if isinstance(each, str)}
+
+
 def job_of(raw: dict[str, Any], node: str) -> SlurmJob:
     """A job of `squeue --json` or `scontrol show job --json`."""
     job = SlurmJob(str(number(raw, "job_id")), text(raw, "user_name"), text(raw, "name"),
-              alias=alias_of(raw))
-    job.nodes = hosts_of(text(raw, "nodes"))
+                   nodes=hosts_of(text(raw, "nodes")), alias=alias_of(raw),
+                   is_suspended=not states_of(raw) & set(RUNNING[:2]))
     told = allotted(raw)
     here = [(cpus, cores) for name, cpus, cores in told if name == node or len(told) == 1]
-    if here:
-        job.whole.cpus, job.has_cores = here[0]
-    else:
-        job.whole.cpus = -(-count(raw, "cpus") // max(len(job.nodes), 1))
+    job.whole.cpus, job.has_cores = here[0] if here else (
+        -(-count(raw, "cpus") // max(len(job.nodes), 1)), None)
     return job
 
 
-def take_jobs(data: Any, node: str, jobs: dict[str, SlurmJob]) -> int:
-    """Takes the jobs of one file that run. Returns how many do not."""
-    left = 0
-    for raw in tables(data, "jobs"):
-        if not set(words_of(raw, "job_state")) & set(RUNNING):
-            left += 1
-            continue
-        job = job_of(raw, node)
-        job.is_suspended = not set(words_of(raw, "job_state")) & set(RUNNING[:2])
-        known = jobs.setdefault(job.identifier, job)
-        known.user, known.name, known.nodes = job.user, job.name, job.nodes
-        known.whole.cpus, known.has_cores = job.whole.cpus, job.has_cores
-        known.is_suspended = job.is_suspended
-    return left
-
-
-def rows_of(data: bytes, name: str) -> Iterator[tuple[int, dict[str, str]]]:
-    """The rows of `sacct --parsable2` with their lines."""
-    if len(data) > MAX_BYTES:
-        raise HostFault(f"{name}: more than {MAX_BYTES >> 20} MiB")
-    lines = data.decode("utf-8", "replace").lstrip("\ufeff").split("\n")
-    head = lines[0].rstrip("\r").split("|")
-    for at, line in enumerate(lines[1:], 2):
-        cells = line.rstrip("\r").split("|")
-        if line.strip() and len(cells) == len(head):
-            yield at, dict(zip(head, cells))
-        elif line.strip():
-            # (a name may have a bar: which cell is which cannot be told)
-            raise HostFault(f"{name}:{at}: {len(cells)} cells and not {len(head)}")
+def rows_of(data: bytes, name: str) -> Iterator[tuple[str, dict[str, str]]]:
+    """The rows of `sacct --parsable2` with their places."""
+    head, *lines = (line.rstrip("\r").split("|") for line in
+                    decoded(data, name, errors="replace").lstrip("\ufeff").split("\n"))
+    for line, cells in enumerate(lines, 2):
+        if "".join(cells).strip() or len(cells) > 1:
+            # (a name may have a bar: which cell is which could not be told)
+            yield f"{name}:{line}", cells_of(cells, head, f"{name}:{line}")
 
 
 def step_of(row: dict[str, str], nodes: Sequence[str]) -> JobStep:
-    """The figures of a row on each of its nodes, to which they are shared out equally.
-
-    One that runs and used nothing yet is not accounted yet.
-    """
-    word, many = row.get("AllocCPUS", ""), max(len(nodes), 1)
-    cpus = int(word) if word.isascii() and word.isdigit() and len(word) < 10 else 0
-    step = JobStep(-(-cpus // many), nodes=nodes)
+    """The figures of a row on each of its nodes, to which they are shared out equally. One that
+    runs and used nothing yet is not accounted yet."""
+    many = max(len(nodes), 1)
+    step = JobStep(-(-(units.whole(row.get("AllocCPUS", "")) or 0) // many), nodes=nodes)
     if row.get("TotalCPU") and row.get("Elapsed"):
         step.used, step.passed = time_of(row["TotalCPU"]) // many, time_of(row["Elapsed"])
         if step.used == 0 and row.get("State", "RUNNING").startswith("RUNNING"):
@@ -234,14 +205,14 @@ def take_row(row: dict[str, str], jobs: dict[str, SlurmJob], aliases: Mapping[st
     match = IDENTIFIER.fullmatch(word)
     if not match:
         raise HostFault(f"{shown(word[:40])!r} is no JobID")
-    if not row.get("State", "RUNNING").split(" ")[0] in RUNNING:
+    if row.get("State", "RUNNING").split(" ")[0] not in RUNNING:
         return False
-    name = aliases.get(match.group(1), match.group(1))
+    name = aliases.get(match[1], match[1])
     job = jobs.setdefault(name, SlurmJob(name, is_raw=name.isdigit()))
     nodes = hosts_of(row.get("NodeList", "").replace("None assigned", "")) or job.nodes
     step = step_of(row, nodes)
-    if match.group(2):
-        job.steps[match.group(2)] = step
+    if match[2]:
+        job.steps[match[2]] = step
         return True
     job.is_suspended = job.is_suspended or row.get("State", "").startswith(RUNNING[2])
     job.user, job.name = row.get("User") or job.user, row.get("JobName") or job.name
@@ -250,49 +221,48 @@ def take_row(row: dict[str, str], jobs: dict[str, SlurmJob], aliases: Mapping[st
     return True
 
 
-def take_rows(data: bytes, name: str, jobs: dict[str, SlurmJob]) -> int:
-    """Takes the rows of one file. Returns how many are of what does not run."""
-    left, aliases = 0, {job.alias: key for key, job in jobs.items() if job.alias}
-    for at, row in rows_of(data, name):
-        try:
-            left += not take_row(row, jobs, aliases)
-        except HostFault as fault:
-            raise HostFault(f"{name}:{at}: {fault.message}") from fault
-    return left
-
-
-def used_of(row: dict[str, str]) -> int | None:
-    """Microseconds that a step has used: in all, or on average by each of its tasks; None where a
-    row of sstat does not say it."""
-    cell = CPU_USED.fullmatch(row.get(USED, ""))
+def take_used(row: dict[str, str], jobs: Mapping[str, SlurmJob]) -> None:
+    """Takes what a row of sstat says that a step which runs has used: in all, or on average by each
+    of its tasks. Some rows do not say it."""
+    match = IDENTIFIER.fullmatch(row.get("JobID", ""))
+    job = jobs.get(match[1]) if match else None
+    step = job.steps.get(match[2] or "") if match and job else None
+    if step is None:
+        return
+    cell, average = CPU_USED.fullmatch(row.get(USED, "")), row.get(AVERAGE)
+    tasks = units.whole(row.get("NTasks", ""), 30)
     if cell:
-        return time_of(cell.group(1))
-    tasks = row.get("NTasks")
-    if tasks is None and USED not in row:
+        step.used = time_of(cell[1]) // max(len(step.nodes), 1)
+    elif "NTasks" not in row and USED not in row:
         raise HostFault(f"{AVERAGE} is of one task: print NTasks beside it, or {USED}")
-    if not row.get(AVERAGE) or not (tasks and tasks.isascii() and tasks.isdigit()):
-        return None
-    return time_of(row[AVERAGE]) * int(tasks)
+    elif average and tasks is not None:
+        step.used = time_of(average) * tasks // max(len(step.nodes), 1)
 
 
-def take_used(data: bytes, name: str, jobs: Mapping[str, SlurmJob]) -> None:
-    """Takes what sstat says that steps which run have used."""
-    for at, row in rows_of(data, name):
-        match = IDENTIFIER.fullmatch(row.get("JobID", ""))
-        job = jobs.get(match.group(1)) if match else None
-        step = job.steps.get(match.group(2) or "") if match and job else None
-        try:
-            used = used_of(row) if step is not None else None
-            if step is not None and used is not None:
-                step.used = used // max(len(step.nodes), 1)
-        except HostFault as fault:
-            raise HostFault(f"{name}:{at}: {fault.message}") from fault
+def jobs_of(files: Mapping[str, list[File]], node: str) -> tuple[dict[str, SlurmJob], int]:
+    """The jobs of files by their parts, and how many jobs and steps do not run."""
+    raw = [each for name, data in files["jobs"] for each in tables(loads(data, name), "jobs")]
+    jobs, left = {}, 0
+    for each in raw:
+        if states_of(each) & set(RUNNING):
+            job = job_of(each, node)
+            jobs[job.identifier] = job
+        else:
+            left += 1
+    aliases = {job.alias: key for key, job in jobs.items() if job.alias}
+    for name, data in files["sacct"]:
+        for where, row in rows_of(data, name):
+            with naming(where):
+                left += not take_row(row, jobs, aliases)
+    for name, data in files["sstat"]:
+        for where, row in rows_of(data, name):
+            with naming(where):
+                take_used(row, jobs)
+    return jobs, left
 
 
-def node_of(nodes: Sequence[dict[str, Any]], jobs: Sequence[SlurmJob], wanted: str) -> str:
-    """The name of the node: the one asked for, else the only one."""
-    if wanted:
-        return wanted
+def node_of(nodes: Sequence[dict[str, Any]], jobs: Iterable[SlurmJob]) -> str:
+    """The name of the only node."""
     known = {text(each, "name") for each in nodes} or {each for job in jobs for each in job.nodes}
     if len(known) > 1:
         some = ", ".join(shown(each) for each in sorted(known)[:5])
@@ -310,43 +280,11 @@ def host_of(nodes: Sequence[dict[str, Any]], name: str) -> Host:
                  " --cpus")
 
 
-class JobBuilder:
-    """Makes the groups of jobs."""
-
-    def __init__(self, model: Model) -> None:
-        self.model = model
-        self.measured: dict[str, Measured] = {}
-        self.suspended: list[str] = []
-
-    def group(self, path: str, title: str, place: str, step: JobStep) -> None:
-        """Makes a group."""
-        self.model.add(Group(path, title=title, place=place))
-        known = step.used is not None and step.passed > 0
-        rate = (step.used or 0) * 10**6 // max(step.passed, 1)
-        readings = [Reading(0), Reading(rate)] if known else []
-        self.measured[path] = Measured(readings, Fraction(1000 * step.cpus), step.cpus or None)
-
-    def job(self, job: SlurmJob) -> None:
-        """Makes a job and its steps."""
-        path = names.path_name(":".join(job.parts), self.model.groups)
-        place = f"{TOP}/job_{job.identifier}" if job.is_raw else NOWHERE
-        self.group(path, job.title, place, job.whole)
-        self.suspended += [path] if job.is_suspended and not job.steps else []
-        for name, step in job.steps.items():
-            below = f"{place}/step_{name}" if job.is_raw else NOWHERE
-            own = f"{path}/{names.path_name(f'step_{name}', ())}"
-            self.group(own, f"{job.title}/{name}", below,
-                       JobStep(step.cpus or job.whole.cpus, step.used, step.passed))
-            self.suspended += [own] if job.is_suspended else []
-
-
 def take_allotted(jobs: Sequence[SlurmJob], model: Model) -> None:
-    """Takes the CPUs that a job was allotted where no use of what runs of it is known.
-
-    Slurm accounts for a step when it ends. So the whole job has the use of steps that have ended.
-    """
+    """Takes the CPUs that a job was allotted where no use of what runs of it is known. Slurm
+    accounts for a step when it ends. So the whole job has the use of steps that have ended."""
     unaccounted = [job for job in jobs
-             if all(step.used is None for step in job.steps.values() or [job.whole])]
+                   if all(step.used is None for step in job.steps.values() or [job.whole])]
     for job in unaccounted:
         job.steps.clear()
         job.whole.used, job.whole.passed = job.whole.cpus * 10**6, 10**6
@@ -355,49 +293,54 @@ def take_allotted(jobs: Sequence[SlurmJob], model: Model) -> None:
                            " they were allotted are taken (`sstat -a --parsable2` has their use)")
 
 
+def steps_of(job: SlurmJob, model: Model) -> Iterator[tuple[Group, JobStep]]:
+    """The groups of a job and of its steps."""
+    path = names.path_name(":".join(job.parts), model.groups)
+    place = f"{TOP}/job_{job.identifier}" if job.is_raw else NOWHERE
+    yield Group(path, title=job.title, place=place), job.whole
+    for name, step in job.steps.items():
+        yield (Group(f"{path}/{names.path_name(f'step_{name}', ())}", title=f"{job.title}/{name}",
+                     place=f"{place}/step_{name}" if job.is_raw else NOWHERE),
+               replace(step, cpus=step.cpus or job.whole.cpus))
+
+
 def tell(model: Model, jobs: Sequence[SlurmJob], left: int) -> None:
     """Tells what is left out, and which jobs were allotted cores of their own."""
     if left:
         model.notes.append(f"jobs and steps that do not run, left out: {left}")
-    bound = [each.title for each in jobs if each.has_cores]
-    if bound:
-        model.notes.append(f"allotted cores of their own: {listed(bound)}: where Slurm binds tasks"
-                           " to them (TaskPlugin), what others leave idle does not reach a job")
-    wide = [each.title for each in jobs if len(each.nodes) > 1]
-    if wide:
-        model.notes.append(f"on several nodes: {listed(wide)}: usage, and CPUs that are not told by"
-                           " node, are shared out equally")
+    for titles, what, why in (
+            ([each.title for each in jobs if each.has_cores], "allotted cores of their own",
+             "where Slurm binds tasks to them (TaskPlugin), what others leave idle does not reach a"
+             " job"),
+            ([each.title for each in jobs if len(each.nodes) > 1], "on several nodes",
+             "usage, and CPUs that are not told by node, are shared out equally")):
+        if titles:
+            model.notes.append(f"{what}: {listed(titles)}: {why}")
 
 
-def check_parts(first: str, names_: Mapping[str, str]) -> None:
-    """A fault where the files are no jobs. `names_` has the name of a file of each part."""
-    if "accounts" in names_:
-        raise HostFault(f"{names_['accounts']}: JSON of sacct is not read: print the jobs by `sacct"
+def check_parts(first: str, parts: Mapping[str, list[File]]) -> None:
+    """A fault where the files are no jobs."""
+    def last(part: str) -> str:
+        return parts[part][-1][0]
+
+    if parts.get("accounts"):
+        raise HostFault(f"{last('accounts')}: JSON of sacct is not read: print the jobs by `sacct"
                         " --parsable2`")
-    if "sstat" in names_ and "sacct" not in names_:
-        raise HostFault(f"{names_['sstat']}: sstat tells no job's time: pass `sacct --parsable2`"
+    if parts["sstat"] and not parts["sacct"]:
+        raise HostFault(f"{last('sstat')}: sstat tells no job's time: pass `sacct --parsable2`"
                         " beside it")
-    if not {"jobs", "sacct"} & set(names_) or "" in names_:
+    if not (parts["jobs"] or parts["sacct"]) or "" in parts:
         raise HostFault(f"{first}: no jobs as `squeue --json`, `scontrol show job --json` or `sacct"
                         " --parsable2` print them")
 
 
-def jobs_of(files: Mapping[str, list[File]], node: str) -> tuple[dict[str, SlurmJob], int]:
-    """The jobs of files by their parts, and how many do not run."""
-    jobs: dict[str, SlurmJob] = {}
-    left = sum(take_jobs(loads(data, name), node, jobs) for name, data in files["jobs"])
-    left += sum(take_rows(data, name, jobs) for name, data in files["sacct"])
-    for name, data in files["sstat"]:
-        take_used(data, name, jobs)
-    return jobs, left
-
-
-def on_node(jobs: Sequence[SlurmJob], name: str) -> list[SlurmJob]:
+def on_node(jobs: Iterable[SlurmJob], name: str) -> list[SlurmJob]:
     """The jobs of a node, each with its steps there."""
-    here = [each for each in jobs if not each.nodes or name in each.nodes or not name]
-    for job in here:
-        job.steps = {key: step for key, step in job.steps.items()
-                     if not step.nodes or name in step.nodes or not name}
+    def is_here(nodes: Sequence[str]) -> bool:
+        return not nodes or not name or name in nodes
+
+    here = [replace(job, steps={key: step for key, step in job.steps.items()
+                                if is_here(step.nodes)}) for job in jobs if is_here(job.nodes)]
     check_count(sum(1 + len(each.steps) for each in here), f"{len(here)} jobs")
     return here
 
@@ -407,24 +350,27 @@ def read(files: Sequence[File], _: Library, wish: Wish) -> Model:
     parts: dict[str, list[File]] = {"jobs": [], "sacct": [], "sstat": [], "nodes": []}
     for file in files:
         parts.setdefault(part_of_jobs(file[1]), []).append(file)
-    check_parts(files[0][0], {part: each[-1][0] for part, each in parts.items() if each})
+    check_parts(files[0][0], parts)
     nodes = [each for name, data in parts["nodes"] for each in tables(loads(data, name), "nodes")]
     node = wish.node or (text(nodes[0], "name") if len(nodes) == 1 else "")
     jobs, left = jobs_of(parts, node)
-    name = node_of(nodes, list(jobs.values()), node)
+    name = node or node_of(nodes, jobs.values())
     told = Host() if wish.cpus is not None else host_of(nodes, name)
     host = Host(told.processors, units.DEFAULT_PERIOD, 1000)
     model = Model(wish.host(host), names_host=wish.cpus is None)
-    here = on_node(list(jobs.values()), name)
+    here = on_node(jobs.values(), name)
     want = wish.want or ("usage" if parts["sacct"] else "request")
     if parts["sacct"] and not wish.want:
         take_allotted(here, model)
-    builder = JobBuilder(model)
+    measured: dict[str, Measured] = {}
+    suspended: list[str] = []
     for job in here:
-        builder.job(job)
+        made = [(model.add(group).path, step) for group, step in steps_of(job, model)]
+        measured |= {path: step.measured for path, step in made}
+        suspended += [path for path, _ in made[1:] or made] if job.is_suspended else []
     tell(model, here, left)
     if want not in ("usage", "request", "busy"):
         raise HostFault(f"--want {want} needs readings: jobs have usage, request and busy", 2)
-    demands.set_demands(model, builder.measured, want, Fraction(1))
-    demands.stop(model, builder.suspended, "suspended")
+    demands.set_demands(model, measured, want, Fraction(1))
+    demands.stop(model, suspended, "suspended")
     return model

@@ -7,7 +7,7 @@ from __future__ import annotations
 import functools
 import math
 import re
-from collections.abc import Iterator, Sequence
+from collections.abc import Iterator, Mapping, Sequence
 from dataclasses import dataclass, field, replace
 from fractions import Fraction
 
@@ -15,118 +15,92 @@ from arbiter import Host, Library
 from arbiter_host import demands, names, units
 from arbiter_host.demands import Measured, Reading, Use
 from arbiter_host.faults import HostFault
-from arbiter_host.model import MAX_DEPTH, Group, Model, checked, bound_notes
+from arbiter_host.model import MAX_DEPTH, Group, Model, bound_notes, check_settings, checked
 from arbiter_host.names import shown
 from arbiter_host.owned import NONE, Owned, Range, Setting
 from arbiter_host.sources.wish import File, Wish
 
 NOT_SET = ("", "[not set]", "infinity", "18446744073709551615")
-SECOND = 10**6
 # A quota of systemd is a number of hundredths of a percent of one CPU.
 QUOTA = re.compile(r"([0-9]{1,9})(?:\.([0-9]{1,2}))?%")
-# The settings that people own.
-KEYS = ("CPUWeight", "CPUQuota")
 # Greatest quota that systemd can write, in hundredths of a percent.
 MOST_QUOTA = 10**9
+# The properties of a unit by their names.
+Properties = Mapping[str, str]
 UNIT = re.compile(r"[A-Za-z0-9:_.\\@-]+\.(service|slice|scope)")
 
 
 def slice_folder(name: str) -> str:
     """The folder of a slice: `a-b.slice` stands in `a.slice`."""
-    stem, parts = name.removesuffix(".slice"), []
-    pieces = stem.split("-")
-    for count in range(1, len(pieces) + 1):
-        parts.append("-".join(pieces[:count]) + ".slice")
-    return "/".join(parts)
+    parts = name.removesuffix(".slice").split("-")
+    return "/".join("-".join(parts[:count]) + ".slice" for count in range(1, len(parts) + 1))
 
 
 def unit_of(folder: str) -> str:
-    """The unit of the system whose group a folder is by its path; empty where it is none.
+    """The unit of the system whose group a folder is by its path; empty where it is none. What is
+    below a service is that service's, such as the units of a user's manager."""
+    def is_slice(path: str) -> bool:
+        return path.endswith(".slice") and slice_folder(path.rpartition("/")[2]) == path
 
-    What is below a service is that service's, such as the units of a user's manager.
-    """
-    names_ = folder.split("/")
-    above = "/".join(names_[:-1])
-    is_unit = all(UNIT.fullmatch(name) for name in names_)
-    if not is_unit or above and not (above.endswith(".slice")
-                                     and slice_folder(names_[-2]) == above):
-        return ""
-    is_slice = names_[-1].endswith(".slice")
-    return names_[-1] if not is_slice or slice_folder(names_[-1]) == folder else ""
+    above, _, name = folder.rpartition("/")
+    is_unit = all(map(UNIT.fullmatch, folder.split("/"))) and (not above or is_slice(above))
+    return name if is_unit and (not name.endswith(".slice") or is_slice(folder)) else ""
 
 
 def blocks(data: bytes) -> Iterator[dict[str, str]]:
     """The properties of each unit. Units are separated by an empty line."""
     unit: dict[str, str] = {}
-    for line in data.decode(errors="replace").split("\n"):
+    for line in [*data.decode(errors="replace").split("\n"), ""]:
         key, equals, value = line.rstrip("\r").partition("=")
         if equals and re.fullmatch(r"[A-Za-z]{1,60}", key):
             unit[key] = value
         elif not line.strip() and unit:
             yield unit
             unit = {}
-    if unit:
-        yield unit
 
 
 def whole(value: str) -> int | None:
     """A whole number of a property; None where it is not set."""
-    if value in NOT_SET or not (value.isascii() and value.isdigit() and len(value) <= 30):
-        return None
-    return int(value)
+    return None if value in NOT_SET else units.whole(value, 30)
 
 
-def time_of(value: str) -> int | None:
+def time_of(unit: Properties, key: str) -> int | None:
     """Microseconds of a property; None where it is not set."""
+    value = unit.get(key, "")
     return None if value in NOT_SET else units.parse_time(value)
 
 
-def adjusted_period(per_second: int, period: int) -> int:
-    """The period that systemd writes: so long that the quota is 1 ms, rounded down, at most 1 s."""
-    least = units.MIN_QUOTA * SECOND // max(per_second, 1)
-    return max(min(max(least, period), units.MAX_PERIOD), units.MIN_PERIOD)
-
-
-def set_limit(group: Group, unit: dict[str, str]) -> None:
-    """Sets quota and period as systemd writes them."""
-    per_second = time_of(unit.get("CPUQuotaPerSecUSec", ""))
+def set_limit(group: Group, unit: Properties) -> None:
+    """Sets quota and period as systemd writes them: the period is so long that the quota is 1 ms,
+    rounded down, and at most 1 s."""
+    per_second = time_of(unit, "CPUQuotaPerSecUSec")
     if per_second is None:
         return
-    period = time_of(unit.get("CPUQuotaPeriodUSec", "")) or units.DEFAULT_PERIOD
-    group.period = adjusted_period(per_second, period)
-    quota = per_second * group.period // SECOND
+    period = time_of(unit, "CPUQuotaPeriodUSec") or units.DEFAULT_PERIOD
+    least = units.MIN_QUOTA * units.SECOND // max(per_second, 1)
+    group.period = max(min(max(least, period), units.MAX_PERIOD), units.MIN_PERIOD)
+    quota = per_second * group.period // units.SECOND
     group.quota = min(max(quota, units.MIN_QUOTA), units.MAX_QUOTA)
 
 
-def set_weight(group: Group, unit: dict[str, str], notes: list[str]) -> None:
+def set_weight(group: Group, unit: Properties, notes: list[str]) -> None:
     """Sets the weight. `idle` is the least."""
     word = unit.get("CPUWeight", "")
-    if word == "idle":
-        notes.append(f"{group.path}: idle: weight 1 is taken")
-        group.weight = 1
-        return
-    weight = whole(word)
+    weight = 1 if word == "idle" else whole(word)
     if weight is not None:
         group.weight = min(max(weight, units.MIN_WEIGHT), units.MAX_WEIGHT)
-        if weight != group.weight:
-            notes.append(f"{group.path}: CPUWeight {weight}: {group.weight} is taken")
-    elif word not in NOT_SET:
+    if word == "idle":
+        notes.append(f"{group.path}: idle: weight 1 is taken")
+    elif weight is None and word not in NOT_SET:
         notes.append(f"{group.path}: CPUWeight {shown(word)!r}: 100 is taken")
+    elif weight not in (None, group.weight):
+        notes.append(f"{group.path}: CPUWeight {weight}: {group.weight} is taken")
 
 
-def path_of(unit: dict[str, str]) -> str:
+def path_of(unit: Properties) -> str:
     """The path of a unit's group; empty where it has none, `.` for the root."""
-    place = unit.get("ControlGroup", "")
-    if unit.get("Id") == "-.slice":
-        return "."
-    parts = [names.path_name(each, set()) for each in place.split("/") if each]
-    return "/".join(parts)
-
-
-def reading_of(unit: dict[str, str]) -> Reading:
-    """The counters of a unit."""
-    usage = whole(unit.get("CPUUsageNSec", ""))
-    return Reading(None if usage is None else usage // 1000)
+    is_root = unit.get("Id") == "-.slice"
+    return "." if is_root else names.path_of_folder(unit.get("ControlGroup", ""))
 
 
 def make(model: Model, path: str) -> Group:
@@ -137,12 +111,11 @@ def make(model: Model, path: str) -> Group:
     return model.groups[path] if path in model.groups else model.add(Group(path))
 
 
-def add(model: Model, unit: dict[str, str], path: str) -> None:
+def add(model: Model, unit: Properties, path: str) -> None:
     """Adds a unit's group."""
-    group = make(model, path)
+    group, title = make(model, path), unit.get("Description", "")
     group.place = unit.get("ControlGroup", "").strip("/")
-    title, name = unit.get("Description", ""), unit.get("Id", "")
-    group.title = title if title != name else ""
+    group.title = title if title != unit.get("Id", "") else ""
     set_weight(group, unit, model.notes)
     try:
         set_limit(group, unit)
@@ -150,38 +123,20 @@ def add(model: Model, unit: dict[str, str], path: str) -> None:
         model.notes.append(f"{path}: {shown(fault.message)}: no limit is taken")
 
 
-def ordered(units_: dict[str, dict[str, str]]) -> list[str]:
-    """The paths, each after those above it, siblings by name."""
-    return sorted(units_, key=lambda path: path.split("/"))
-
-
-def weight_word(setting: Setting) -> str:
-    """The property of a `CPUWeight=`."""
-    word = setting.value
-    if word in NONE:
-        return "[not set]"
-    number = int(word) if word.isascii() and word.isdigit() and len(word) <= 9 else 0
-    if word != "idle" and not units.MIN_WEIGHT <= number <= units.MAX_WEIGHT:
-        raise setting.fault(f"not {units.MIN_WEIGHT} to {units.MAX_WEIGHT}, or idle")
-    return word
-
-
-def quota_word(setting: Setting) -> str:
-    """The property of a `CPUQuota=`: microseconds of each second."""
-    if setting.value in NONE:
-        return "infinity"
-    match = QUOTA.fullmatch(setting.value)
-    hundredths = match and int(match.group(1)) * 100 + int((match.group(2) or "").ljust(2, "0"))
-    if not hundredths or hundredths > MOST_QUOTA:
-        raise setting.fault("not a percentage of one CPU as systemd takes it, such as 150%")
-    return f"{hundredths * SECOND // 10000}us"
-
-
-def changed_unit(unit: dict[str, str], setting: Setting) -> dict[str, str]:
-    """The properties of a unit with another weight or quota."""
+def changed_unit(unit: Properties, setting: Setting) -> dict[str, str]:
+    """The properties of a unit with another `CPUWeight=` or `CPUQuota=`."""
+    word, is_none = setting.value, setting.value in NONE
     if setting.key == "CPUWeight":
-        return {**unit, "CPUWeight": weight_word(setting)}
-    return {**unit, "CPUQuotaPerSecUSec": quota_word(setting)}
+        weight = units.whole(word) or 0
+        if not (is_none or word == "idle" or units.MIN_WEIGHT <= weight <= units.MAX_WEIGHT):
+            raise setting.fault(f"not {units.MIN_WEIGHT} to {units.MAX_WEIGHT}, or idle")
+        return {**unit, "CPUWeight": "[not set]" if is_none else word}
+    match = QUOTA.fullmatch(word)
+    hundredths = int(match[1]) * 100 + int((match[2] or "").ljust(2, "0")) if match else 0
+    if not is_none and not 1 <= hundredths <= MOST_QUOTA:
+        raise setting.fault("not a percentage of one CPU as systemd takes it, such as 150%")
+    per_second = "infinity" if is_none else f"{hundredths * units.SECOND // 10000}us"
+    return {**unit, "CPUQuotaPerSecUSec": per_second}
 
 
 def check(setting: Setting) -> None:
@@ -189,14 +144,20 @@ def check(setting: Setting) -> None:
     changed_unit({}, setting)
 
 
+def percent(hundredths: Fraction) -> str:
+    """Hundredths of a percent as systemd takes them."""
+    return f"{units.decimal(hundredths / 100, 2)}%"
+
+
 @dataclass(frozen=True)
 class Units(Owned):
-    """Units of systemd, as it prints them or in a tree of cgroups."""
+    """Units of systemd, as it prints them or in a tree of cgroups. `CPUWeight=` and `CPUQuota=` of
+    them can be changed."""
 
     # What the demands were taken from.
     want: str = field(default="usage", kw_only=True)
 
-    noun, keys = "unit", KEYS
+    noun, keys = "unit", ("CPUWeight", "CPUQuota")
 
     def seen(self) -> dict[str, Use]:
         """The demand of each unit without groups below it, where that is what it used."""
@@ -207,11 +168,18 @@ class Units(Owned):
         return {path: Use((group.demand,)) for path, group in model.groups.items()
                 if group.demand and not below[path] and self.has(path)}
 
+    def ranges(self, path: str) -> list[Range]:
+        group, most = self.plain.groups[path], 10000 * self.plain.host.processors
+        limit = None if group.quota is None else Fraction(10000 * group.quota, group.period)
+        return [Range("CPUWeight", str(group.weight), [(units.MIN_WEIGHT, units.MAX_WEIGHT)], str,
+                      f"{units.MAX_WEIGHT} is the greatest"),
+                Range("CPUQuota", "-" if limit is None else percent(limit), [(1, most)],
+                      lambda each: percent(Fraction(each)),
+                      f"{percent(Fraction(most))} are all CPUs")]
+
     def words(self, path: str) -> tuple[str, str]:
         """The weight and the quota of its group."""
-        model = self.plain()
-        group = model.groups[path]
-        weight, quota = ranges_of(str(group.weight), group, model.host)
+        weight, quota = Units.ranges(self, path)
         return weight.now, quota.now
 
     def written(self, request: int, limit: int | None) -> tuple[str, str | None]:
@@ -222,85 +190,98 @@ class Units(Owned):
 
 @dataclass(frozen=True)
 class UnitSource(Units):
-    """Units as they were read. `CPUWeight=` and `CPUQuota=` of them can be changed."""
+    """Units as they were printed."""
 
     host: Host
     seconds: Fraction
     # The properties of each unit by its path, and those of each reading.
-    properties: dict[str, dict[str, str]]
-    readings: tuple[dict[str, dict[str, str]], ...]
+    properties: Mapping[str, Properties]
+    readings: tuple[Mapping[str, Properties], ...]
     has_left_out: bool = False
 
     @functools.cached_property
-    def built(self) -> Model:
-        """The model."""
+    def plain(self) -> Model:
         model, measured = Model(checked(self.host)), {}
-        for path in ordered(self.properties):
-            add(model, self.properties[path], path)
-            counters = [reading_of(each.get(path, {})) for each in self.readings]
-            measured[path] = Measured(counters,
-                                      tasks=whole(self.properties[path].get("TasksCurrent", "")))
+        # Each stands after those above it, siblings by name.
+        for path in sorted(self.properties, key=lambda path: path.split("/")):
+            unit = self.properties[path]
+            add(model, unit, path)
+            used = [whole(each.get(path, {}).get("CPUUsageNSec", "")) for each in self.readings]
+            measured[path] = Measured([Reading(None if each is None else each // 1000)
+                                       for each in used],
+                                      tasks=whole(unit.get("TasksCurrent", "")))
         if self.has_left_out:
             model.notes.append("units without a group are left out")
         model.notes += bound_notes([path for path in model.groups
-                                   if self.properties.get(path, {}).get("AllowedCPUs")])
+                                    if self.properties.get(path, {}).get("AllowedCPUs")])
         demands.set_demands(model, measured, self.want, self.seconds)
         return model
 
-    def plain(self) -> Model:
-        """The model, which is shared."""
-        return self.built
-
     def has(self, path: str) -> bool:
-        """Whether a group is a unit that was printed."""
         return path in self.properties
 
     def on_host(self, host: Host) -> UnitSource:
-        """The same on another host."""
         return replace(self, host=host)
 
     def changed(self, settings: Sequence[Setting]) -> UnitSource:
-        """The same with other weights and quotas."""
-        units_ = dict(self.properties)
-        for setting in settings:
-            units_[setting.path] = changed_unit(units_[setting.path], setting)
-        return replace(self, properties=units_)
+        properties = dict(self.properties)
+        for each in settings:
+            properties[each.path] = changed_unit(properties[each.path], each)
+        return replace(self, properties=properties)
 
     def ranges(self, path: str) -> list[Range]:
-        """The weights and the quotas that can be asked for of a unit."""
+        """Those of its group, with the weight that was printed."""
         word = self.properties[path].get("CPUWeight", "")
-        weight = "-" if word in NOT_SET else shown(word[:20])
-        return ranges_of(weight, self.built.groups[path], self.host)
+        weight, quota = super().ranges(path)
+        return [weight._replace(now="-" if word in NOT_SET else shown(word[:20])), quota]
 
 
-def ranges_of(weight: str, group: Group, host: Host) -> list[Range]:
-    """The weights and the quotas that can be asked for of a unit's group, and its weight now."""
-    most = 10000 * host.processors
-    quota = "-" if group.quota is None else percent(Fraction(10000 * group.quota, group.period))
-    return [Range("CPUWeight", weight, [(units.MIN_WEIGHT, units.MAX_WEIGHT)], str,
-                  f"{units.MAX_WEIGHT} is the greatest"),
-            Range("CPUQuota", quota, [(1, most)], lambda each: percent(Fraction(each)),
-                  f"{percent(Fraction(most))} are all CPUs")]
+@dataclass(frozen=True)
+class TreeSource(Units):
+    """A tree as it was read, and the settings of its units that were changed since. Which groups
+    are units is said by their paths, as systemd places units."""
 
+    tree: Model
+    settings_since: tuple[Setting, ...] = ()
 
-def percent(hundredths: Fraction) -> str:
-    """Hundredths of a percent as systemd takes them."""
-    return f"{units.decimal(hundredths / 100, 2)}%"
+    @functools.cached_property
+    def plain(self) -> Model:
+        after = self.tree.copy()
+        for setting in self.settings_since:
+            group = after.groups[setting.path]
+            unit = changed_unit({"CPUQuotaPeriodUSec": f"{group.period}us"}, setting)
+            if setting.key == "CPUWeight":
+                group.weight = units.DEFAULT_WEIGHT
+                set_weight(group, unit, after.notes)
+            else:
+                group.quota = None
+                set_limit(group, unit)
+            if group.quota is not None and group.burst > group.quota:
+                raise setting.fault(f"below the burst {group.burst} that stands there")
+            check_settings(group)
+        return after
 
+    def has(self, path: str) -> bool:
+        folder = names.raw_path(path)
+        return path in self.tree.groups and bool(folder and unit_of(folder))
 
-def source_of(files: Sequence[File], host: Host, want: str, seconds: Fraction) -> UnitSource:
-    """The units of one file, or of several that were printed some seconds apart."""
-    readings = [{path_of(unit): unit for unit in blocks(data)} for _, data in files]
-    units_ = {path: unit for path, unit in readings[0].items()
-             if path not in ("", ".") and path.count("/") < MAX_DEPTH}
-    if not any("Id" in unit for unit in readings[0].values()):
-        raise HostFault(f"{files[0][0]}: no units as `systemctl show '*.slice' '*.service'"
-                        " '*.scope'` prints them")
-    return UnitSource(host, seconds, units_, tuple(readings),
-                  any(path_of(unit) == "" for unit in readings[0].values()), want=want)
+    def on_host(self, host: Host) -> TreeSource:
+        return replace(self, tree=self.tree.with_host(host))
+
+    def changed(self, settings: Sequence[Setting]) -> TreeSource:
+        for setting in settings:
+            check(setting)
+        return replace(self, settings_since=(*self.settings_since, *settings))
 
 
 def read(files: Sequence[File], _: Library, wish: Wish) -> Model:
     """The model of one file, or of several that were printed some seconds apart."""
+    readings = [{path_of(unit): unit for unit in blocks(data)} for _, data in files]
+    if not any("Id" in unit for unit in readings[0].values()):
+        raise HostFault(f"{files[0][0]}: no units as `systemctl show '*.slice' '*.service'"
+                        " '*.scope'` prints them")
+    properties = {path: unit for path, unit in readings[0].items()
+                  if path not in ("", ".") and path.count("/") < MAX_DEPTH}
     want = wish.want or ("usage" if len(files) > 1 else "busy")
-    return source_of(files, wish.machine(), want, wish.seconds).model()
+    return UnitSource(wish.machine(), wish.seconds, properties, tuple(readings), "" in readings[0],
+                      want=want).model()

@@ -9,26 +9,30 @@ The last two print a table, or JSON by `--format json`.
 """
 from __future__ import annotations
 
+import itertools
 import json
 import re
-from collections.abc import Container, Iterator, Sequence
+from collections.abc import Iterator, Sequence
 from fractions import Fraction
 from typing import Any, NamedTuple
 
 from arbiter_host import units
-from arbiter_host.faults import HostFault
+from arbiter_host.faults import HostFault, naming
 from arbiter_host.names import cut, few, shown
-from arbiter_host.sources.data import MAX_BYTES, MAX_TEXT, loads, table, tables, text
+from arbiter_host.sources.data import MAX_TEXT, below, cells_of, check_size, loads, tables, text
 from arbiter_host.sources.pods import quantity
+from arbiter_host.sources.register import BLANK
 
 # Containers that a file may name.
 MOST_ENTRIES = 200000
 # Columns of `kubectl top pods`, and the names that entries have for them.
 CPU_COLUMN = "CPU(cores)"
-COLUMNS = {"NAMESPACE": "namespace", "POD": "pod", "NAME": "name", CPU_COLUMN: "cpu"}
-# Columns of `docker stats`: one that tells its table, and the number of processes, which is 0 of a
-# container that does not run. GAP separates columns.
-PIDS_PART = "PIDS"
+COLUMNS = {"NAMESPACE": "namespace", "POD": "pod", "NAME": "container", CPU_COLUMN: "cpu"}
+# Of what `docker stats` and `podman stats` print, as JSON and as a table: the CPU, the number of
+# processes, which is 0 of a container that does not run, its name and its identifier.
+STATS = (("CPUPerc", "PIDs", "Name", "ID"), ("cpu_percent", "pids", "name", "id"),
+         ("CPU %", "PIDS", "NAME", "CONTAINER ID", "ID"))
+# What tells such a table, and what separates its columns.
 CPU_PART, GAP = "CPU %", re.compile(r"\s{2,}")
 PERCENT = re.compile(r"([0-9]{1,12}(?:\.[0-9]{1,12})?)%")
 
@@ -57,7 +61,7 @@ class Used(NamedTuple):
 
 def is_text(data: bytes) -> bool:
     """Whether a file is no JSON."""
-    return data.lstrip(b"\xef\xbb\xbf \t\r\n")[:1] not in (b"{", b"[")
+    return data.lstrip(BLANK)[:1] not in (b"{", b"[")
 
 
 def is_usage(data: bytes) -> bool:
@@ -73,129 +77,101 @@ def amount_of(word: str, where: str) -> Fraction:
     """The thousandths of a CPU of a quantity, or of a percentage of one CPU."""
     percent = PERCENT.fullmatch(word.strip())
     if percent:
-        return Fraction(percent.group(1)) * 10
-    try:
+        return Fraction(percent[1]) * 10
+    with naming(where):
         return quantity(word)
-    except HostFault as fault:
-        raise HostFault(f"{where}: {fault.message}") from fault
 
 
-def columns_of(head: str, name: str) -> list[str]:
+def columns_of(words: Sequence[str], name: str) -> list[str]:
     """The entries' names of the columns of `kubectl top pods`; empty for other columns."""
-    words = head.split()
     columns = [COLUMNS.get(each, "") for each in words]
-    if "cpu" not in columns or "name" not in columns:
+    if "cpu" not in columns or "container" not in columns:
         raise HostFault(f"{name}:1: no usage as `kubectl top pods -A --containers`, metrics-server"
                         " or `docker stats --no-stream` prints it")
-    if "pod" not in columns:
-        # Without --containers NAME is the pod.
-        columns[columns.index("name")] = "pod"
-    return columns
+    # Without --containers NAME is the pod.
+    return columns if "pod" in columns else ["pod" if each == "container" else each
+                                             for each in columns]
 
 
-def of_table(lines: Sequence[str], begin: int, name: str) -> Iterator[Used]:
-    """The entries of the table of `docker stats` from a line on. Those without an amount or a
-    process are left out."""
-    heads = GAP.split(lines[begin].strip())
-    for number, line in enumerate(lines[begin + 1:], begin + 2):
-        cells = GAP.split(line.strip())
-        if line.strip() and len(cells) != len(heads):
-            raise HostFault(f"{name}:{number}: {len(cells)} columns and not {len(heads)}")
-        row = {head: cell[:MAX_TEXT] for head, cell in zip(heads, cells)}
-        if row.get(CPU_PART, "--") != "--" and row.get(PIDS_PART) != "0":
-            yield Used((amount_of(row[CPU_PART], f"{name}:{number}"),), "", "", row.get("NAME", ""),
-                       row.get("CONTAINER ID", row.get("ID", "")))
+def of_stats(row: Any, where: str) -> Iterator[Used]:
+    """The entry of a container of `docker stats` or `podman stats`; none for one without an amount
+    or a process."""
+    keys = next((keys for keys in STATS if isinstance(row, dict) and keys[0] in row), None)
+    if keys is None:
+        raise HostFault(f"{where}: no container as `docker stats --no-stream --format json` prints"
+                        " it")
+    cpu, processes, container, *identifiers = (text(row, key) for key in keys)
+    if cpu not in ("", "--") and processes != "0":
+        yield Used((amount_of(cpu, where),), container=container.lstrip("/"),
+                   identifier=next(filter(None, identifiers), ""))
 
 
 def of_text(data: bytes, name: str) -> Iterator[Used]:
     """The entries of `kubectl top pods`, or of the table of `docker stats`."""
-    lines = data.decode("utf-8-sig", errors="replace").split("\n")
-    begin = next((at for at, line in enumerate(lines) if line.strip()), None)
-    if begin is None:
+    lines = [(f"{name}:{number}", line.strip()) for number, line in enumerate(
+        data.decode("utf-8-sig", errors="replace").split("\n"), 1) if line.strip()]
+    if not lines:
         raise HostFault(f"{name}: empty: it names no container")
-    if CPU_PART in GAP.split(lines[begin].strip()):
-        yield from of_table(lines, begin, name)
-        return
-    columns = columns_of(lines[begin], name)
-    for number, line in enumerate(lines[begin + 1:], begin + 2):
-        words = line.split()
-        if not words:
-            continue
-        if not "".join(words).strip("_"):
+    is_stats = CPU_PART in GAP.split(lines[0][1])
+    head = GAP.split(lines[0][1]) if is_stats else columns_of(lines[0][1].split(), name)
+    for where, line in lines[1:]:
+        cells = GAP.split(line) if is_stats else line.split()
+        if not is_stats and not "".join(cells).strip("_"):
             return  # (the sums of `--sum` follow)
-        if len(words) != len(columns):
-            raise HostFault(f"{name}:{number}: {len(words)} words and not {len(columns)}")
-        cells = {column: word[:MAX_TEXT] for column, word in zip(columns, words)}
-        yield Used((amount_of(cells["cpu"], f"{name}:{number}"),), cells.get("namespace", ""),
-                   cells.get("pod", ""), cells.get("name", ""))
+        row = cells_of(cells, head, where, "columns" if is_stats else "words")
+        if is_stats:
+            yield from of_stats(row, where)
+        else:
+            yield Used((amount_of(row["cpu"][:MAX_TEXT], where),), *(
+                text(row, key) for key in ("namespace", "pod", "container")))
 
 
 def of_metrics(items: Sequence[dict[str, Any]], name: str) -> Iterator[Used]:
     """The entries of metrics-server: of each pod its containers."""
     for item in items:
-        metadata = table(item, "metadata")
-        namespace, pod = text(metadata, "namespace"), text(metadata, "name")
+        namespace, pod = (text(item, "metadata", key) for key in ("namespace", "name"))
         for each in tables(item, "containers"):
             container = text(each, "name")
             where = f"{name}: {shown(f'{namespace}/{pod}/{container}')}"
-            amount = amount_of(str(table(each, "usage").get("cpu"))[:60], where)
+            amount = amount_of(str(below(each, "usage", "cpu"))[:60], where)
             yield Used((amount,), namespace, pod, container)
 
 
-def of_stats(entries: Sequence[Any], name: str) -> Iterator[Used]:
-    """The entries of `docker stats` or `podman stats`. Those without an amount or a process are
-    left out."""
-    for number, each in enumerate(entries, 1):
-        keys = (("ID", "Name", "CPUPerc", "PIDs") if isinstance(each, dict) and "CPUPerc" in each
-                else ("id", "name", "cpu_percent", "pids"))
-        if not isinstance(each, dict) or keys[2] not in each:
-            raise HostFault(f"{name}:{number}: no container as `docker stats --no-stream --format"
-                            " json` prints it")
-        word = text(each, keys[2])
-        if word not in ("--", "") and text(each, keys[3]) != "0":
-            yield Used((amount_of(word, f"{name}:{number}"),), "", "",
-                       text(each, keys[1]).lstrip("/"), text(each, keys[0]))
-
-
-def lines_of(data: bytes, name: str) -> list[Any]:
+def of_lines(data: bytes, name: str) -> Iterator[Any]:
     """The values of JSON with one value in each line; a fault names the line."""
-    lines = []
     for number, line in enumerate(data.split(b"\n"), 1):
         if line.strip():
             try:
-                lines.append(json.loads(line.decode("utf-8-sig")))
+                yield json.loads(line.decode("utf-8-sig"))
             except (ValueError, RecursionError) as error:
                 raise HostFault(f"{name}:{number}: no JSON that can be read:"
                                 f" {shown(cut(str(error), 80))}") from error
-    return lines
 
 
 def of_json(data: bytes, name: str) -> Iterator[Used]:
     """The entries of JSON."""
-    values = lines_of(data, name) if b'"CPUPerc"' in data else [loads(data, name)]
-    if len(values) == 1 and isinstance(values[0], dict):
-        value = values[0]
-        if text(value, "kind") == "PodMetricsList" or isinstance(value.get("items"), list):
-            return of_metrics(tables(value, "items"), name)
-        if text(value, "kind") == "PodMetrics":
-            return of_metrics([value], name)
-    if len(values) == 1 and isinstance(values[0], list):
-        values = values[0]
-    return of_stats(values, name)
+    values = list(of_lines(data, name)) if b'"CPUPerc"' in data else [loads(data, name)]
+    first = values[0] if len(values) == 1 else None
+    if text(first, "kind") == "PodMetricsList" or isinstance(below(first, "items"), list):
+        yield from of_metrics(tables(first, "items"), name)
+    elif text(first, "kind") == "PodMetrics":
+        yield from of_metrics(values, name)
+    else:
+        for number, each in enumerate(first if isinstance(first, list) else values, 1):
+            yield from of_stats(each, f"{name}:{number}")
 
 
 def read(data: bytes, name: str) -> list[Used]:
     """The entries of a file of usage."""
-    if len(data) > MAX_BYTES:
-        raise HostFault(f"{name}: more than {MAX_BYTES >> 20} MiB")
-    entries: list[Used] = []
-    for each in of_text(data, name) if is_text(data) else of_json(data, name):
-        if len(entries) >= MOST_ENTRIES:
-            raise HostFault(f"{name}: more than {MOST_ENTRIES} containers")
+    check_size(data, name)
+    entries = list(itertools.islice(of_text(data, name) if is_text(data) else of_json(data, name),
+                                    MOST_ENTRIES + 1))
+    for each in entries:
         if each.amounts[0] > units.MAX_CPUS:
             raise HostFault(f"{name}: {each.title}: {float(each.amounts[0]):g}m is no usage of a"
                             " host")
-        entries.append(each)
+    if len(entries) > MOST_ENTRIES:
+        raise HostFault(f"{name}: more than {MOST_ENTRIES} containers")
     if not entries:
         raise HostFault(f"{name}: it names no container")
     return entries
@@ -204,9 +180,3 @@ def read(data: bytes, name: str) -> list[Used]:
 def some(titles: Sequence[str]) -> str:
     """The number of some names, with the first of them."""
     return f"{len(titles)}: {few(titles)}"
-
-
-def told_twice(known: Container[tuple[int, int]], place: tuple[int, int], what: str) -> None:
-    """A fault where the use of a container is known already."""
-    if place in known:
-        raise HostFault(f"{what}: two numbers for what one container used")

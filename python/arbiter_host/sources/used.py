@@ -9,6 +9,7 @@ import argparse
 import functools
 import os
 from collections.abc import Callable, Sequence
+from dataclasses import replace
 from fractions import Fraction
 
 from arbiter_host import demands, looks, options as table, plain_files, units
@@ -37,16 +38,10 @@ def name(options: argparse.Namespace) -> str:
 
 def is_tree(options: argparse.Namespace) -> bool:
     """Whether the words are folders: a tree of cgroups, or copies of one after another."""
-    folders = [each for each in options.used if os.path.isdir(each)]
-    if folders and len(folders) < len(options.used):
+    folders = list(map(os.path.isdir, options.used))
+    if any(folders) and not all(folders):
         raise UsageFault("--used: a tree of cgroups is there alone, or with later copies of it")
-    return bool(folders)
-
-
-def tree_of(options: argparse.Namespace) -> str:
-    """The tree of cgroups that is named; empty for none."""
-    found: str = options.used[0] if is_tree(options) else ""
-    return found
+    return any(folders)
 
 
 def check_want(options: argparse.Namespace) -> None:
@@ -59,8 +54,7 @@ def check_want(options: argparse.Namespace) -> None:
 
 def check_input(options: argparse.Namespace) -> None:
     """A fault where standard input is meant twice."""
-    many = options.used.count("-")
-    source = getattr(options, "source", [])
+    many, source = options.used.count("-"), getattr(options, "source", [])
     if many and "-" in ([source] if isinstance(source, str) else source):
         raise UsageFault("--used -: standard input is the source already")
     if many > 1:
@@ -78,24 +72,21 @@ def asked_range(options: argparse.Namespace) -> prometheus.QueryRange:
     return prometheus.range_of(options.range, options.step)
 
 
-def cell_of(amount: Fraction) -> str:
-    """An amount in thousandths of a CPU as a number of a sample, exactly."""
-    return f"{units.decimal(amount, 9)}m"
-
-
-def moment_of(entries: Sequence[Used], where: str, first: int) -> History:
-    """What was used at one time as one sample."""
-    samples.check_names([each.word for each in entries], where)
-    return History([], [Sample(str(first + 1), {each.word: cell_of(each.amounts[0])
-                                                for each in entries}, where, False)])
+def metrics_of(options: argparse.Namespace, word: str) -> list[prometheus.Metric]:
+    """What a server answers to the query of the options."""
+    return prometheus.read(word, options.query, asked_range(options))
 
 
 def of_file(options: argparse.Namespace, word: str, first: int) -> History:
-    """The samples of a file. Those without a time are numbered from `first + 1` on."""
-    data = bytes_of(options, word)
-    if usage.is_usage(data):
-        return moment_of(usage.read(data, shown(word)), shown(word), first)
-    return samples.read(data, word, first)
+    """The samples of a file. Those without a time are numbered from `first + 1` on. What was used
+    at one time is one sample, in thousandths of a CPU."""
+    data, where = bytes_of(options, word), shown(word)
+    if not usage.is_usage(data):
+        return samples.read(data, word, first)
+    entries = usage.read(data, where)
+    samples.check_names([each.word for each in entries], where)
+    cells = {each.word: f"{units.decimal(each.amounts[0], 9)}m" for each in entries}
+    return History([], [Sample(str(first + 1), cells, where, False)])
 
 
 def history(options: argparse.Namespace) -> History:
@@ -103,8 +94,7 @@ def history(options: argparse.Namespace) -> History:
     found: list[History] = []
     for word in options.used:
         if prometheus.is_address(word):
-            series = prometheus.read(word, options.query, asked_range(options))
-            found.append(prometheus.history_of(series, word))
+            found.append(prometheus.history_of(metrics_of(options, word), word))
         elif os.path.isdir(word):
             raise UsageFault(f"--used {shown(word)}: a folder has samples of many hosts")
         else:
@@ -124,45 +114,33 @@ def is_served(options: argparse.Namespace) -> bool:
     return any(map(prometheus.is_address, options.used))
 
 
-def entry_of(column: str, values: tuple[Fraction, ...]) -> Used:
-    """The entry of a column: of a container of a pod where it is named so."""
-    parts = column.split("/")
-    return Used(values, *parts) if len(parts) == 3 else Used(values, container=column)
-
-
-def entries_of(options: argparse.Namespace, found: History) -> list[Used]:
-    """An entry for each column of samples. A column without a number in a sample has none there."""
-    unit = options.unit if options.asked == "recommend" else "cpu"
-    host, mapping = by_options.machine(options), mapped(options.map)
-    values: dict[str, list[Fraction]] = {}
-    for each in found.samples:
-        for column, demand in each.demands(unit, host).items():
-            values.setdefault(mapping.get(column, column), []).append(demand)
-    return [entry_of(column, tuple(each)) for column, each in values.items()]
-
-
 def entries(options: argparse.Namespace) -> list[Used]:
-    """What each container used, by all words."""
+    """What each container used, by all words: an entry for each column of samples, or each of one
+    moment, of which a mean alone is meant.
+
+    A column without a number in a sample has none there. A column may name the container of a pod.
+    """
     word, *more = options.used
     if not more and not prometheus.is_address(word):
         data = bytes_of(options, word)
         if usage.is_usage(data):
-            return one_moment(options, usage.read(data, shown(word)))
-    return entries_of(options, history(options))
+            found = usage.read(data, shown(word))
+            if options.want not in (None, "usage"):
+                raise UsageFault(f"--want {options.want}: {name(options)} tells of one time alone:"
+                                 " it belongs to --want usage")
+            return found
+    unit = options.unit if options.asked == "recommend" else "cpu"
+    host, mapping = by_options.machine(options), mapped(options.map)
+    values: dict[str, list[Fraction]] = {}
+    for sample in history(options).samples:
+        for column, demand in sample.demands(unit, host).items():
+            values.setdefault(mapping.get(column, column), []).append(demand)
+    return [Used(tuple(each), *column.split("/")) if column.count("/") == 2
+            else Used(tuple(each), container=column) for column, each in values.items()]
 
 
-def one_moment(options: argparse.Namespace, found: list[Used]) -> list[Used]:
-    """Entries of one time, of which a mean alone is meant."""
-    if options.want not in (None, "usage"):
-        raise UsageFault(f"--want {options.want}: {name(options)} tells of one time alone: it"
-                         " belongs to --want usage")
-    return found
-
-
-def measured_by(options: argparse.Namespace) -> Callable[[Measurable], Owned] | None:
-    """What gives a source the use of its groups; None where no option says it."""
-    if not options.used:
-        return None
+def measured_by(options: argparse.Namespace) -> Callable[[Measurable], Owned]:
+    """What gives a source the use of its groups."""
     check_want(options)
     check_input(options)
 
@@ -170,39 +148,33 @@ def measured_by(options: argparse.Namespace) -> Callable[[Measurable], Owned] | 
         if not is_tree(options):
             return source.with_usage(entries(options), name(options))
         times = by_options.times_of(options)
-        return source.with_readings(*looks.measured_at(options.used, times, source.folders()))
+        known, seconds = looks.measured_at(options.used, times, source.folders())
+        return replace(source, known=known, seconds=seconds)
 
     return measured
 
 
 # Many hosts
 
-def of_folder(folder: str) -> Callable[[str], History]:
-    """The samples of each host, from `HOST.csv` in a folder."""
-    @functools.lru_cache(maxsize=KEPT)
-    def of_host(host: str) -> History:
-        path = os.path.join(folder, f"{host}.csv")
-        return samples.read_csv(plain_files.file_bytes(path, True), shown(path))
-
-    return of_host
-
-
 def by_host(options: argparse.Namespace) -> Callable[[str], History]:
-    """The samples of each host by its name: from a folder, one table, or a server."""
+    """The samples of each host by its name: from `HOST.csv` in a folder, one table, or a server."""
     if len(options.used) != 1:
         raise UsageFault("--used: a folder, one table or one server for many hosts")
     (word,) = options.used
+
+    @functools.lru_cache(maxsize=KEPT)
+    def of_folder(host: str) -> History:
+        path = os.path.join(word, f"{host}.csv")
+        return samples.read_csv(plain_files.file_bytes(path, True), shown(path))
+
     if os.path.isdir(word):
-        return of_folder(word)
-    if prometheus.is_address(word):
-        series = prometheus.read(word, options.query, asked_range(options))
-        table = prometheus.by_host(series, word)
-    else:
-        table = samples.read_table(bytes_of(options, word), shown(word))
+        return of_folder
+    known = (prometheus.by_host(metrics_of(options, word), word) if prometheus.is_address(word)
+             else samples.read_table(bytes_of(options, word), shown(word)))
 
-    def of_host(host: str) -> History:
-        if host not in table:
+    def of_table(host: str) -> History:
+        if host not in known:
             raise HostFault(f"{shown(word)}: no demand of {host}")
-        return table[host]
+        return known[host]
 
-    return of_host
+    return of_table

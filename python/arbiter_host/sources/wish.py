@@ -22,10 +22,8 @@ File = tuple[str, bytes]
 
 @dataclass(frozen=True)
 class Wish:
-    """The host, the node, the conversions of shares, the driver, and the rule for demands.
-
-    kubelet writes the weights of kubepods, classes and pods, the runtime those of containers.
-    """
+    """The host, the node, the conversions of shares, the driver, and the rule for demands. kubelet
+    writes the weights of kubepods, classes and pods, the runtime those of containers."""
 
     # CPUs, and microseconds of the period and the slice; None for what the source tells.
     cpus: int | None = None

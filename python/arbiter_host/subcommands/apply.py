@@ -11,7 +11,6 @@ from contextlib import contextmanager, suppress
 from arbiter_host import (apply, change, exports, load, names, options as table, output,
                           plain_files, record)
 from arbiter_host import safe_files
-from arbiter_host.exports import files
 from arbiter_host.faults import HostFault, UsageFault
 from arbiter_host.options import Output
 from arbiter_host.output import emit
@@ -64,7 +63,7 @@ def write_form(to: Output, draft: exports.Draft) -> None:
     warn(draft.told)
     if not documents:
         output.say("no change: nothing is written")
-    for path in files.write(to.path, documents) if documents else ():
+    for path in exports.write(to.path, documents) if documents else ():
         output.say(f"wrote {path}")
     warn(apply.only_in_one(draft.before, draft.after, draft.moved))
 
