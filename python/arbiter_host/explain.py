@@ -11,7 +11,7 @@ from arbiter_host import text
 from arbiter_host.model import MAX_DEPTH
 from arbiter_host.names import cut, last_name, listed, short, shown, tail, width
 from arbiter_host.placement import Bounds, Outlook
-from arbiter_host.plan import Plan, Planned, marks, walk
+from arbiter_host.plan import Plan, Planned, walk
 from arbiter_host.text import BAR_HEAD, LEAST_NAME, WIDE, Reasoned
 
 ONLY: dict[str, Callable[[Planned], bool]] = {
@@ -63,11 +63,13 @@ class View(NamedTuple):
 
 
 def why(plan: Plan, group: Planned, is_wide: bool) -> str:
-    """The reason of a group, after its warning labels."""
-    reason = plan.reason(group)
-    words = reason.words if is_wide else narrow(plan, group)
-    labels = [each for each in marks(group) if each != "THROTTLED" or reason.name != "own limit"]
-    whole = "; ".join([*labels, words])
+    """The reason of a group, after its warning labels (STARVED, THROTTLED ..)."""
+    reason, labels = plan.reason(group), ["STARVED"] if group.is_starved else []
+    if group.is_throttled_elsewhere:
+        labels.append("THROTTLED, NOT BY ITS LIMIT")
+    elif group.is_throttled and reason.name != "own limit":
+        labels.append("THROTTLED")
+    whole = "; ".join([*labels, reason.words if is_wide else narrow(plan, group)])
     return whole if is_wide else starred(whole)
 
 

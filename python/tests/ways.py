@@ -6,7 +6,7 @@ import time
 from arbiter_host.fleet import work
 
 
-def by_name(job_text, item):
+def by_name(job, item):
     """What the name of the host says: to die, to raise, to take a while, else to be right."""
     if item.host.startswith("die"):
         os.kill(os.getpid(), signal.SIGKILL)
@@ -16,4 +16,4 @@ def by_name(job_text, item):
         time.sleep(3600)
     if item.host.startswith("slow"):
         time.sleep(0.7)
-    return work.answered(job_text, item)
+    return work.answered(job, item)
