@@ -1,7 +1,7 @@
 """Pieces of pictures as SVG text, each number with at most one decimal."""
 from __future__ import annotations
 
-from collections.abc import Sequence
+from collections.abc import Callable, Iterable, Iterator, Sequence
 from xml.sax.saxutils import escape, quoteattr
 
 from arbiter_host.names import shown, width
@@ -55,6 +55,20 @@ def words(place: Point, text: str, colour: str = INK, size: float = 12, anchor: 
 def wide(text: str, size: float = 12) -> float:
     """Pixels that a text takes, about. Wide letters count twice."""
     return width(text) * LETTER * size / 12
+
+
+def swatch(y: float, colour: str, tall: float = 12) -> Callable[[float], str]:
+    """A filled mark of a legend, at a place from the left."""
+    return lambda x: box((x, y), (14, tall), colour)
+
+
+def legend(x: float, y: float,
+           marks: Iterable[tuple[str, float, Callable[[float], str]]]) -> Iterator[str]:
+    """What marks mean: each mark, and behind so much room its name."""
+    for name, room, mark in marks:
+        yield mark(x)
+        yield words((x + room, y), name, INK, 11)
+        x += room + wide(name, 11) + 16
 
 
 def steps(most: float, about: int) -> list[float]:

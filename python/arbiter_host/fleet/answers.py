@@ -174,26 +174,27 @@ def placed(job: Job, plans: Iterator[Accepted], told: dict[str, Any]) -> dict[st
     return {"before": before.sums, "pods": pods}
 
 
-def counted(plan: Accepted, row: int, cell: SampleCell, quota: int | None, times: int) -> None:
+def counted(plan: Accepted, path: str, cell: SampleCell, quota: int | None, times: int) -> None:
     """Adds the periods of one plan to the cell of a group."""
-    figures = plan.answer.figures
+    figures, row = plan.answer.figures, plan.paths.index(path)
     cell.count(plan.gets[row], plan.wants[row], plan.limit(row), row > 0 and bool(
         figures.tights[row]), figures.withheld[row] * plan.host.slice_us, quota, times)
 
 
 def replayed(_: Job, plans: Iterator[Accepted], told: dict[str, Any]) -> dict[str, Any]:
     """The sums of each group over all samples."""
-    sums = {path: series.Sums() for path in told["columns"]}
+    samples = []
     for counts in told["times"]:
-        cells = {path: SampleCell() for path in sums}
+        cells = {path: SampleCell() for path in told["columns"]}
         for times in counts:
             plan = next(plans)
             for (path, cell), quota in zip(cells.items(), told["quotas"], strict=True):
-                counted(plan, plan.paths.index(path), cell, quota, times)
-        for path, cell in cells.items():
-            sums[path].add(cell)
-    return {"samples": len(told["times"]), "unknown": list(map(str, told["unknown"])),
-            "groups_of_columns": [{"group": path, **each.data()} for path, each in sums.items()]}
+                counted(plan, path, cell, quota, times)
+        samples.append(cells)
+    return {"samples": len(samples), "unknown": list(map(str, told["unknown"])),
+            "groups_of_columns": [
+                {"group": path, **series.summed([cells[path] for cells in samples])}
+                for path in told["columns"]]}
 
 
 ACTIONS: dict[str, Callable[[Job, Iterator[Accepted], dict[str, Any]], dict[str, Any]]] = {
