@@ -180,6 +180,11 @@ class Plan:
         return self.answer.columns
 
     @property
+    def weights(self) -> list[int]:
+        """The weight of each row."""
+        return [group.weight for group in self.groups]
+
+    @property
     def capacity(self) -> int:
         """Slices of one period."""
         return self.model.host.capacity
@@ -199,8 +204,8 @@ class Plan:
         return {group.path: group for group in self.groups}
 
     def above(self, group: Planned) -> Iterator[Planned]:
-        """The groups above a group, the nearest first and the root last."""
-        while group.parent is not None:
+        """The groups above a group, without the root, the nearest first."""
+        while group.parent:
             group = self.groups[group.parent]
             yield group
 

@@ -9,14 +9,14 @@ from dataclasses import dataclass, replace
 
 from arbiter import Unmet
 from arbiter_host import owned, search
-from arbiter_host.goals import NEEDED, Goal, Goals, NewSetting, Way
+from arbiter_host.goals import Goal, Goals, NewSetting, Way
 from arbiter_host.model import Model
 from arbiter_host.names import shown
 from arbiter_host.owned import Owned, Range, Setting
 from arbiter_host.plan import Plan, Planned
 
-# At most so many settings are raised one by one, and left out.
-MOST_RAISES, MOST_LEFT = 200, 64
+# At most so many settings are raised one by one.
+MOST_RAISES = 200
 RAISED = "one after another, each the least beside the others; not proved to be the least"
 
 
@@ -40,6 +40,10 @@ class Raised:
     def only(self, rows: Sequence[int]) -> Raised:
         """The same with the settings of some rows alone."""
         return replace(self, settings={row: self.settings[row] for row in rows})
+
+    def plan_with(self, rows: Sequence[int]) -> Plan:
+        """The accepted plan with the settings of some rows alone."""
+        return self.only(rows).plan()
 
     def with_value(self, row: int, of: Range, value: int) -> Raised:
         """The same with another value of the setting of a row."""
@@ -103,32 +107,17 @@ def weighed(start: Raised, weights: Sequence[int]) -> Raised | None:
     return known
 
 
-def raised(start: Raised) -> tuple[Raised, Plan] | str:
-    """Settings that are raised one after another until all goals are met, with their plan."""
+def raised(start: Raised) -> Raised | str:
+    """Settings that are raised one after another until all goals are met."""
     for _ in range(MOST_RAISES):
-        after = start.plan()
-        place = start.goals.short(after)
+        place = start.goals.short(start.plan())
         if place is None:
-            return start, after
+            return start
         more = start.raised(start.goals.goals[place])
         if isinstance(more, str):
             return more
         start = more
     return f"goals are not met after {MOST_RAISES} raises"
-
-
-def without_needless(known: Raised, after: Plan) -> tuple[Raised, Plan, str]:
-    """The settings without those that can be left out, their plan, and what is known of them."""
-    if len(known.settings) > MOST_LEFT:
-        return known, after, RAISED
-    kept = known.only(search.needed(sorted(known.settings), lambda rows: known.goals.are_met(
-        known.only(rows).plan()), "settings"))
-    return kept, kept.plan(), RAISED + NEEDED
-
-
-def weights_in(plan: Plan) -> list[int]:
-    """The weight of each row of a plan."""
-    return [group.weight for group in plan.groups]
 
 
 def by_settings(goals: Goals, weights: Way | Unmet) -> Way | str | None:
@@ -139,11 +128,13 @@ def by_settings(goals: Goals, weights: Way | Unmet) -> Way | str | None:
         return None
     start = Raised(goals, source, {})
     if isinstance(weights, Way):
-        start = weighed(start, weights_in(weights.plan)) or start
-    answer = raised(start)
-    if isinstance(answer, str):
-        return answer
-    known, after, told = without_needless(*answer)
-    if isinstance(weights, Way) and weights_in(after) == weights_in(weights.plan):
+        start = weighed(start, weights.plan.weights) or start
+    known = raised(start)
+    if isinstance(known, str):
+        return known
+    rows, more = goals.needed(sorted(known.settings), known.plan_with, "settings")
+    known, told = known.only(rows), RAISED + more
+    after = known.plan()
+    if isinstance(weights, Way) and after.weights == weights.plan.weights:
         told = weights.told
     return goals.way(after, known.changes(), told)
