@@ -12,6 +12,7 @@ from typing import Any
 
 from arbiter_host import text as layout
 from arbiter_host.fleet.answers import HostAnswer
+from arbiter_host.html import rendered
 from arbiter_host.names import short, shown
 from arbiter_host.series import COUNTS
 
@@ -329,7 +330,6 @@ def text(report: Report, has_all: bool) -> str:
 
 def page(report: Report) -> str:
     """The report as one HTML page, whose tables sort and can be searched."""
-    from arbiter_host.html import rendered  # (no other form needs jinja2)
     tables = [{"title": each.title, "heads": each.heads,
                "rows": [[shown(cell) for cell in row] for row in each.rows]}
               for each in report.tables if each.rows]

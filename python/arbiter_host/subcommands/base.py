@@ -5,11 +5,11 @@ import argparse
 from collections.abc import Callable, Sequence
 from typing import NamedTuple
 
-from arbiter_host import explain, load, names, text
+from arbiter_host import explain, load, names, options as table, text
 from arbiter_host.explain import View
 from arbiter_host.faults import UsageFault
-from arbiter_host.model import MAX_DEPTH
-from arbiter_host.plan import Engine, Plan, engine_of, plan
+from arbiter_host.model import MAX_DEPTH, Model
+from arbiter_host.plan import Engine, engine_of
 from arbiter_host.subcommands import PLACES
 
 
@@ -32,6 +32,16 @@ class Subcommand(NamedTuple):
         return PLACES[self.name].summary
 
 
+def of_source(name: str, about: str,
+              metavar: str = "SOURCE") -> Callable[[argparse.ArgumentParser], None]:
+    """The words of a subcommand that reads sources: what these are, and its options."""
+    def add_words(parser: argparse.ArgumentParser) -> None:
+        parser.add_argument("source", nargs="+", metavar=metavar, help=about)
+        table.add(parser, name)
+
+    return add_words
+
+
 def found_engine(options: argparse.Namespace) -> Engine:
     """The engine that the options name, else the first that is found."""
     return engine_of(options.library)
@@ -42,12 +52,11 @@ def source_name(paths: Sequence[str]) -> str:
     return "standard input" if paths[0] == "-" else names.shown(paths[0])
 
 
-def loaded_plan(options: argparse.Namespace, paths: Sequence[str]) -> Plan:
-    """The accepted plan of a source, after its notes were told."""
-    by = found_engine(options)
-    model = load.load(options, paths, by)
-    load.warn(model, source_name(paths))
-    return plan(by, model)
+def loaded(options: argparse.Namespace, by: Engine) -> Model:
+    """The source, after its notes were told."""
+    model = load.load(options, options.source, by)
+    load.warn(model, source_name(options.source))
+    return model
 
 
 def view_of(options: argparse.Namespace, chosen: frozenset[str] | None = None) -> View:

@@ -5,15 +5,15 @@ import argparse
 from collections.abc import Sequence
 
 from arbiter import Host
-from arbiter_host import change, choosing, diff, load, options as table
-from arbiter_host.explain import View
+from arbiter_host import change, choosing, diff, load, options as table, report
 from arbiter_host.faults import NoHost, NothingFound, UsageFault
 from arbiter_host.fleet import questions
 from arbiter_host.model import Model
 from arbiter_host.names import shown
 from arbiter_host.output import json_text, write_forms
-from arbiter_host.plan import Engine, Plan, plan
-from arbiter_host.subcommands.base import Subcommand, found_engine, source_name, view_of
+from arbiter_host.plan import Engine, plan
+from arbiter_host.subcommands.base import (Subcommand, found_engine, of_source, source_name,
+                                           view_of)
 
 
 def on_host(options: argparse.Namespace, host: Host) -> argparse.Namespace:
@@ -57,26 +57,16 @@ def compared(options: argparse.Namespace, by: Engine) -> tuple[Model, Model]:
 
 
 def chosen(options: argparse.Namespace, models: Sequence[Model]) -> frozenset[str] | None:
-    """The groups that are chosen in one of the models."""
-    groups: frozenset[str] | None = None
-    faults = []
+    """The groups that are chosen in one of the models; None for all."""
+    groups, faults = list[frozenset[str] | None](), list[NothingFound]()
     for model in models:
         try:
-            paths = choosing.chosen(model, options)
+            groups.append(choosing.chosen(model, options))
         except NothingFound as fault:
             faults.append(fault)
-            continue
-        groups = paths if groups is None else groups | (paths or frozenset())
-    if len(faults) == len(models):
+    if not groups:
         raise faults[0]
-    return groups
-
-
-def page(options: argparse.Namespace, one: Plan, two: Plan, view: View) -> str:
-    """The page of a change."""
-    from arbiter_host import report
-    return report.page(two, view, f"Change of {source_name(options.source)}", one,
-                       [shown(word) for word in options.set])
+    return None if None in groups else frozenset().union(*(each or () for each in groups))
 
 
 def run(options: argparse.Namespace) -> None:
@@ -89,14 +79,9 @@ def run(options: argparse.Namespace) -> None:
     one, two = plan(by, before), plan(by, after)
     write_forms(outputs, {"text": lambda: diff.table(one, two, view),
                           "json": lambda: json_text(diff.as_data(one, two, view)),
-                          "html": lambda: page(options, one, two, view)})
-
-
-def add_words(parser: argparse.ArgumentParser) -> None:
-    """The words of `diff`."""
-    parser.add_argument("source", nargs="+", metavar="BEFORE [AFTER]", help="sources, as of"
-                        " explain; with --set a source of many hosts too")
-    table.add(parser, "diff")
+                          "html": lambda: report.page(
+                              two, view, f"Change of {source_name(options.source)}", one,
+                              [shown(word) for word in options.set])})
 
 
 DETAILS = (
@@ -126,4 +111,6 @@ EXAMPLES = (
 )
 DIFF = Subcommand("diff",
                   "Says what changes from BEFORE to AFTER. Without AFTER it is BEFORE with the"
-                  " changes of --set.", add_words, run, DETAILS, EXAMPLES)
+                  " changes of --set.", of_source(
+                      "diff", "sources, as of explain; with --set a source of many hosts too",
+                      "BEFORE [AFTER]"), run, DETAILS, EXAMPLES)

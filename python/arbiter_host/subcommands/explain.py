@@ -2,13 +2,15 @@
 from __future__ import annotations
 
 import argparse
+from functools import cache
 
-from arbiter_host import choosing, explain, options as table, placement
+from arbiter_host import choosing, explain, options as table, picture, placement, report
 from arbiter_host.explain import View
 from arbiter_host.fleet import questions
-from arbiter_host.output import Styled, json_text, write_forms
-from arbiter_host.plan import Plan, guarantees
-from arbiter_host.subcommands.base import Subcommand, loaded_plan, source_name, view_of
+from arbiter_host.output import json_text, write_forms
+from arbiter_host.plan import Plan, guarantees, plan
+from arbiter_host.subcommands.base import (Subcommand, found_engine, loaded, of_source,
+                                           source_name, view_of)
 
 
 def shown_view(options: argparse.Namespace, plan: Plan) -> View:
@@ -21,51 +23,22 @@ def shown_view(options: argparse.Namespace, plan: Plan) -> View:
     return view._replace(guaranteed={group.row: slices for group, slices in zip(groups, owed)})
 
 
-def lines(plan: Plan, view: View) -> Styled:
-    """The table, and how far groups may be from the plan by where their tasks run."""
-    outlook = placement.outlook(plan.model)
-    return [*explain.table(plan, view),
-            *((line, "") for line in explain.placed(plan, view, outlook))]
-
-
-def data(plan: Plan, view: View) -> str:
-    """The same as JSON."""
-    outlook = placement.outlook(plan.model)
-    return json_text(explain.with_placement(plan, explain.as_data(plan, view), outlook))
-
-
-def page(options: argparse.Namespace, plan: Plan, view: View) -> str:
-    """The same as a page."""
-    from arbiter_host import report
-    return report.page(plan, view, f"Plan of {source_name(options.source)}")
-
-
-def drawing(plan: Plan, view: View) -> str:
-    """The same as a picture."""
-    from arbiter_host import picture
-    return picture.picture(plan, view)
-
-
 def run(options: argparse.Namespace) -> None:
-    """Writes a plan with its reasons."""
+    """Writes a plan with its reasons, and how far groups may be from it by where tasks run."""
     outputs = table.outputs(options)
     if questions.answered(options):
         return
-    plan = loaded_plan(options, options.source)
-    view = shown_view(options, plan)
-    write_forms(outputs, {"text": lambda: lines(plan, view), "json": lambda: data(plan, view),
-                          "csv": lambda: explain.as_csv(plan, view),
-                          "html": lambda: page(options, plan, view),
-                          "svg": lambda: drawing(plan, view)})
-
-
-def add_words(parser: argparse.ArgumentParser) -> None:
-    """The words of `explain`."""
-    parser.add_argument("source", nargs="+", metavar="SOURCE", help="a script, a host file, a"
-                        " folder of cgroups, JSON of kubectl, docker or squeue, or text of"
-                        " systemctl show or sacct; many hosts: a folder of such files, a list of"
-                        " them, or the JSON of a cluster; `-` is standard input")
-    table.add(parser, "explain")
+    by = found_engine(options)
+    plan_ = plan(by, loaded(options, by))
+    view, outlook = shown_view(options, plan_), cache(lambda: placement.outlook(plan_.model))
+    write_forms(outputs, {
+        "text": lambda: [*explain.table(plan_, view), *(
+            (line, "") for line in explain.placed(plan_, view, outlook()))],
+        "json": lambda: json_text(explain.with_placement(
+            plan_, explain.as_data(plan_, view), outlook())),
+        "csv": lambda: explain.as_csv(plan_, view),
+        "html": lambda: report.page(plan_, view, f"Plan of {source_name(options.source)}"),
+        "svg": lambda: picture.picture(plan_, view)})
 
 
 DETAILS = (
@@ -99,5 +72,8 @@ EXAMPLES = (
     ("a page and a picture", "arbiterctl explain host.toml -o html=host.html -o svg=host.svg"),
     ("a whole cluster", "kubectl get nodes,pods -A -o json | arbiterctl explain -"),
 )
-EXPLAIN = Subcommand("explain",
-                     "Says why each group gets what it gets.", add_words, run, DETAILS, EXAMPLES)
+EXPLAIN = Subcommand(
+    "explain", "Says why each group gets what it gets.", of_source(
+        "explain", "a script, a host file, a folder of cgroups, JSON of kubectl, docker or squeue,"
+        " or text of systemctl show or sacct; many hosts: a folder of such files, a list of them,"
+        " or the JSON of a cluster; `-` is standard input"), run, DETAILS, EXAMPLES)

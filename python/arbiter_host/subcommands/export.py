@@ -10,7 +10,7 @@ from arbiter_host import change, load, options as table
 from arbiter_host.model import Model
 from arbiter_host.output import say, write_file
 from arbiter_host.sources import hostfile, script
-from arbiter_host.subcommands.base import Subcommand, found_engine, source_name
+from arbiter_host.subcommands.base import Subcommand, found_engine, of_source, source_name
 
 WRITERS: Mapping[str, Callable[[Model, Library], str]] = {
     "script": script.write, "toml": lambda model, _: hostfile.write_toml(model),
@@ -33,12 +33,6 @@ def run(options: argparse.Namespace) -> None:
     say(f"groups: {len(model.groups)}{warned}")
 
 
-def add_words(parser: argparse.ArgumentParser) -> None:
-    """The words of `export`."""
-    parser.add_argument("source", nargs="+", metavar="SOURCE", help="a source, as of explain")
-    table.add(parser, "export")
-
-
 DETAILS = (
     "It only reads. What the script or host file cannot hold stands in it in lines that begin with"
     " `# !`; for JSON it is printed as warnings. The first line of a script is the host, so that"
@@ -53,5 +47,5 @@ EXAMPLES = (
      "systemctl show '*.slice' '*.service' '*.scope' |"
      " arbiterctl export - --want busy -o script=host.script"),
 )
-EXPORT = Subcommand("export", "Writes what a source holds as a script or a host file.", add_words,
-                    run, DETAILS, EXAMPLES)
+EXPORT = Subcommand("export", "Writes what a source holds as a script or a host file.",
+                    of_source("export", "a source, as of explain"), run, DETAILS, EXAMPLES)

@@ -3,10 +3,10 @@ from __future__ import annotations
 
 import argparse
 
-from arbiter_host import load, options as table
+from arbiter_host import load
 from arbiter_host.faults import UsageFault
 from arbiter_host.fleet import hosts, questions
-from arbiter_host.subcommands.base import Subcommand
+from arbiter_host.subcommands.base import Subcommand, of_source
 
 
 def run(options: argparse.Namespace) -> None:
@@ -15,13 +15,6 @@ def run(options: argparse.Namespace) -> None:
         raise UsageFault("--pod: the file of a pod")
     fleet = questions.fleet_in(options)
     questions.answer(options, fleet or hosts.of_one(load.opened(options, options.source)))
-
-
-def add_words(parser: argparse.ArgumentParser) -> None:
-    """The words of `place`."""
-    parser.add_argument("source", nargs="+", metavar="SOURCE", help="many hosts: a folder of their"
-                        " files, a list of these, or a cluster's JSON")
-    table.add(parser, "place")
 
 
 DETAILS = (
@@ -39,4 +32,6 @@ EXAMPLES = (
 )
 PLACE = Subcommand("place",
                    "Says what a pod would get on each host, who would lose, and which host is the"
-                   " best for it.", add_words, run, DETAILS, EXAMPLES)
+                   " best for it.", of_source(
+                       "place", "many hosts: a folder of their files, a list of these, or a"
+                       " cluster's JSON"), run, DETAILS, EXAMPLES)

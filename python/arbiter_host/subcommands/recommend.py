@@ -7,11 +7,12 @@ from arbiter_host import change, choosing, load, options as table, output, recom
 from arbiter_host.demands import Use
 from arbiter_host.model import Model
 from arbiter_host.names import cut, few, short, shown
-from arbiter_host.plan import Engine
+from arbiter_host.output import Styled
+from arbiter_host.plan import Engine, Planned
 from arbiter_host.recommend import Proposal, Recommendation
 from arbiter_host.sources import used
 from arbiter_host.sources.register import READERS
-from arbiter_host.subcommands.base import Subcommand, found_engine, source_name
+from arbiter_host.subcommands.base import Subcommand, found_engine, of_source, source_name
 
 
 def loaded(options: argparse.Namespace, by: Engine) -> Model:
@@ -49,57 +50,48 @@ def run(options: argparse.Namespace) -> None:
                                  "json": lambda: output.json_text(recommend.as_data(advice))})
 
 
-def cells(each: Proposal, keys: tuple[str, str]) -> list[str]:
-    """What weighs a group and what limits it, now and then, as people write them."""
-    then = {setting.key: setting.value for setting in each.settings}
-    return [word for key, now in zip(keys, each.words) for word in (now, then.get(key, "-"))]
-
-
-def totals_line(advice: Recommendation) -> list[tuple[str, str]]:
-    """What all pods request, if groups have requests. It is red where the node has less."""
-    if advice.requests is None:
-        return []
-    of_node = "" if advice.allocatable is None else f", of {advice.allocatable}m that the node has"
-    is_more = advice.allocatable is not None and advice.allocatable < advice.requests[1]
-    now, then = advice.requests
-    return [(f"requests of all pods: {now}m now, {then}m then{of_node}", "red" if is_more else "")]
-
-
-def lines_of(advice: Recommendation, count: int) -> list[tuple[str, str]]:
-    """The lines of `recommend`. A container that is short then is red."""
-    percent, headroom = advice.rule.percent, float(advice.rule.headroom * 100)
-    groups = advice.after.by_path()
-    rows = [["used", "most", advice.keys[0], "then", advice.keys[1], "then", "gets", "guaranteed",
-             advice.noun]]
-    styles = ["bold"]
-    for each, path, owed in zip(advice.proposals, advice.paths, advice.guaranteed):
-        group = groups[path]
-        mark = "*" if each.is_throttled else ""
-        rows.append([f"{float(each.used):.0f}m", f"{float(each.most):.0f}m{mark}",
-                     *cells(each, advice.keys), text.amount(advice.after, group.gets, "m") + "m",
-                     text.amount(advice.after, owed, "m") + "m",
-                     cut(short(shown(each.title)), 100)])
-        styles.append("red" if group.gets < group.want else "")
-    short_ = [shown(each.title) for each, path in zip(advice.proposals, advice.paths)
-              if groups[path].gets < groups[path].want]
+def heading(advice: Recommendation, short_: list[str], count: int) -> Styled:
+    """The lines above the table. They are red where the node has less than all pods request, and
+    where groups are short."""
+    headroom = float(advice.rule.headroom * 100)
     many = f"{count} sample" + ("s" if count > 1 else "")
     lines = [(text.host_words(advice.after), ""),
-             (f"p{percent} of at most {many}, and {headroom:g}% on top; the proved check accepted"
-              " the plan", ""),
-             *totals_line(advice),
-             (f"short when each uses this at once: {len(short_)}"
-              + (f" ({few(short_, 3)})" if short_ else ""), "red" if short_ else ""),
-             ("", ""), *zip(text.table(rows, (len(rows[0]) - 1,)), styles)]
-    if any(each.is_throttled for each in advice.proposals):
-        lines.append(("* throttled at its limit: it wanted more than it used", ""))
-    return lines
+             (f"p{advice.rule.percent} of at most {many}, and {headroom:g}% on top; the proved"
+              " check accepted the plan", "")]
+    if advice.requests is not None:
+        (now, then), most = advice.requests, advice.allocatable
+        of_node = "" if most is None else f", of {most}m that the node has"
+        lines.append((f"requests of all pods: {now}m now, {then}m then{of_node}",
+                      "red" if most is not None and most < then else ""))
+    return [*lines, (f"short when each uses this at once: {len(short_)}"
+                     + (f" ({few(short_, 3)})" if short_ else ""), "red" if short_ else ""),
+            ("", "")]
 
 
-def add_words(parser: argparse.ArgumentParser) -> None:
-    """The words of `recommend`."""
-    parser.add_argument("source", nargs="+", metavar="SOURCE", help="pods and their node,"
-                        " containers of docker, units, or a tree of cgroup v2, as of explain")
-    table.add(parser, "recommend")
+def row(advice: Recommendation, each: Proposal, group: Planned, owed: int) -> list[str]:
+    """The cells of a container: what weighs and what limits it are as people write them."""
+    then = {setting.key: setting.value for setting in each.settings}
+    settings = [word for key, now in zip(advice.keys, each.words)
+                for word in (now, then.get(key, "-"))]
+    return [f"{float(each.used):.0f}m",
+            f"{float(each.most):.0f}m{'*' if each.is_throttled else ''}", *settings,
+            *(text.amount(advice.after, slices, "m") + "m" for slices in (group.gets, owed)),
+            cut(short(shown(each.title)), 100)]
+
+
+def lines_of(advice: Recommendation, count: int) -> Styled:
+    """The lines of `recommend`. A container that is short then is red."""
+    by_path = advice.after.by_path()
+    groups = [by_path[path] for path in advice.paths]
+    rows = [["used", "most", advice.keys[0], "then", advice.keys[1], "then", "gets", "guaranteed",
+             advice.noun], *(row(advice, *each) for each in zip(
+                 advice.proposals, groups, advice.guaranteed))]
+    styles = ["bold", *("red" if group.gets < group.want else "" for group in groups)]
+    short_ = [shown(each.title) for each, group in zip(advice.proposals, groups)
+              if group.gets < group.want]
+    note = [("* throttled at its limit: it wanted more than it used", "")]
+    return [*heading(advice, short_, count), *zip(text.table(rows, (len(rows[0]) - 1,)), styles),
+            *(note if any(each.is_throttled for each in advice.proposals) else [])]
 
 
 DETAILS = (
@@ -124,4 +116,5 @@ EXAMPLES = (
 RECOMMEND = Subcommand("recommend",
                        "Proposes a request and a limit for each container or unit from what it"
                        " used, and says who would be short and what each is guaranteed.",
-                       add_words, run, DETAILS, EXAMPLES)
+                       of_source("recommend", "pods and their node, containers of docker, units,"
+                                 " or a tree of cgroup v2, as of explain"), run, DETAILS, EXAMPLES)

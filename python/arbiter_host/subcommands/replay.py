@@ -2,6 +2,7 @@
 from __future__ import annotations
 
 import argparse
+
 from arbiter_host import choosing, load, options as table, output, progress, series
 from arbiter_host.faults import HostFault, UsageFault
 from arbiter_host.fleet import questions
@@ -10,7 +11,8 @@ from arbiter_host.plan import Engine
 from arbiter_host.series import Series
 from arbiter_host.sources import by_options, used
 from arbiter_host.sources.usage import some
-from arbiter_host.subcommands.base import Subcommand, found_engine, source_name
+from arbiter_host.subcommands.base import Subcommand, found_engine, of_source, source_name
+
 
 def periods_of(options: argparse.Namespace, model: Model) -> int:
     """The periods of one sample: 1, those of `--step`, or of a server's."""
@@ -65,13 +67,6 @@ def run(options: argparse.Namespace) -> None:
                                  "svg": lambda: series.picture(series_)})
 
 
-def add_words(parser: argparse.ArgumentParser) -> None:
-    """The words of `replay`."""
-    parser.add_argument("source", nargs="+", metavar="SOURCE", help="a source, as of explain, or"
-                        " many hosts: a folder of their files, a list of these, a cluster's JSON")
-    table.add(parser, "replay")
-
-
 DETAILS = (
     "The samples of --used are planned one after another, with what was saved up. A sample lasts"
     " one period, or as long as --step says: then its period is repeated, so that a burst lasts as"
@@ -91,4 +86,5 @@ EXAMPLES = (
 )
 REPLAY = Subcommand("replay",
                     "Plans the groups of SOURCE for each sample of what was used.",
-                    add_words, run, DETAILS, EXAMPLES)
+                    of_source("replay", "a source, as of explain, or many hosts: a folder of their"
+                              " files, a list of these, a cluster's JSON"), run, DETAILS, EXAMPLES)

@@ -5,7 +5,7 @@ import argparse
 from collections.abc import Sequence
 
 from arbiter import Unmet
-from arbiter_host import change, choosing, knobs, load, options as table, text, tune, units
+from arbiter_host import change, choosing, knobs, options as table, text, tune, units
 from arbiter_host.faults import NothingFound, UsageFault
 from arbiter_host.goals import Way
 from arbiter_host.knobs import Knob
@@ -13,7 +13,7 @@ from arbiter_host.model import MAX_PROCESSORS
 from arbiter_host.names import short, shown
 from arbiter_host.output import json_text, write_forms
 from arbiter_host.plan import Plan, plan
-from arbiter_host.subcommands.base import Subcommand, found_engine, source_name
+from arbiter_host.subcommands.base import Subcommand, found_engine, loaded, of_source
 from arbiter_host.tune import Tuned
 
 # What goals are measured by.
@@ -30,8 +30,7 @@ def run(options: argparse.Namespace) -> None:
     if not options.goal:
         raise UsageFault("tune: the following arguments are required: --goal")
     outputs, by = table.outputs(options), found_engine(options)
-    model = load.load(options, options.source, by)
-    load.warn(model, source_name(options.source))
+    model = loaded(options, by)
     before = plan(by, change.warned(model, change.changed(model, options.set)))
     answer = tune.tune(before, options.goal, options.guaranteed,
                        choosing.chosen(before.model, options))
@@ -156,12 +155,6 @@ def unreached(setting: str, processors: int) -> str:
     return f"{MAX_PROCESSORS} CPUs do not reach it{more}"
 
 
-def add_words(parser: argparse.ArgumentParser) -> None:
-    """The words of `tune`."""
-    parser.add_argument("source", nargs="+", metavar="SOURCE", help="a source, as of explain")
-    table.add(parser, "tune")
-
-
 DETAILS = (
     "The C library answers the weights. Those of the goals' groups alone change, and they are"
     " proved to be the least of all that lower none. Where no such weights meet the goals, some are"
@@ -197,4 +190,4 @@ EXAMPLES = (
 TUNE = Subcommand("tune",
                   "Says with which weights, requests or shares several groups get what they are to"
                   " get at once, or which goals cannot be met together.",
-                  add_words, run, DETAILS, EXAMPLES)
+                  of_source("tune", "a source, as of explain"), run, DETAILS, EXAMPLES)
