@@ -2,7 +2,9 @@
 from __future__ import annotations
 
 import argparse
+import tomllib
 from collections.abc import Callable, Sequence
+from pathlib import Path
 from typing import NamedTuple
 
 from arbiter_host import explain, load, names, options as table, text
@@ -11,6 +13,8 @@ from arbiter_host.faults import UsageFault
 from arbiter_host.model import MAX_DEPTH, Model
 from arbiter_host.plan import Engine, engine_of
 from arbiter_host.subcommands import PLACES
+
+TEXTS = Path(__file__).parent.parent / "templates"
 
 
 class Subcommand(NamedTuple):
@@ -32,14 +36,17 @@ class Subcommand(NamedTuple):
         return PLACES[self.name].summary
 
 
-def of_source(name: str, about: str,
-              metavar: str = "SOURCE") -> Callable[[argparse.ArgumentParser], None]:
-    """The words of a subcommand that reads sources: what these are, and its options."""
+def of_texts(name: str, run: Callable[[argparse.Namespace], None]) -> Subcommand:
+    """A subcommand whose texts and argument are in templates/NAME.toml."""
+    texts = tomllib.loads((TEXTS / f"{name}.toml").read_text(encoding="utf-8"))
+
     def add_words(parser: argparse.ArgumentParser) -> None:
-        parser.add_argument("source", nargs="+", metavar=metavar, help=about)
+        argument = dict(texts["argument"])
+        parser.add_argument(argument.pop("name"), **argument)
         table.add(parser, name)
 
-    return add_words
+    return Subcommand(name, texts["description"], add_words, run, tuple(texts["details"]),
+                      tuple(texts["examples"].items()))
 
 
 def found_engine(options: argparse.Namespace) -> Engine:

@@ -12,8 +12,7 @@ from arbiter_host.model import Model
 from arbiter_host.names import shown
 from arbiter_host.output import json_text, write_forms
 from arbiter_host.plan import Engine, plan
-from arbiter_host.subcommands.base import (Subcommand, found_engine, of_source, source_name,
-                                           view_of)
+from arbiter_host.subcommands.base import found_engine, of_texts, source_name, view_of
 
 
 def on_host(options: argparse.Namespace, host: Host) -> argparse.Namespace:
@@ -84,33 +83,4 @@ def run(options: argparse.Namespace) -> None:
                               [shown(word) for word in options.set])})
 
 
-DETAILS = (
-    "A change is GROUP.KEY=VALUE, with KEY one of weight, max, burst, period, demand, tasks. `*`"
-    " in GROUP stands for any letters. Groups that are the same in both plans are counted alone.",
-    "Of pods, KEY may also be request or limit: the weights and limits of the container, its pod,"
-    " its class and kubepods follow by the formulas of kubelet and the runtime. Of units, also of"
-    " those in a tree of cgroup v2, it may be CPUWeight or CPUQuota, of containers of docker cpus"
-    " or cpu-shares. These changes are made first.",
-    "Both plans are of one host: that of --cpus, else the one that AFTER names, else that of"
-    " BEFORE. `.cpus=8`, `.period=1s` and `.slice=5ms` change the host of the plan after. Two"
-    " sources that each name a host keep theirs.",
-    "The JSON of pods and that of their node, side by side, are one source. Of many hosts the"
-    " change is made on each.",
-)
-EXAMPLES = (
-    ("a greater weight on a host with more CPUs",
-     "arbiterctl diff host.toml --set web.weight=400 --set .cpus=32"),
-    ("another request on a Kubernetes node",
-     "arbiterctl diff pods.json node.json --set prod/web-7c9f/nginx.request=500m"),
-    ("the same as a page, with the pods of one namespace",
-     "arbiterctl diff pods.json node.json --set prod/web-7c9f/nginx.request=500m -n prod"
-     " -o html=change.html"),
-    ("two sources, as JSON", "arbiterctl diff before.script after.script -o json"),
-    ("a greater weight on every host that has the group",
-     "arbiterctl diff hosts --set web.weight=400"),
-)
-DIFF = Subcommand("diff",
-                  "Says what changes from BEFORE to AFTER. Without AFTER it is BEFORE with the"
-                  " changes of --set.", of_source(
-                      "diff", "sources, as of explain; with --set a source of many hosts too",
-                      "BEFORE [AFTER]"), run, DETAILS, EXAMPLES)
+DIFF = of_texts("diff", run)

@@ -10,7 +10,7 @@ from arbiter_host import change, load, options as table
 from arbiter_host.model import Model
 from arbiter_host.output import say, write_file
 from arbiter_host.sources import hostfile, script
-from arbiter_host.subcommands.base import Subcommand, found_engine, of_source, source_name
+from arbiter_host.subcommands.base import found_engine, of_texts, source_name
 
 WRITERS: Mapping[str, Callable[[Model, Library], str]] = {
     "script": script.write, "toml": lambda model, _: hostfile.write_toml(model),
@@ -33,19 +33,4 @@ def run(options: argparse.Namespace) -> None:
     say(f"groups: {len(model.groups)}{warned}")
 
 
-DETAILS = (
-    "It only reads. What the script or host file cannot hold stands in it in lines that begin with"
-    " `# !`; for JSON it is printed as warnings. The first line of a script is the host, so that"
-    " the other subcommands need no options for it.",
-)
-EXAMPLES = (
-    ("this machine, by what it used in ten seconds",
-     "arbiterctl export /sys/fs/cgroup --read 2x10s -o script=host.script"),
-    ("a Kubernetes node as a host file",
-     "arbiterctl export pods.json node.json -o toml=node.toml"),
-    ("units of systemd, all of them busy",
-     "systemctl show '*.slice' '*.service' '*.scope' |"
-     " arbiterctl export - --want busy -o script=host.script"),
-)
-EXPORT = Subcommand("export", "Writes what a source holds as a script or a host file.",
-                    of_source("export", "a source, as of explain"), run, DETAILS, EXAMPLES)
+EXPORT = of_texts("export", run)

@@ -12,7 +12,7 @@ from arbiter_host.plan import Engine, Planned
 from arbiter_host.recommend import Proposal, Recommendation
 from arbiter_host.sources import used
 from arbiter_host.sources.register import READERS
-from arbiter_host.subcommands.base import Subcommand, found_engine, of_source, source_name
+from arbiter_host.subcommands.base import found_engine, of_texts, source_name
 
 
 def loaded(options: argparse.Namespace, by: Engine) -> Model:
@@ -94,27 +94,4 @@ def lines_of(advice: Recommendation, count: int) -> Styled:
             *(note if any(each.is_throttled for each in advice.proposals) else [])]
 
 
-DETAILS = (
-    "The request is the percentile of --target with --headroom on top, at least 10m. The limit is"
-    " the greatest use, or what a throttled container wanted at least, with the same on top. A"
-    " container without a limit gets none. In a guaranteed pod the request is the limit.",
-    "What was used is said by --used; a tree of cgroups tells of throttling too. Of units it is the"
-    " demand, where that is taken from usage. A container of which nothing is said stays as it is.",
-    "For containers of docker the request is 1024 cpu-shares for each CPU and the limit cpus, for"
-    " units 100 of CPUWeight for each CPU and CPUQuota.",
-    "In the plan each container asks for what it used at the percentile, with the proposed weights"
-    " and limits. Beside it is what each is guaranteed, whatever the others ask for.",
-)
-EXAMPLES = (
-    ("from what was used at one time",
-     "kubectl top pods -A --containers | arbiterctl recommend pods.json node.json --used -"),
-    ("from a history, as JSON",
-     "arbiterctl recommend pods.json node.json --used pods.csv --target p90 -o json"),
-    ("from a week of Prometheus",
-     "arbiterctl recommend pods.json node.json --used http://127.0.0.1:9090 --range 7d --step 5m"),
-)
-RECOMMEND = Subcommand("recommend",
-                       "Proposes a request and a limit for each container or unit from what it"
-                       " used, and says who would be short and what each is guaranteed.",
-                       of_source("recommend", "pods and their node, containers of docker, units,"
-                                 " or a tree of cgroup v2, as of explain"), run, DETAILS, EXAMPLES)
+RECOMMEND = of_texts("recommend", run)

@@ -11,7 +11,7 @@ from arbiter_host.plan import Engine
 from arbiter_host.series import Series
 from arbiter_host.sources import by_options, used
 from arbiter_host.sources.usage import some
-from arbiter_host.subcommands.base import Subcommand, found_engine, of_source, source_name
+from arbiter_host.subcommands.base import found_engine, of_texts, source_name
 
 
 def periods_of(options: argparse.Namespace, model: Model) -> int:
@@ -67,24 +67,4 @@ def run(options: argparse.Namespace) -> None:
                                  "svg": lambda: series.picture(series_)})
 
 
-DETAILS = (
-    "The samples of --used are planned one after another, with what was saved up. A sample lasts"
-    " one period, or as long as --step says: then its period is repeated, so that a burst lasts as"
-    " long as it would on a host.",
-    "A file is CSV with groups in the first row and a time in the first column, lines GROUP NUMBER"
-    " GROUP NUMBER .., or what was used at one time as `kubectl top pods` prints it. An empty cell"
-    " of CSV asks for nothing. For many hosts it is a folder with HOST.csv, or one CSV with the"
-    " columns time, host, group and demand.",
-    "The text has sums, and csv and json each sample. `wanted` and `got` are means.",
-)
-EXAMPLES = (
-    ("samples of half an hour each", "arbiterctl replay host.toml --used day.csv --step 30m"),
-    ("two days", "arbiterctl replay host.toml --used monday.csv --used tuesday.csv --step 30m"),
-    ("a picture of some groups",
-     "arbiterctl replay host.toml --used day.csv --step 30m -g web -o svg=day.svg"),
-    ("a day of each host", "arbiterctl replay hosts --used demands --step 30m"),
-)
-REPLAY = Subcommand("replay",
-                    "Plans the groups of SOURCE for each sample of what was used.",
-                    of_source("replay", "a source, as of explain, or many hosts: a folder of their"
-                              " files, a list of these, a cluster's JSON"), run, DETAILS, EXAMPLES)
+REPLAY = of_texts("replay", run)

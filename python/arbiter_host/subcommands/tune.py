@@ -13,7 +13,7 @@ from arbiter_host.model import MAX_PROCESSORS
 from arbiter_host.names import short, shown
 from arbiter_host.output import json_text, write_forms
 from arbiter_host.plan import Plan, plan
-from arbiter_host.subcommands.base import Subcommand, found_engine, loaded, of_source
+from arbiter_host.subcommands.base import found_engine, loaded, of_texts
 from arbiter_host.tune import Tuned
 
 # What goals are measured by.
@@ -155,39 +155,4 @@ def unreached(setting: str, processors: int) -> str:
     return f"{MAX_PROCESSORS} CPUs do not reach it{more}"
 
 
-DETAILS = (
-    "The C library answers the weights. Those of the goals' groups alone change, and they are"
-    " proved to be the least of all that lower none. Where no such weights meet the goals, some are"
-    " lowered, as few and as little as is found. Where no weights of these groups do, groups above"
-    " them change too. Where none of these is found, limits of other groups are lowered, to one"
-    " level where they can be, and fewer where that costs the others no more. Of these three"
-    " answers none of the changes can be left out. It is not proved that they are the fewest.",
-    "For containers of pods it answers requests, for units CPUWeight, for containers of docker"
-    " cpu-shares. Requests are raised one after another over accepted plans, each to the least"
-    " beside the others. It is not proved that they are the least.",
-    "A goal is rounded up to whole slices, and a line says so. No group with a goal may be above"
-    " another one. Goals that no weights of their groups meet together are named, with what they"
-    " ask for in all and what is served. It is not proved that they are the fewest.",
-    "Of one goal it also prints each setting of the group alone, all else as it is: the least"
-    " weight from 1 to 10000, limit, and number of CPUs from 1 to 64, and the groups that get less"
-    " then. `-` is no value. The plan of each is accepted by the proved check, and no lesser value"
-    " reaches the goal. Of a container of a pod, a unit, or a container of docker these are the"
-    " settings that people own, too.",
-    "With -g only weights, limits and settings of these groups, and of those below them, change."
-    " What follows from a request, such as the weight of its pod, changes with it. At most 64"
-    " limits are lowered, and none of a group with a burst. Where nothing is found, it ends with"
-    " status 6.",
-)
-EXAMPLES = (
-    ("two groups at once", "arbiterctl tune host.toml --goal web=1500m --goal batch=14cpu"),
-    ("what web needs for one and a half CPUs, as JSON",
-     "arbiterctl tune host.toml --goal web=1.5cpu -o json"),
-    ("the same whatever the others ask for, by changes of batch alone",
-     "arbiterctl tune host.toml --goal web=1500m --guaranteed -g batch"),
-    ("requests of containers that are all busy",
-     "arbiterctl tune pods.json node.json --want busy --goal '*/nginx=750m' --goal '*/envoy=1cpu'"),
-)
-TUNE = Subcommand("tune",
-                  "Says with which weights, requests or shares several groups get what they are to"
-                  " get at once, or which goals cannot be met together.",
-                  of_source("tune", "a source, as of explain"), run, DETAILS, EXAMPLES)
+TUNE = of_texts("tune", run)
