@@ -34,7 +34,6 @@ class Pair:
 
     @property
     def differs(self) -> bool:
-        """Whether the group is not the same in both."""
         before, after = map(facts, self.plans, self.groups)
         return before != after
 
@@ -69,7 +68,6 @@ class Pair:
         return after if before == after or not has_before else f"{after} (before: {before})"
 
     def row(self, view: View) -> Reasoned:
-        """The numbers, the forms of the reason from long to short, and the name of its line."""
         forms = [self.reason(False, False)]
         if view.width >= WIDE:
             whole = self.reason(True, True)
@@ -92,7 +90,6 @@ def differing(one: Plan, two: Plan, view: View = View()) -> list[Pair]:
 
 
 def heads(one: Plan, two: Plan, view: View) -> Iterator[tuple[str, str]]:
-    """The lines above the table."""
     for name, plan in (("before", one), ("after", two)):
         for line in list(explain.head(plan, view))[:3]:
             yield cut(f"{name:<7} {line}", max(view.width, 80)), ""

@@ -84,7 +84,6 @@ def why(plan: Plan, group: Planned, is_wide: bool) -> str:
 
 
 def narrow(plan: Plan, group: Planned) -> str:
-    """The reason in few letters."""
     reason = plan.reason(group)
     part = f" {reason.weight}/{reason.active_weight}" if reason.active_weight else ""
     if reason.name == "limit above":
@@ -119,7 +118,6 @@ def line_of(plan: Plan, group: Planned, view: View, depth: int) -> Reasoned:
 
 
 def style_of(plan: Plan, group: Planned) -> str:
-    """The style of a group's line, by its reason."""
     return STYLES.get("STARVED" if group.is_starved else plan.reason(group).name, "")
 
 
@@ -193,7 +191,6 @@ def head(plan: Plan, view: View) -> Iterator[str]:
 
 
 def limiting(plan: Plan, unit: str) -> str:
-    """The groups whose limits hold the total down."""
     groups = [f"{'the host' if group.parent is None else short(shown(group.path))}"
               f" ({text.amount(plan, group.limit, unit)})" for group in plan.limiting]
     return listed(groups, 8) or "the demands alone"
@@ -249,7 +246,6 @@ def range_lines(plan: Plan, view: View, ranges: Mapping[int, tuple[int, int]]) -
 
 
 def foot(plan: Plan, view: View, lines: Sequence[str]) -> Iterator[str]:
-    """The lines below the table."""
     if any("THROTTLED*" in line for line in lines):
         yield THROTTLED_NOTE
     idle = sum(1 for group in plan.groups[1:] if group.want == 0 and view.has(group)
@@ -302,7 +298,6 @@ def with_placement(plan: Plan, data: dict[str, Any], outlook: Outlook) -> dict[s
 
 
 def group_data(plan: Plan, group: Planned, view: View) -> dict[str, Any]:
-    """A group as data."""
     reason, own = plan.reason(group), group.group
     above = plan.groups[group.parent].path if group.parent is not None else None
     shown_ = {head: amounts(plan, slices) for head, slices in view.amounts(group).items()}

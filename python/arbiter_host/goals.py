@@ -75,7 +75,6 @@ class Goals:
 
     @property
     def rows(self) -> frozenset[int]:
-        """The rows of the goals."""
         return frozenset(goal.group.row for goal in self.goals)
 
     @property
@@ -85,7 +84,6 @@ class Goals:
 
     @property
     def depth(self) -> int:
-        """The depth of the deepest group of a goal."""
         return max(goal.group.depth for goal in self.goals)
 
     @property
@@ -99,7 +97,6 @@ class Goals:
 
     @property
     def weights(self) -> list[int]:
-        """The weight of each row."""
         return self.before.weights
 
     def amount(self, after: Plan, row: int) -> int:
@@ -107,7 +104,6 @@ class Goals:
         return after.guaranteed(row) if self.is_guaranteed else after.groups[row].gets
 
     def amounts(self, after: Plan) -> tuple[int, ...]:
-        """What each goal's group gets in a plan, or is guaranteed."""
         return tuple(self.amount(after, goal.group.row) for goal in self.goals)
 
     def short(self, after: Plan) -> int | None:
@@ -116,15 +112,12 @@ class Goals:
                      if self.amount(after, goal.group.row) < goal.amount), None)
 
     def are_met(self, after: Plan) -> bool:
-        """Whether a plan meets all goals."""
         return self.short(after) is None
 
     def plan_of(self, model: Model) -> Plan:
-        """The accepted plan of a model."""
         return plan(self.before.engine, model)
 
     def plan(self, weights: Sequence[int]) -> Plan:
-        """The accepted plan with other weights."""
         return self.plan_of(with_weights(self.before.model, weights))
 
     def needed(self, rows: Sequence[int], plan_with: Callable[[Sequence[int]], Plan],

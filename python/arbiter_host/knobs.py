@@ -54,7 +54,6 @@ def with_limit(model: Model, path: str, slices: int) -> Model:
 
 
 def with_cpus(model: Model, _: str, cpus: int) -> Model:
-    """The model on another number of CPUs."""
     return replace(model, host=replace(model.host, processors=cpus))
 
 

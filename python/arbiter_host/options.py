@@ -88,11 +88,9 @@ class Option(NamedTuple):
 
     @property
     def name(self) -> str:
-        """Its longest flag, for messages."""
         return max(self.flags, key=len)
 
     def help_of(self, subcommand: str) -> str:
-        """Its help for a subcommand, with the forms of -o."""
         text = self.helps.get(subcommand, self.help)
         return text.replace("FORMS", ", ".join(FORMS.get(subcommand, ())))
 
@@ -346,7 +344,6 @@ def check_forms(options: argparse.Namespace, outputs_: Sequence[Output]) -> None
 
 
 def words_of_kind(kind: str) -> str:
-    """A kind of source, for messages."""
     return "many hosts" if kind == HOSTS else f"a source of the kind {kind}"
 
 

@@ -130,7 +130,6 @@ class Lowering:
     caps: tuple[Cap, ...]
 
     def model(self, limits: Limits) -> Model:
-        """The model with some limits."""
         before = self.goals.before.model
         settings = [Setting(self.caps[place].path, self.caps[place].key,
                             self.caps[place].written(value)) for place, value in limits.items()]
@@ -146,7 +145,6 @@ class Lowering:
         return replace(self.goals, before=self.goals.plan_of(self.model(limits)))
 
     def changes(self, limits: Limits) -> list[NewSetting]:
-        """What some limits change."""
         return [NewSetting(cap.path, cap.key, cap.now, cap.written(limits[place]))
                 for place, cap in enumerate(self.caps) if place in limits]
 

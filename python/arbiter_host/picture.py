@@ -53,7 +53,6 @@ def chosen(plan: Plan, own: Set[int], rows: int) -> set[int]:
 
 
 def entry_of(plan: Plan, group: Planned, view: View) -> Entry:
-    """The row of a group."""
     cells = view.cells(plan, group)
     more = "" if group.limit is None or group.parent is None else f", at most {cells['limit']}"
     if cells.get("guaranteed", "-") != "-":
@@ -139,7 +138,6 @@ class Drawing:
         self.height = HEAD + ROW * (len(entries_) + scales) + EDGE
 
     def y(self, place: int) -> float:
-        """The top of a row."""
         return HEAD + ROW * (place + place // SCALE_ROWS)
 
     def x(self, slices: float) -> float:
@@ -174,7 +172,6 @@ class Drawing:
                 yield svg.line((x, y), (x + INDENT - 6, y), svg.BRANCH)
 
     def bar(self, entry: Entry, y: float) -> Iterator[str]:
-        """What a group wants and gets, and its limit."""
         tall = ROW - 8
         yield svg.box((self.left, y + 4), (self.x(entry.want) - self.left, tall), svg.WANTS)
         gets = max(self.x(entry.gets) - self.left, 1.5 if entry.gets else 0)
@@ -189,7 +186,6 @@ class Drawing:
             yield svg.line((x, y + 1), (x, y + ROW - 1), colour, wide)
 
     def row(self, place: int, entry: Entry) -> Iterator[str]:
-        """One row."""
         y = self.y(place)
         ink = svg.MARK if entry.is_limiting else svg.FAINT if entry.is_folded else svg.INK
         yield svg.words((EDGE + INDENT * entry.depth, y + 14), cut(entry.name, NAME_CELLS), ink, 12,
@@ -201,7 +197,6 @@ class Drawing:
 
 
 def legend(y: float) -> Iterator[str]:
-    """What the colours mean."""
     def line(colour: str, wide: float) -> Callable[[float], str]:
         return lambda x: svg.line((x + 4, y - 11), (x + 4, y + 3), colour, wide)
 
@@ -212,7 +207,6 @@ def legend(y: float) -> Iterator[str]:
 
 
 def title_of(plan: Plan, unit: str) -> str:
-    """The plan in one line."""
     served, most, want = (text.amount(plan, each, unit)
                           for each in (plan.root.gets, plan.capacity, plan.root.want))
     return f"{served} of {most} {text.UNIT_WORDS[unit]} served, {want} wanted"

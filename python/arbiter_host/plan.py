@@ -161,7 +161,6 @@ class Plan:
 
     @property
     def by(self) -> str:
-        """The words of the engine, for people."""
         return self.engine.words
 
     @property
@@ -171,17 +170,14 @@ class Plan:
 
     @property
     def limiting(self) -> list[Planned]:
-        """The groups whose limits hold the total down."""
         return [self.groups[row] for row in self.answer.limiting]
 
     @property
     def columns(self) -> Columns:
-        """The rows that were planned."""
         return self.answer.columns
 
     @property
     def weights(self) -> list[int]:
-        """The weight of each row."""
         return [group.weight for group in self.groups]
 
     @property
@@ -200,7 +196,6 @@ class Plan:
         return slices * host.slice_us * 1000 / host.period_us
 
     def by_path(self) -> dict[str, Planned]:
-        """The groups by path."""
         return {group.path: group for group in self.groups}
 
     def above(self, group: Planned) -> Iterator[Planned]:
@@ -211,7 +206,6 @@ class Plan:
 
     @functools.cached_property
     def reasons(self) -> list[arbiter.Reason]:
-        """The reasons, by row."""
         with asking("arbiter_reasons"):
             return self.engine.library.reasons(planned(self.model.host), self.columns)
 
@@ -233,7 +227,6 @@ class Plan:
 
 
 def explained(plan_: Plan, group: Planned) -> Explanation:
-    """The reason of a group in words."""
     kind, above = plan_.reasons[group.row]
     if kind is Kind.NOTHING_ASKED:
         return Explanation("nothing asked", "nothing asked")
@@ -274,7 +267,6 @@ def walk(tops: Sequence[Planned], below: Callable[[Planned], Sequence[Planned]] 
 
 
 def planned_of(rows: Sequence[Row], model: Model, answer: Answer) -> list[Planned]:
-    """The groups of a plan, with their children and depths."""
     entries: list[tuple[str, Group | None]] = [(".", None), *model.groups.items()]
     figures = answer.figures
     groups = [Planned(place, path, row.parent, row.weight, row.limit, row.demand, gets, group,

@@ -69,7 +69,6 @@ class SampleCell:
         return Fraction(slices, max(self.periods, 1))
 
     def data(self) -> dict[str, int]:
-        """Its sums and counts by the names of COUNTS."""
         return {name: getattr(self, key) for key, name in COUNTS.items()}
 
     @property
@@ -96,7 +95,6 @@ class Series:
     plan: Plan
 
     def of(self, place: int) -> list[SampleCell]:
-        """The cells of a group."""
         return [row[place] for row in self.cells]
 
 
@@ -235,7 +233,6 @@ def as_text(series: Series, unit: str) -> str:
 
 
 def records(series: Series, unit: str) -> Iterator[dict[str, object]]:
-    """One record for each group and sample."""
     for name, cells in zip(series.names, series.cells):
         for path, cell in zip(series.groups, cells):
             gets, wants, limit = (None if each is None else written(series, cell.mean(each), unit)
@@ -285,7 +282,6 @@ def gapped(values: Sequence[float | None], x: Callable[[float], float],
 
 
 def panel(series: Series, place: int, top: float) -> Iterator[str]:
-    """One group over time, in CPUs."""
     host, cells = series.plan.model.host, series.of(place)
     one = host.slice_us / host.period_us
     wants = [float(each.mean(each.wants)) * one for each in cells]
@@ -315,7 +311,6 @@ def panel(series: Series, place: int, top: float) -> Iterator[str]:
 
 
 def strips(cells: Sequence[SampleCell], top: float, x: Callable[[float], float]) -> Iterator[str]:
-    """The strips of flags below a group."""
     for place, (letter, _, colour) in enumerate(FLAGS):
         for begin, end in runs([letter in each.flags for each in cells]):
             corner = (x(begin), top + TALL + 3 + STRIP * place)
@@ -323,16 +318,15 @@ def strips(cells: Sequence[SampleCell], top: float, x: Callable[[float], float])
 
 
 def legend(y: float) -> Iterator[str]:
-    """What the colours mean."""
     marks = [("gets", 19.0, svg.swatch(y - 10, svg.GETS)),
              ("wants", 19.0, svg.swatch(y - 10, svg.WANTS)),
              *((name, 19.0, svg.swatch(y - STRIP, colour, STRIP)) for _, name, colour in FLAGS),
-             ("limit", 23.0, lambda x: svg.line((x, y - 4), (x + 18, y - 4), svg.LIMIT, 1.5, "5 3"))]
+             ("limit", 23.0, lambda x: svg.line((x, y - 4), (x + 18, y - 4), svg.LIMIT, 1.5,
+                                                "5 3"))]
     return svg.legend(EDGE, y, marks)
 
 
 def time_labels(series: Series, y: float) -> Iterator[str]:
-    """The names of some samples, as many as have room."""
     count = len(series.names)
     widest = max(svg.wide(shown(name), 10) for name in series.names) + 16
     each = max(-(-count // max(int(WIDE // widest), 1)), 1)

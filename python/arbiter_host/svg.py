@@ -15,7 +15,6 @@ Point = tuple[float, float]
 
 
 def number(value: float) -> str:
-    """A number as it is written."""
     return f"{value:.1f}".rstrip("0").rstrip(".")
 
 
@@ -81,7 +80,6 @@ def steps(most: float, about: int) -> list[float]:
 
 
 def head(width_: float, height: float, title: str, space: str = "", typeface: str = "") -> str:
-    """The beginning of a picture."""
     wide_, tall = number(width_), number(height)
     return (f'<svg{space} width="{wide_}" height="{tall}" viewBox="0 0 {wide_} {tall}"{typeface}'
             f' role="img" aria-label={quoteattr(shown(title))}>')

@@ -75,7 +75,6 @@ def terminal_width() -> int:
 
 
 def cpus(count: int) -> str:
-    """A number of CPUs."""
     return "1 CPU" if count == 1 else f"{count} CPUs"
 
 

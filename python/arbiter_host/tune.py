@@ -38,7 +38,6 @@ class Tuned:
 
     @property
     def before(self) -> Plan:
-        """The plan as it is."""
         return self.asked.before
 
     @property
@@ -63,7 +62,6 @@ class Tuned:
 
     @property
     def is_nothing(self) -> bool:
-        """Whether no settings were found."""
         return self.best is None and all(each.least is None for each in self.alone)
 
 

@@ -30,23 +30,18 @@ class Raised:
 
     @property
     def model(self) -> Model:
-        """The model with the settings."""
         return owned.remade(self.goals.before.model, self.source, list(self.settings.values()))
 
     def plan(self) -> Plan:
-        """The accepted plan with the settings."""
         return self.goals.plan_of(self.model)
 
     def only(self, rows: Sequence[int]) -> Raised:
-        """The same with the settings of some rows alone."""
         return replace(self, settings={row: self.settings[row] for row in rows})
 
     def plan_with(self, rows: Sequence[int]) -> Plan:
-        """The accepted plan with the settings of some rows alone."""
         return self.only(rows).plan()
 
     def with_value(self, row: int, of: Range, value: int) -> Raised:
-        """The same with another value of the setting of a row."""
         setting = Setting(self.goals.before.groups[row].path, of.key, of.written(value))
         return replace(self, settings={**self.settings, row: setting})
 
@@ -89,7 +84,6 @@ class Raised:
         return None if value is None else self.with_value(group.row, of, value)
 
     def changes(self) -> list[NewSetting]:
-        """What the settings change."""
         return [NewSetting(setting.path, setting.key, now, setting.value)
                 for setting in (self.settings[row] for row in sorted(self.settings))
                 if (now := self.source.weighing(setting.path).now) != setting.value]

@@ -78,7 +78,6 @@ def own_weights(goals: Goals) -> list[int] | Unmet:
 
 
 def changed_rows(goals: Goals, weights: Sequence[int]) -> list[int]:
-    """The rows whose weight is another."""
     return [row for row, (was, weight) in enumerate(zip(goals.weights, weights)) if weight != was]
 
 

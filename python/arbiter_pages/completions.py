@@ -25,7 +25,6 @@ def zsh_value(word: Word) -> str:
 
 
 def zsh_word(word: Word) -> str:
-    """An option or an argument as _arguments takes it."""
     if not word.names:
         return f"'{'*' if word.is_many else ':'}{zsh_value(word)}'"
     if "--help" in word.names or "--version" in word.names:
@@ -47,7 +46,6 @@ def fish_text(text: str) -> str:
 
 
 def fish_option(word: Word) -> str:
-    """An option in fish."""
     names = " ".join(f"-l {name[2:]}" if name.startswith("--") else f"-s {name[1:]}"
                      for name in word.names)
     value = " -r -F" if word.is_file else " -x" if word.takes_value else ""

@@ -44,7 +44,6 @@ def prose(text: str) -> str:
 
 
 def value_of(word: Word) -> str:
-    """The value of an option or argument, as macros."""
     if word.value == BEFORE_AFTER:
         return "Ar BEFORE Op Ar AFTER"
     if word.values and not word.value:
@@ -53,7 +52,6 @@ def value_of(word: Word) -> str:
 
 
 def argument(word: Word) -> str:
-    """An argument in the synopsis."""
     more = " ..." if word.is_many and word.value != BEFORE_AFTER else ""
     return f".{'' if word.is_needed else 'Op '}{value_of(word)}{more}"
 

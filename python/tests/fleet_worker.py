@@ -16,9 +16,9 @@ from arbiter_host.fleet import work  # noqa: E402
 from arbiter_host.fleet.answers import unpacked  # noqa: E402
 
 
-def forged(job, item):
+def forged(job, host):
     """The last group gets one slice more."""
-    told = honest(job, item)
+    told = honest(job, host)
     (plan,) = told.plans
     columns, amounts, certificate = unpacked(plan.data, len(plan.paths))
     amounts[0] += 1
@@ -26,15 +26,15 @@ def forged(job, item):
     return told._replace(plans=[plan._replace(data=work.packed(columns, amounts, certificate))])
 
 
-def hung(job, item):
+def hung(job, host):
     """Never ends. What waits for it reads that it has begun."""
     print("begun", flush=True)
     time.sleep(3600)
 
 
-def other(job, item):
+def other(job, host):
     """An object of another kind."""
-    return {"results": item}
+    return {"results": host}
 
 
 honest = work.answered

@@ -214,9 +214,9 @@ def test_a_wrong_answer_is_a_fault_of_its_host(fleet, calls, monkeypatch, lie):
     right = fleets.asked(fleet, calls)[0]
     honest, (change, said) = work.answered, LIES[lie]
 
-    def answered(job, item):
-        sent = honest(job, item)
-        return change(sent) if item.host == "host-00003" else sent
+    def answered(job, host):
+        sent = honest(job, host)
+        return change(sent) if host.name == "host-00003" else sent
 
     monkeypatch.setattr(work, "answered", answered)
     found, missing = fleets.asked(fleet, calls)
@@ -229,7 +229,7 @@ def test_a_wrong_answer_is_a_fault_of_its_host(fleet, calls, monkeypatch, lie):
                                   Sent(Host(), [(["."], b"x")], {}), Sent(Host(), 7, 7)],
                          ids=lambda sent: repr(sent)[:20])
 def test_a_reply_that_is_none(fleet, calls, monkeypatch, sent):
-    monkeypatch.setattr(work, "answered", lambda job, item: sent)
+    monkeypatch.setattr(work, "answered", lambda job, host: sent)
     found, missing = fleets.asked(fleet, calls)
     assert found == {} and len(missing) == HOSTS
     assert all("what its worker answers cannot be read" in each for each in missing.values())

@@ -97,7 +97,6 @@ class Accepted:
 
     @cached_property
     def sums(self) -> dict[str, int]:
-        """What the plan serves, and how many groups it leaves short."""
         return {"served": self.gets[0], "wanted": self.wants[0],
                 "lacking": sum(self.gets[row] < self.wants[row] for row in self.leaves),
                 "starved": sum(self.gets[row] == 0 < self.wants[row] for row in self.leaves),

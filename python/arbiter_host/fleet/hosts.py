@@ -12,6 +12,7 @@ from typing import Any
 
 from arbiter_host import demands, load, names
 from arbiter_host.faults import HostFault, UsageFault, strerror
+from arbiter_host.fleet.work import HostFile
 from arbiter_host.sources import kubernetes, pods
 from arbiter_host.sources.data import loads, table, tables, text
 from arbiter_host.sources.usage import Used, some
@@ -22,17 +23,6 @@ NODE = re.compile(rb'"kind"\s*:\s*"Node"')
 # Files that a tree of cgroups has, and the folder of a fleet does not.
 TREE_FILES = frozenset({"cgroup.controllers", "cgroup.procs", "cpu.stat"})
 MOST_FILES = 100000
-
-
-@dataclass(frozen=True)
-class HostFile:
-    """A host's name in the fleet, and the path of its file."""
-
-    name: str
-    path: str
-    # What the host is read from, where it is a part of a file, and the pods that it then has.
-    data: bytes | None = None
-    pods: frozenset[str] = frozenset()
 
 
 @dataclass(frozen=True)
@@ -60,7 +50,6 @@ class Fleet:
 
     @property
     def is_cluster(self) -> bool:
-        """Whether the hosts are the nodes of a cluster."""
         return self.room is not None
 
     def shapes(self) -> dict[pods.Pod, Pending]:
@@ -199,12 +188,10 @@ def metrics_of(used: Sequence[Used], want: str) -> dict[str, dict[str, Any]]:
 
 
 def name_of(node: dict[str, Any]) -> str:
-    """The name of a node."""
     return text(table(node, "metadata"), "name")
 
 
 def title(pod: dict[str, Any]) -> str:
-    """Namespace and name of a pod."""
     return "/".join(pods.names_of(pod))
 
 
@@ -222,7 +209,6 @@ def host_of(word: str, node: dict[str, Any], of_node: Sequence[dict[str, Any]],
 
 
 def pending_of(pod: dict[str, Any]) -> Pending:
-    """A pod that no node has yet."""
     read = pods.pod_of(pod, [])
     data = json.dumps({**pod, "kind": "Pod"}).encode()
     shape = replace(read, namespace="", name="", uid="")

@@ -25,7 +25,6 @@ class Placed:
 
     @property
     def row(self) -> list[str]:
-        """Its row in the table."""
         cells = [self.pod.title, f"{self.pod.request}m"]
         if self.host is None:
             return [*cells, "unplaced", "-", "-", "-", self.why]
@@ -34,7 +33,6 @@ class Placed:
 
     @property
     def data(self) -> dict[str, Any]:
-        """The same as data."""
         data: dict[str, Any] = {"pod": self.pod.title, "request_millicpu": self.pod.request}
         if self.host is None:
             return {**data, "host": None, "why": self.why}
@@ -63,7 +61,6 @@ def placed(fleet: Fleet, hosts: Sequence[HostAnswer], rule: str) -> list[Placed]
 
 
 def refusal(place: int, hosts: Sequence[HostAnswer], order: Sequence[HostAnswer]) -> str:
-    """Why a pod goes nowhere."""
     if not hosts:
         return "no host is answered"
     if order:

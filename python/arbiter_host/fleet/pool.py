@@ -23,7 +23,7 @@ from typing import Any
 
 from arbiter_host.faults import HostFault
 from arbiter_host.fleet import work
-from arbiter_host.fleet.work import Item, Job, Sent
+from arbiter_host.fleet.work import HostFile, Job, Sent
 from arbiter_host.names import cut, shown
 
 Answered = Future[Sent | str]
@@ -50,7 +50,6 @@ def end_with_parent() -> None:
 
 
 def begin_worker() -> None:
-    """Makes a process a worker."""
     threading.Thread(target=end_with_parent, daemon=True).start()
 
 
@@ -78,31 +77,31 @@ def processes(count: int) -> Iterator[Executor]:
             each.kill()
         raise
     finally:
-        # Before 3.12 Python waits without an end for its thread that hands items on, where no
+        # Before 3.12 Python waits without an end for its thread that hands calls on, where no
         # process is left that takes them (gh-94777). That thread may be closing it too.
-        items: Any = getattr(executor, "_call_queue", None)
+        calls: Any = getattr(executor, "_call_queue", None)
         with suppress(OSError):
-            items._reader.close()
+            calls._reader.close()
         executor.shutdown(cancel_futures=True)
         if before is None:
             os.environ.pop("PYTHONSAFEPATH", None)
 
 
 def given(executor: Executor, width: int, job: Job,
-          items: Iterable[Item]) -> Iterator[tuple[Item, Answered]]:
-    """Each item with its future when that has ended. So many are under way at a time.
+          hosts: Iterable[HostFile]) -> Iterator[tuple[HostFile, Answered]]:
+    """Each host with its future when that has ended. So many are under way at a time.
 
-    An executor that takes nothing more ends it: its last item has the error.
+    An executor that takes nothing more ends it: its last host has the error.
     """
-    under: dict[Answered, Item] = {}
-    for item in items:
+    under: dict[Answered, HostFile] = {}
+    for host in hosts:
         try:
             with uninterrupted():
-                under[executor.submit(work.answered, job, item)] = item
+                under[executor.submit(work.answered, job, host)] = host
         except RuntimeError as error:
             refused: Answered = Future()
             refused.set_exception(error)
-            under[refused] = item
+            under[refused] = host
             break
         if len(under) >= width:
             for each in wait(under, return_when=FIRST_COMPLETED).done:
@@ -111,10 +110,11 @@ def given(executor: Executor, width: int, job: Job,
         yield under.pop(each), each
 
 
-def in_processes(count: int, job: Job, items: Iterable[Item]) -> Iterator[tuple[Item, Answered]]:
-    """Each item with its future, of processes of its own."""
+def in_processes(count: int, job: Job,
+                 hosts: Iterable[HostFile]) -> Iterator[tuple[HostFile, Answered]]:
+    """Each host with its future, of processes of its own."""
     with processes(count) as executor:
-        yield from given(executor, EACH * count, job, items)
+        yield from given(executor, EACH * count, job, hosts)
 
 
 def reply(future: Answered) -> Sent | str:
@@ -124,23 +124,23 @@ def reply(future: Answered) -> Sent | str:
         f"its worker: {type(error).__name__}: {cut(str(error), 200)}")
 
 
-def by_processes(count: int, job: Job, items: Iterator[Item]) -> Replies:
+def by_processes(count: int, job: Job, hosts: Iterator[HostFile]) -> Replies:
     """Replies of processes. Where one dies, those under way are asked again one by one."""
     deaths = 0
-    for first in items:
-        lost: list[Item] = []
-        for item, future in in_processes(count, job, chain([first], items)):
+    for first in hosts:
+        lost: list[HostFile] = []
+        for host, future in in_processes(count, job, chain([first], hosts)):
             if isinstance(future.exception(), BrokenProcessPool):
-                lost.append(item)
+                lost.append(host)
                 continue
             deaths = 0
-            yield item.host, reply(future)
-        for item, future in chain.from_iterable(in_processes(1, job, [each]) for each in lost):
+            yield host.name, reply(future)
+        for host, future in chain.from_iterable(in_processes(1, job, [each]) for each in lost):
             is_dead = isinstance(future.exception(), BrokenProcessPool)
             deaths = deaths + 1 if is_dead else 0
             if deaths > MOST_DEATHS:
                 raise HostFault("workers die one after another, and answer nothing")
-            yield item.host, "its worker died, twice" if is_dead else reply(future)
+            yield host.name, "its worker died, twice" if is_dead else reply(future)
 
 
 @contextmanager
@@ -169,20 +169,20 @@ def dask(address: str) -> Iterator[tuple[Executor, int]]:
             client.close(timeout=3)
 
 
-def by_dask(address: str, job: Job, items: Iterator[Item]) -> Replies:
+def by_dask(address: str, job: Job, hosts: Iterator[HostFile]) -> Replies:
     """Replies of the workers of a scheduler. With the scheduler all that is left goes."""
     with dask(address) as (executor, width):
-        for item, future in given(executor, width, job, items):
+        for host, future in given(executor, width, job, hosts):
             if future.cancelled() or isinstance(future.exception(), RuntimeError):
-                yield item.host, GONE
+                yield host.name, GONE
                 break
-            yield item.host, reply(future)
+            yield host.name, reply(future)
 
 
-def replies(workers: int, scheduler: str | None, job: Job, items: Iterator[Item]) -> Replies:
+def replies(workers: int, scheduler: str | None, job: Job, hosts: Iterator[HostFile]) -> Replies:
     """What comes of each host, in the order in which it comes. Some may not come at all."""
     if scheduler is not None:
-        return by_dask(scheduler, job, items)
+        return by_dask(scheduler, job, hosts)
     if workers:
-        return by_processes(workers, job, items)
-    return ((item.host, work.answered(job, item)) for item in items)
+        return by_processes(workers, job, hosts)
+    return ((host.name, work.answered(job, host)) for host in hosts)

@@ -12,8 +12,8 @@ from arbiter_host import change, load, names, options as table, plain_files, pro
 from arbiter_host.faults import HostFault, NothingFound, UsageFault
 from arbiter_host.fleet import answers, hosts, pending, pool, report
 from arbiter_host.fleet.answers import HostAnswer
-from arbiter_host.fleet.hosts import Fleet, HostFile
-from arbiter_host.fleet.work import Item, Job
+from arbiter_host.fleet.hosts import Fleet
+from arbiter_host.fleet.work import HostFile, Job
 from arbiter_host.model import Group, Model
 from arbiter_host.output import json_text, warn, write_forms
 from arbiter_host.plan import engine_of
@@ -60,7 +60,6 @@ def check_sets(words: Sequence[str]) -> None:
 
 
 def job_of(options: argparse.Namespace, fleet: Fleet) -> Job:
-    """What is asked of each host."""
     if options.asked == "diff" and not options.set:
         raise UsageFault("diff of many hosts takes --set")
     check_sets(options.set)
@@ -80,7 +79,6 @@ def job_of(options: argparse.Namespace, fleet: Fleet) -> Job:
 
 
 def samples_of(options: argparse.Namespace, fleet: Fleet) -> Samples:
-    """The samples of each host."""
     if not fleet.is_cluster:
         by_host = used.by_host(options)
         return lambda host: by_host(host.name)
@@ -106,15 +104,15 @@ def asked(options: argparse.Namespace, job: Job, fleet: Fleet,
     engine, workers = engine_of(options.library), workers_of(options, fleet)
     found, missing = dict[str, HostAnswer](), dict[str, str]()
 
-    def items() -> Iterator[Item]:
+    def files() -> Iterator[HostFile]:
         for host in fleet.hosts:
             try:
                 data = plain_files.file_bytes(host.path, True) if host.data is None else host.data
-                yield Item(host.name, host.path, data, samples(host) if samples else None)
+                yield replace(host, data=data, history=samples(host) if samples else None)
             except HostFault as fault:
                 missing[host.name] = fault.message
 
-    replies = pool.replies(workers, options.scheduler, job, items())
+    replies = pool.replies(workers, options.scheduler, job, files())
     with progress.bar("hosts", len(fleet.hosts)) as tick, closing(replies):
         for name, sent in replies:
             try:

@@ -86,12 +86,10 @@ def number(value: Fraction) -> float:
 
 
 def part(one: Fraction, all_: Fraction) -> str:
-    """A part in percent."""
     return f"{float(100 * one / all_):.0f}%" if all_ else "-"
 
 
 def total(hosts: Iterable[HostAnswer], *keys: str) -> Fraction:
-    """The sum of an amount over hosts, in CPUs."""
     return sum((host.of(*keys) for host in hosts), Fraction(0))
 
 
@@ -107,12 +105,10 @@ def quantiles(weighted: Iterable[tuple[Fraction, int]]) -> dict[str, Fraction]:
 
 
 def quantile_data(values: Mapping[str, Fraction]) -> dict[str, float]:
-    """Quantiles as data."""
     return {name: number(value) for name, value in values.items()}
 
 
 def quantile_words(values: Mapping[str, Fraction], places: int = 2) -> str:
-    """Quantiles in one line."""
     return ", ".join(f"{name} {float(value):.{places}f}" for name, value in values.items())
 
 
@@ -220,7 +216,6 @@ def ranked(hosts: Sequence[HostAnswer], place: int, rule: str) -> list[HostAnswe
 
 
 def place_columns(place: int) -> Columns:
-    """The columns of one pod."""
     def amount(key: str) -> Callable[[HostAnswer], str]:
         return lambda host: cpu(host.cpus(host.answer["pods"][place][key]))
 

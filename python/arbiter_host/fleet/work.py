@@ -45,13 +45,16 @@ class Job:
 
 
 @dataclass(frozen=True)
-class Item:
-    """One host: its name, the bytes of its file, and of `replay` its demands over time."""
+class HostFile:
+    """A host's name in the fleet, and the path of its file, for messages and for what its ending
+    says."""
 
-    host: str
-    # The name of the file, for messages and for what its ending says.
-    file: str
-    data: bytes
+    name: str
+    path: str
+    # The bytes of the file, once they are read, and of a part of one the pods that the host has.
+    data: bytes | None = None
+    pods: frozenset[str] = frozenset()
+    # Of `replay` its demands over time.
     history: History | None = None
 
 
@@ -81,14 +84,12 @@ def packed(columns: Columns, amounts: Sequence[int], certificate: Sequence[array
 
 
 def sent(made: Plan) -> SentPlan:
-    """A plan as it travels."""
     answer = made.answer
     return SentPlan([".", *made.model.groups],
                     packed(answer.columns, answer.amounts, answer.certificate))
 
 
 def explained(_: Job, model: Model, engine: Engine) -> Asked:
-    """The plan of a host."""
     return [sent(plan(engine, model))], {"notes": len(model.notes), "refused": len(model.refused)}
 
 
@@ -106,7 +107,6 @@ def matched(model: Model, words: Sequence[str]) -> tuple[list[str], set[str]]:
 
 
 def compared(job: Job, model: Model, engine: Engine) -> Asked:
-    """The plans before and after the changes."""
     words, paths = matched(model, job.sets)
     models = (model, change.changed(model, words))
     return [sent(plan(engine, each)) for each in models], {"matched": sorted(paths)}
@@ -188,22 +188,22 @@ def engine_here(path: str | None) -> Engine:
     return engine_of(path)
 
 
-def planned(job: Job, item: Item) -> Sent:
+def planned(job: Job, host: HostFile) -> Sent:
     """The plans of one host, and what its file says beside them."""
     engine = engine_here(job.library)
-    model = load.of_bytes(Namespace(**job.options), item.file, item.data, engine)
+    model = load.of_bytes(Namespace(**job.options), host.path, host.data or b"", engine)
     if model.refused and not model.groups:
         raise HostFault(f"no host: {len(model.refused)} lines are none of a script, the first:"
                         f" {model.refused[0]}")
-    plans, told = (ACTIONS[job.action](job, model, engine) if item.history is None
-                   else replayed(job, model, engine, item.history))
+    plans, told = (ACTIONS[job.action](job, model, engine) if host.history is None
+                   else replayed(job, model, engine, host.history))
     return Sent(model.host, plans, told)
 
 
-def answered(job: Job, item: Item) -> Sent | str:
+def answered(job: Job, host: HostFile) -> Sent | str:
     """The plans of one host, or why there are none."""
     try:
-        return planned(job, item)
+        return planned(job, host)
     except HostFault as fault:
         return fault.message
     except (MemoryError, ImportError) as error:

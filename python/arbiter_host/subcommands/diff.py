@@ -69,7 +69,6 @@ def chosen(options: argparse.Namespace, models: Sequence[Model]) -> frozenset[st
 
 
 def run(options: argparse.Namespace) -> None:
-    """Writes what differs between two plans."""
     outputs, by = table.outputs(options), found_engine(options)
     if questions.answered(options):
         return

@@ -23,7 +23,6 @@ def shown_view(options: argparse.Namespace, plan: Plan) -> View:
 
 
 def run(options: argparse.Namespace) -> None:
-    """Writes a plan with its reasons, and how far groups may be from it by where tasks run."""
     outputs = table.outputs(options)
     if questions.answered(options):
         return

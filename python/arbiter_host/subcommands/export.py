@@ -19,7 +19,6 @@ WRITERS: Mapping[str, Callable[[Model, Library], str]] = {
 
 
 def run(options: argparse.Namespace) -> None:
-    """Writes what a source holds as a script or a host file."""
     outputs, by = table.outputs(options), found_engine(options)
     model = load.load(options, options.source, by)
     if options.set:

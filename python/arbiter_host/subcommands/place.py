@@ -10,7 +10,6 @@ from arbiter_host.subcommands.base import of_texts
 
 
 def run(options: argparse.Namespace) -> None:
-    """Says what each pod would get on each host."""
     if not options.pod:
         raise UsageFault("--pod: the file of a pod")
     fleet = questions.fleet_in(options)

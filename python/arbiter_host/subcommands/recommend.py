@@ -2,14 +2,15 @@
 from __future__ import annotations
 
 import argparse
+from itertools import compress
 
 from arbiter_host import change, choosing, load, options as table, output, recommend, text
 from arbiter_host.demands import Use
 from arbiter_host.model import Model
 from arbiter_host.names import cut, few, short, shown
 from arbiter_host.output import Styled
-from arbiter_host.plan import Engine, Planned
-from arbiter_host.recommend import Proposal, Recommendation
+from arbiter_host.plan import Engine
+from arbiter_host.recommend import Advised, Recommendation
 from arbiter_host.sources import used
 from arbiter_host.sources.register import READERS
 from arbiter_host.subcommands.base import found_engine, of_texts, source_name
@@ -37,7 +38,6 @@ def uses_of(options: argparse.Namespace, model: Model) -> dict[str, Use]:
 
 
 def run(options: argparse.Namespace) -> None:
-    """Prints what is proposed."""
     rule = recommend.rule_of(options.target, options.headroom)
     by, outputs = found_engine(options), table.outputs(options)
     model = loaded(options, by)
@@ -68,30 +68,30 @@ def heading(advice: Recommendation, short_: list[str], count: int) -> Styled:
             ("", "")]
 
 
-def row(advice: Recommendation, each: Proposal, group: Planned, owed: int) -> list[str]:
+def row(advice: Recommendation, each: Advised) -> list[str]:
     """The cells of a container: what weighs and what limits it are as people write them."""
-    then = {setting.key: setting.value for setting in each.settings}
-    settings = [word for key, now in zip(advice.keys, each.words)
+    one = each.proposal
+    then = {setting.key: setting.value for setting in one.settings}
+    settings = [word for key, now in zip(advice.keys, one.words)
                 for word in (now, then.get(key, "-"))]
-    return [f"{float(each.used):.0f}m",
-            f"{float(each.most):.0f}m{'*' if each.is_throttled else ''}", *settings,
-            *(text.amount(advice.after, slices, "m") + "m" for slices in (group.gets, owed)),
-            cut(short(shown(each.title)), 100)]
+    return [f"{float(one.used):.0f}m",
+            f"{float(one.most):.0f}m{'*' if one.is_throttled else ''}", *settings,
+            *(text.amount(advice.after, slices, "m") + "m"
+              for slices in (each.after.gets, each.guaranteed)),
+            cut(short(shown(one.title)), 100)]
 
 
 def lines_of(advice: Recommendation, count: int) -> Styled:
     """The lines of `recommend`. A container that is short then is red."""
-    by_path = advice.after.by_path()
-    groups = [by_path[path] for path in advice.paths]
     rows = [["used", "most", advice.keys[0], "then", advice.keys[1], "then", "gets", "guaranteed",
-             advice.noun], *(row(advice, *each) for each in zip(
-                 advice.proposals, groups, advice.guaranteed))]
-    styles = ["bold", *("red" if group.gets < group.want else "" for group in groups)]
-    short_ = [shown(each.title) for each, group in zip(advice.proposals, groups)
-              if group.gets < group.want]
+             advice.noun], *(row(advice, each) for each in advice.rows)]
+    is_short = [each.after.gets < each.after.want for each in advice.rows]
+    short_ = [shown(each.proposal.title) for each in compress(advice.rows, is_short)]
     note = [("* throttled at its limit: it wanted more than it used", "")]
-    return [*heading(advice, short_, count), *zip(text.table(rows, (len(rows[0]) - 1,)), styles),
-            *(note if any(each.is_throttled for each in advice.proposals) else [])]
+    return [*heading(advice, short_, count),
+            *zip(text.table(rows, (len(rows[0]) - 1,)),
+                 ["bold", *("red" if each else "" for each in is_short)]),
+            *(note if any(each.proposal.is_throttled for each in advice.rows) else [])]
 
 
 RECOMMEND = of_texts("recommend", run)

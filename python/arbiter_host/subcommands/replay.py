@@ -32,7 +32,6 @@ def shown_groups(options: argparse.Namespace, model: Model) -> list[str]:
 
 
 def replayed(options: argparse.Namespace, by: Engine) -> Series:
-    """One host over all samples."""
     files = load.opened(options, options.source)
     kind = options.kind or load.kind_of(*files[0])
     model = load.model_of(used.without(options, kind), files, by)
@@ -52,7 +51,6 @@ def replayed(options: argparse.Namespace, by: Engine) -> Series:
 
 
 def run(options: argparse.Namespace) -> None:
-    """Plans each sample, and writes the answers."""
     if not options.used:
         raise UsageFault("--used: a file of demands over time, or a server's address")
     outputs = table.outputs(options)

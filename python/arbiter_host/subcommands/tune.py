@@ -26,7 +26,6 @@ Lines = list[tuple[str, str]]
 
 
 def run(options: argparse.Namespace) -> None:
-    """Prints settings under which all goals are met."""
     if not options.goal:
         raise UsageFault("tune: the following arguments are required: --goal")
     outputs, by = table.outputs(options), found_engine(options)
@@ -43,12 +42,10 @@ def run(options: argparse.Namespace) -> None:
 
 
 def name(path: str) -> str:
-    """A path as it is shown."""
     return short(shown(path))
 
 
 def lines_of(answer: Tuned, unit: str) -> Lines:
-    """The lines of the answer."""
     where = f"{MEASURES[answer.asked.is_guaranteed]}, in {text.UNIT_WORDS[unit]}"
     lines: Lines = [(text.host_words(answer.before), ""), *rounded(answer, unit)]
     if answer.best is not None:
@@ -78,7 +75,6 @@ def paid(before: Plan, losses: Sequence[tuple[str, int]], unit: str) -> str:
 
 
 def way_lines(answer: Tuned, way: Way, where: str, unit: str) -> Lines:
-    """The lines of settings that meet all goals."""
     lines = [(f"all goals are met at once {where}; the proved check accepted the plan", ""),
              ("", ""), *goal_lines(answer, range(len(answer.asked.goals)), way.amounts, unit),
              ("", "")]
@@ -92,7 +88,6 @@ def way_lines(answer: Tuned, way: Way, where: str, unit: str) -> Lines:
 
 
 def clash_lines(answer: Tuned, clash: Unmet, where: str, unit: str) -> Lines:
-    """The lines of goals that cannot be met together."""
     goals = [answer.asked.goals[place] for place in clash.together]
     asked = text.amount(answer.before, sum(goal.amount for goal in goals), unit)
     served = text.amount(answer.before, answer.before.root.gets, unit)
@@ -124,7 +119,6 @@ def goal_lines(answer: Tuned, places: Sequence[int], then: Sequence[int] | None,
 
 
 def alone_lines(answer: Tuned, unit: str) -> Lines:
-    """The lines of each setting of the group of one goal alone."""
     if not answer.alone:
         return []
     rows = [("alone", "now", "least", "who pays"),
