@@ -87,15 +87,11 @@ def summed(cells: Sequence[SampleCell]) -> dict[str, int]:
 
 @dataclass
 class Series:
-    """The samples' names, the groups that are shown, and a cell for each."""
+    """The samples' names, the groups that are shown with a cell for each sample, and a plan."""
 
     names: list[str]
-    groups: list[str]
-    cells: list[list[SampleCell]]
+    groups: dict[str, list[SampleCell]]
     plan: Plan
-
-    def of(self, place: int) -> list[SampleCell]:
-        return [row[place] for row in self.cells]
 
 
 def target(model: Model, children: Mapping[str, list[str]], pattern: str) -> str:
@@ -185,8 +181,9 @@ def settle(plan_: Plan, model: Model) -> None:
 def run(engine: Engine, model: Model, history: History, unit: str, chosen: Sequence[str],
         path_of: Mapping[str, str], periods: int, tick: Callable[[], None]) -> Series:
     """The samples one after another. Columns of no path are left out."""
-    groups = list(chosen) or list(dict.fromkeys(path_of.values())) or ["."]
-    model, table, last = model.copy(), [], None
+    groups: dict[str, list[SampleCell]] = {
+        path: [] for path in chosen or path_of.values() or ["."]}
+    model, last = model.copy(), None
     quotas = [quota_slices(model, engine, path) for path in groups]
     for _, asked in history.demands(unit, model.host):
         set_demands(model, path_of, asked)
@@ -197,11 +194,12 @@ def run(engine: Engine, model: Model, history: History, unit: str, chosen: Seque
                 group = by_path[path]
                 cell.count(group.gets, group.want, group.limit, group.is_throttled,
                            group.withheld * model.host.slice_us, quota, times)
-        table.append(cells)
+        for path, cell in zip(groups, cells):
+            groups[path].append(cell)
         tick()
     if last is None:
         raise HostFault("no sample")
-    return Series([each.name for each in history.samples], groups, table, last)
+    return Series([each.name for each in history.samples], groups, last)
 
 
 def set_demands(model: Model, path_of: Mapping[str, str], asked: Mapping[str, Fraction]) -> None:
@@ -221,8 +219,8 @@ def as_text(series: Series, unit: str) -> str:
     """The sums of each group as a table. `wanted` and `got` are means."""
     rows = [["group", "wanted", "got", "of it", "throttled", "not by limit", "withheld_usec",
              "bursts", "starved", "samples in a row"]]
-    for place, path in enumerate(series.groups):
-        sums = summed(series.of(place))
+    for path, cells in series.groups.items():
+        sums = summed(cells)
         wanted, got = (written(series, Fraction(sums[key], max(sums["periods"], 1)), unit)
                        for key in ("wanted", "got"))
         part = f"{100 * sums['got'] / sums['wanted']:.0f}%" if sums["wanted"] else "-"
@@ -233,8 +231,9 @@ def as_text(series: Series, unit: str) -> str:
 
 
 def records(series: Series, unit: str) -> Iterator[dict[str, object]]:
-    for name, cells in zip(series.names, series.cells):
-        for path, cell in zip(series.groups, cells):
+    for place, name in enumerate(series.names):
+        for path, cells in series.groups.items():
+            cell = cells[place]
             gets, wants, limit = (None if each is None else written(series, cell.mean(each), unit)
                                   for each in (cell.gets, cell.wants, cell.limit))
             counts = cell.data()
@@ -281,8 +280,8 @@ def gapped(values: Sequence[float | None], x: Callable[[float], float],
         yield stairs([each or 0.0 for each in values[begin:end]], x, y, begin)
 
 
-def panel(series: Series, place: int, top: float) -> Iterator[str]:
-    host, cells = series.plan.model.host, series.of(place)
+def panel(series: Series, path: str, top: float) -> Iterator[str]:
+    host, cells = series.plan.model.host, series.groups[path]
     one = host.slice_us / host.period_us
     wants = [float(each.mean(each.wants)) * one for each in cells]
     gets = [float(each.mean(each.gets)) * one for each in cells]
@@ -297,8 +296,7 @@ def panel(series: Series, place: int, top: float) -> Iterator[str]:
     def y(value: float) -> float:
         return top + TALL - TALL * value / most
 
-    yield svg.words((EDGE, top - 8), cut(short(shown(series.groups[place])), 100), svg.INK, 12,
-                    "start", True, series.groups[place])
+    yield svg.words((EDGE, top - 8), cut(short(shown(path)), 100), svg.INK, 12, "start", True, path)
     for value in svg.steps(most, 4):
         yield svg.line((LEFT, y(value)), (LEFT + WIDE, y(value)), svg.GRID)
         yield svg.words((LEFT - 6, y(value) + 4), f"{value:g}", svg.FAINT, 10, "end")
@@ -345,7 +343,7 @@ def picture(series: Series) -> str:
     height = TOP + 16 + len(series.groups) * (TALL + GAP) + 12
     title = f"{len(series.names)} samples, CPUs in each: {text.host_words(series.plan)}"
     parts = [svg.words((EDGE, 24), title, svg.INK, 13, "start", True), *legend(46)]
-    for place in range(len(series.groups)):
-        parts += panel(series, place, TOP + 22 + place * (TALL + GAP))
+    for place, path in enumerate(series.groups):
+        parts += panel(series, path, TOP + 22 + place * (TALL + GAP))
     parts += time_labels(series, height - 10)
     return svg.document(LEFT + WIDE + 3 * EDGE, height, title, parts)

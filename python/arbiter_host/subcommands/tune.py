@@ -12,7 +12,7 @@ from arbiter_host.knobs import Knob
 from arbiter_host.model import MAX_PROCESSORS
 from arbiter_host.names import short, shown
 from arbiter_host.output import json_text, write_forms
-from arbiter_host.plan import Plan, plan
+from arbiter_host.plan import plan
 from arbiter_host.subcommands.base import found_engine, loaded, of_texts
 from arbiter_host.tune import Tuned
 
@@ -35,7 +35,7 @@ def run(options: argparse.Namespace) -> None:
                        choosing.chosen(before.model, options))
     if answer.best is not None:
         change.warned(before.model, answer.best.plan.model)
-    write_forms(outputs, {"text": lambda: lines_of(answer, options.unit),
+    write_forms(outputs, {"text": lambda: Told(answer, options.unit).lines(),
                           "json": lambda: json_text(tune.as_data(answer))})
     if answer.is_nothing:
         raise NothingFound("no settings were found that meet the goals")
@@ -45,100 +45,104 @@ def name(path: str) -> str:
     return short(shown(path))
 
 
-def lines_of(answer: Tuned, unit: str) -> Lines:
-    where = f"{MEASURES[answer.asked.is_guaranteed]}, in {text.UNIT_WORDS[unit]}"
-    lines: Lines = [(text.host_words(answer.before), ""), *rounded(answer, unit)]
-    if answer.best is not None:
-        lines += way_lines(answer, answer.best, where, unit)
-    else:
-        assert isinstance(answer.weights, Unmet)
-        lines += clash_lines(answer, answer.weights, where, unit)
-    if isinstance(answer.owned, str):
-        lines.append((answer.owned, "yellow" if answer.best else ""))
-    return lines + alone_lines(answer, unit)
+class Told:
+    """The answer in lines, with amounts in a unit."""
 
+    def __init__(self, answer: Tuned, unit: str) -> None:
+        self.answer, self.before, self.unit = answer, answer.before, unit
+        self.where = f"{MEASURES[answer.asked.is_guaranteed]}, in {text.UNIT_WORDS[unit]}"
 
-def rounded(answer: Tuned, unit: str) -> Lines:
-    """The goals whose amounts are no whole number of slices."""
-    words = {f"{units.decimal(goal.asked)}m is no whole number of slices:"
-             f" {text.amount(answer.before, goal.amount, unit)} is asked for": ""
-             for goal in answer.asked.goals if answer.before.thousandths(goal.amount) != goal.asked}
-    return list(words.items())
+    def amount(self, slices: int) -> str:
+        """Slices in the unit."""
+        return text.amount(self.before, slices, self.unit)
 
+    def lines(self) -> Lines:
+        """All lines."""
+        answer = self.answer
+        lines: Lines = [(text.host_words(self.before), ""), *self.rounded()]
+        if answer.best is not None:
+            lines += self.way(answer.best)
+        else:
+            assert isinstance(answer.weights, Unmet)
+            lines += self.clash(answer.weights)
+        if isinstance(answer.owned, str):
+            lines.append((answer.owned, "yellow" if answer.best else ""))
+        return lines + self.alone()
 
-def paid(before: Plan, losses: Sequence[tuple[str, int]], unit: str) -> str:
-    """Groups and the slices that each loses, the first of them by name, in words."""
-    words = [f"{name(path)} -{text.amount(before, slices, unit)}"
-             for path, slices in losses[:NAMED]]
-    rest = len(losses) - NAMED
-    return ", ".join(words + ([f"{rest} more"] if rest > 0 else [])) or "nobody"
+    def rounded(self) -> Lines:
+        """The goals whose amounts are no whole number of slices."""
+        return list({f"{units.decimal(goal.asked)}m is no whole number of slices:"
+                     f" {self.amount(goal.amount)} is asked for": ""
+                     for goal in self.answer.asked.goals
+                     if self.before.thousandths(goal.amount) != goal.asked}.items())
 
+    def paid(self, losses: Sequence[tuple[str, int]]) -> str:
+        """Groups and the slices that each loses, the first of them by name, in words."""
+        words = [f"{name(path)} -{self.amount(slices)}" for path, slices in losses[:NAMED]]
+        rest = len(losses) - NAMED
+        return ", ".join(words + ([f"{rest} more"] if rest > 0 else [])) or "nobody"
 
-def way_lines(answer: Tuned, way: Way, where: str, unit: str) -> Lines:
-    lines = [(f"all goals are met at once {where}; the proved check accepted the plan", ""),
-             ("", ""), *goal_lines(answer, range(len(answer.asked.goals)), way.amounts, unit),
-             ("", "")]
-    if way.changes:
-        rows = [("setting", "now", "then", "group"),
-                *((each.key, each.now, each.then, name(each.path)) for each in way.changes)]
-        losses = paid(answer.before, tune.losers(answer, way), unit)
-        lines += [*zip(text.table(rows, (0, 3)), ("bold", *("" for _ in way.changes))), ("", ""),
-                  (f"who else pays: {losses}", "")]
-    return lines + [(way.told, "")]
+    def way(self, way: Way) -> Lines:
+        """The lines of settings that meet all goals."""
+        lines = [(f"all goals are met at once {self.where}; the proved check accepted the plan",
+                  ""), ("", ""),
+                 *self.goals(range(len(self.answer.asked.goals)), way.amounts), ("", "")]
+        if way.changes:
+            rows = [("setting", "now", "then", "group"),
+                    *((each.key, each.now, each.then, name(each.path)) for each in way.changes)]
+            losses = self.paid(tune.losers(self.answer, way))
+            lines += [*zip(text.table(rows, (0, 3)), ("bold", *("" for _ in way.changes))),
+                      ("", ""), (f"who else pays: {losses}", "")]
+        return lines + [(way.told, "")]
 
+    def clash(self, clash: Unmet) -> Lines:
+        """The lines of goals that cannot be met together."""
+        goals = [self.answer.asked.goals[place] for place in clash.together]
+        which = ("weights of their groups cannot meet these goals together" if len(goals) > 1 else
+                 "the weight of its group cannot meet this goal")
+        lines = [(f"{which} {self.where}", "yellow"), ("", ""), *self.goals(clash.together),
+                 ("", ""),
+                 (f"asked for in all: {self.amount(sum(goal.amount for goal in goals))}; served in"
+                  f" all: {self.amount(self.before.root.gets)}", "")]
+        if self.answer.is_climbed:
+            lines.append(("nor were weights of the groups above them found that do", ""))
+        lines.append(("nor were limits of other groups found with which they are met", ""))
+        lines += [(f"{name(goal.group.path)} asks for less: no setting gives it more than it asks"
+                   " for", "yellow") for goal in goals if goal.group.want < goal.amount]
+        return lines + [(f"the settings of {name(path)} stay as they are (-g)", "")
+                        for path in self.answer.kept]
 
-def clash_lines(answer: Tuned, clash: Unmet, where: str, unit: str) -> Lines:
-    goals = [answer.asked.goals[place] for place in clash.together]
-    asked = text.amount(answer.before, sum(goal.amount for goal in goals), unit)
-    served = text.amount(answer.before, answer.before.root.gets, unit)
-    which = ("weights of their groups cannot meet these goals together" if len(goals) > 1 else
-             "the weight of its group cannot meet this goal")
-    lines = [(f"{which} {where}", "yellow"), ("", ""),
-             *goal_lines(answer, clash.together, None, unit), ("", ""),
-             (f"asked for in all: {asked}; served in all: {served}", "")]
-    if answer.is_climbed:
-        lines.append(("nor were weights of the groups above them found that do", ""))
-    lines.append(("nor were limits of other groups found with which they are met", ""))
-    lines += [(f"{name(goal.group.path)} asks for less: no setting gives it more than it asks for",
-               "yellow") for goal in goals if goal.group.want < goal.amount]
-    return lines + [(f"the settings of {name(path)} stay as they are (-g)", "")
-                    for path in answer.kept]
+    def goals(self, places: Sequence[int], then: Sequence[int] = ()) -> Lines:
+        """A line for each goal of some places: what its group gets now, and then where it is
+        known."""
+        rows, styles = [("goal", "now", *(["then"] if then else []), "wants", "group")], ["bold"]
+        for place in places:
+            goal, now = self.answer.asked.goals[place], self.answer.amounts[place]
+            cells = (goal.amount, now, *([then[place]] if then else []), goal.group.want)
+            rows.append((*map(self.amount, cells), name(goal.group.path)))
+            styles.append("" if then or now >= goal.amount else "red")
+        return list(zip(text.table(rows, (len(rows[0]) - 1,)), styles))
 
+    def alone(self) -> Lines:
+        """The lines of each setting of the group of one goal alone."""
+        if not self.answer.alone:
+            return []
+        rows = [("alone", "now", "least", "who pays"), *map(self.knob, self.answer.alone)]
+        styles = ["bold", *("" if knob.plan else "yellow" for knob in self.answer.alone)]
+        return [("", ""), *zip(text.table(rows, (0, 3)), styles)]
 
-def goal_lines(answer: Tuned, places: Sequence[int], then: Sequence[int] | None,
-               unit: str) -> Lines:
-    """A line for each goal of some places: what its group gets now, and then where it is known."""
-    rows, styles = [("goal", "now", *(["then"] if then else []), "wants", "group")], ["bold"]
-    for place in places:
-        goal, now = answer.asked.goals[place], answer.amounts[place]
-        cells = (goal.amount, now, *([then[place]] if then else []), goal.group.want)
-        rows.append((*(text.amount(answer.before, each, unit) for each in cells),
-                     name(goal.group.path)))
-        styles.append("" if then or now >= goal.amount else "red")
-    return list(zip(text.table(rows, (len(rows[0]) - 1,)), styles))
+    def knob(self, knob: Knob) -> tuple[str, str, str, str]:
+        """The row of a setting: a limit in the unit, others as they are."""
+        def value(number: int | str | None) -> str:
+            if knob.name == "limit" and isinstance(number, int):
+                return self.amount(number)
+            return "-" if number is None else str(number)
 
-
-def alone_lines(answer: Tuned, unit: str) -> Lines:
-    if not answer.alone:
-        return []
-    rows = [("alone", "now", "least", "who pays"),
-            *(knob_row(answer, knob, unit) for knob in answer.alone)]
-    styles = ["bold", *("" if knob.plan else "yellow" for knob in answer.alone)]
-    return [("", ""), *zip(text.table(rows, (0, 3)), styles)]
-
-
-def knob_row(answer: Tuned, knob: Knob, unit: str) -> tuple[str, str, str, str]:
-    """The row of a setting: a limit in the unit, others as they are."""
-    def value(number: int | str | None) -> str:
-        is_amount = knob.name == "limit" and isinstance(number, int)
-        return text.amount(answer.before, int(number or 0), unit) if is_amount else str(
-            "-" if number is None else number)
-
-    words = (paid(answer.before, knobs.losses(answer.asked, knob), unit) if knob.plan
-             else unreached(knob.name, answer.before.model.host.processors))
-    told = f" ({shown(knob.told)})" if knob.told else ""
-    label = LABELS.get(knob.name, knob.name) if knob.is_owned else knob.name
-    return label, value(knob.now), value(knob.least), f"{words}{told}"
+        words = (self.paid(knobs.losses(self.answer.asked, knob)) if knob.plan
+                 else unreached(knob.name, self.before.model.host.processors))
+        told = f" ({shown(knob.told)})" if knob.told else ""
+        label = LABELS.get(knob.name, knob.name) if knob.is_owned else knob.name
+        return label, value(knob.now), value(knob.least), f"{words}{told}"
 
 
 def unreached(setting: str, processors: int) -> str:
