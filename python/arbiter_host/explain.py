@@ -117,10 +117,6 @@ def line_of(plan: Plan, group: Planned, view: View, depth: int) -> Reasoned:
     return Reasoned(tuple(cells), tuple(forms), label(group, view, depth))
 
 
-def style_of(plan: Plan, group: Planned) -> str:
-    return STYLES.get("STARVED" if group.is_starved else plan.reason(group).name, "")
-
-
 def starred(words: str) -> str:
     """A reason whose longest mark refers to the note below the table."""
     return words.replace("THROTTLED, NOT BY ITS LIMIT", "THROTTLED*")
@@ -263,7 +259,9 @@ def table(plan: Plan, view: View) -> list[tuple[str, str]]:
         lines = text.reasoned_table(
             heads, [line_of(plan, group, view, depth) for group, depth in groups],
             view.width, cut if view.chosen is None and not view.is_flat else tail, 5)
-        answer += zip(lines, ["bold", *(style_of(plan, group) for group, _ in groups)])
+        styles = [STYLES.get("STARVED" if group.is_starved else plan.reason(group).name, "")
+                  for group, _ in groups]
+        answer += zip(lines, ["bold", *styles])
     else:
         answer.append((f"no group is {' or '.join(view.only)}", ""))
     return answer + [(each, "") for each in foot(plan, view, [each for each, _ in answer])]

@@ -331,7 +331,8 @@ def check(options: argparse.Namespace, kind: str) -> None:
             continue
         if not each.kinds and each.used:
             raise UsageFault(f"{each.name}: it needs --used with a {' or '.join(each.used)}")
-        raise UsageFault(f"{each.name}: it has no effect on {words_of_kind(kind)}")
+        source = "many hosts" if kind == HOSTS else f"a source of the kind {kind}"
+        raise UsageFault(f"{each.name}: it has no effect on {source}")
 
 
 def check_forms(options: argparse.Namespace, outputs_: Sequence[Output]) -> None:
@@ -341,10 +342,6 @@ def check_forms(options: argparse.Namespace, outputs_: Sequence[Output]) -> None
                 form in each.forms for form, _ in outputs_):
             raise UsageFault(f"{each.name}: it has no effect on"
                              f" -o {' and '.join(form for form, _ in outputs_)}")
-
-
-def words_of_kind(kind: str) -> str:
-    return "many hosts" if kind == HOSTS else f"a source of the kind {kind}"
 
 
 def outputs(options: argparse.Namespace) -> list[Output]:

@@ -51,11 +51,6 @@ class Engine:
     def __init__(self, library: Library) -> None:
         self.library = library
 
-    @property
-    def words(self) -> str:
-        """What the engine is, for people."""
-        return f"library {self.library.path}"
-
     def plan(self, host: Host, rows: Sequence[Row]) -> Answer:
         """A plan that the proved check accepted."""
         with asking("no plan"):
@@ -161,7 +156,8 @@ class Plan:
 
     @property
     def by(self) -> str:
-        return self.engine.words
+        """What planned it, for people."""
+        return f"library {self.engine.library.path}"
 
     @property
     def root(self) -> Planned:

@@ -187,10 +187,8 @@ def is_short_above(goals: Goals) -> bool:
     goal's group gives it more: none is a sibling of it, or of a group above it."""
     before, parents = goals.before, {goal.group.parent for goal in goals.goals}
 
-    def is_fixed(row: int) -> bool:
-        return parents.isdisjoint({0, *(each.row for each in before.above(before.groups[row]))})
-
-    return any(is_fixed(row) and goals.amount(before, row) < amount
+    return any(goals.amount(before, row) < amount and parents.isdisjoint(
+        {0, *(each.row for each in before.above(before.groups[row]))})
                for row, amount in goals.sums.items())
 
 

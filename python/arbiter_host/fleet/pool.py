@@ -41,16 +41,15 @@ GONE = "the scheduler went away"
 Replies = Generator[tuple[str, Sent | str], None, None]
 
 
-def end_with_parent() -> None:
-    """Ends this process when the one that began it is gone, whatever it works at."""
-    parent = multiprocessing.parent_process()
-    if parent is not None:
-        wait_for([parent.sentinel])
-    os._exit(1)
-
-
 def begin_worker() -> None:
-    threading.Thread(target=end_with_parent, daemon=True).start()
+    """Ends this process when the one that began it is gone, whatever it works at."""
+    def wait_for_parent() -> None:
+        parent = multiprocessing.parent_process()
+        if parent is not None:
+            wait_for([parent.sentinel])
+        os._exit(1)
+
+    threading.Thread(target=wait_for_parent, daemon=True).start()
 
 
 @contextmanager
