@@ -35,18 +35,18 @@ class Subcommand(NamedTuple):
         """One line for the list of all."""
         return PLACES[self.name].summary
 
+    @classmethod
+    def of_texts(cls, name: str, run: Callable[[argparse.Namespace], None]) -> Subcommand:
+        """A subcommand whose texts and argument are in templates/NAME.toml."""
+        texts = tomllib.loads((TEXTS / f"{name}.toml").read_text(encoding="utf-8"))
 
-def of_texts(name: str, run: Callable[[argparse.Namespace], None]) -> Subcommand:
-    """A subcommand whose texts and argument are in templates/NAME.toml."""
-    texts = tomllib.loads((TEXTS / f"{name}.toml").read_text(encoding="utf-8"))
+        def add_words(parser: argparse.ArgumentParser) -> None:
+            argument = dict(texts["argument"])
+            parser.add_argument(argument.pop("name"), **argument)
+            table.add(parser, name)
 
-    def add_words(parser: argparse.ArgumentParser) -> None:
-        argument = dict(texts["argument"])
-        parser.add_argument(argument.pop("name"), **argument)
-        table.add(parser, name)
-
-    return Subcommand(name, texts["description"], add_words, run, tuple(texts["details"]),
-                      tuple(texts["examples"].items()))
+        return cls(name, texts["description"], add_words, run, tuple(texts["details"]),
+                   tuple(texts["examples"].items()))
 
 
 def found_engine(options: argparse.Namespace) -> Engine:

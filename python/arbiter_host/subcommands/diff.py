@@ -12,8 +12,7 @@ from arbiter_host.model import Model
 from arbiter_host.names import shown
 from arbiter_host.output import json_text, write_forms
 from arbiter_host.plan import Engine, plan
-from arbiter_host.subcommands.base import found_engine, of_texts, source_name, view_of
-
+from arbiter_host.subcommands.base import Subcommand, found_engine, source_name, view_of
 
 def on_host(options: argparse.Namespace, host: Host) -> argparse.Namespace:
     """The options with a host in the place of what a source says."""
@@ -82,4 +81,4 @@ def run(options: argparse.Namespace) -> None:
                               [shown(word) for word in options.set])})
 
 
-DIFF = of_texts("diff", run)
+DIFF = Subcommand.of_texts("diff", run)

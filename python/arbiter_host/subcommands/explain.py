@@ -9,8 +9,7 @@ from arbiter_host.explain import View
 from arbiter_host.fleet import questions
 from arbiter_host.output import json_text, write_forms
 from arbiter_host.plan import Plan, guarantees, plan
-from arbiter_host.subcommands.base import found_engine, loaded, of_texts, source_name, view_of
-
+from arbiter_host.subcommands.base import Subcommand, found_engine, loaded, source_name, view_of
 
 def shown_view(options: argparse.Namespace, plan: Plan) -> View:
     """What is shown of a plan, with what the groups are guaranteed where that is asked for."""
@@ -39,4 +38,4 @@ def run(options: argparse.Namespace) -> None:
         "svg": lambda: picture.picture(plan_, view)})
 
 
-EXPLAIN = of_texts("explain", run)
+EXPLAIN = Subcommand.of_texts("explain", run)

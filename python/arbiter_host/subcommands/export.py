@@ -10,7 +10,7 @@ from arbiter_host import change, load, options as table
 from arbiter_host.model import Model
 from arbiter_host.output import say, write_file
 from arbiter_host.sources import hostfile, script
-from arbiter_host.subcommands.base import found_engine, of_texts, source_name
+from arbiter_host.subcommands.base import Subcommand, found_engine, source_name
 
 WRITERS: Mapping[str, Callable[[Model, Library], str]] = {
     "script": script.write, "toml": lambda model, _: hostfile.write_toml(model),
@@ -32,4 +32,4 @@ def run(options: argparse.Namespace) -> None:
     say(f"groups: {len(model.groups)}{warned}")
 
 
-EXPORT = of_texts("export", run)
+EXPORT = Subcommand.of_texts("export", run)

@@ -6,7 +6,7 @@ import argparse
 from arbiter_host import load
 from arbiter_host.faults import UsageFault
 from arbiter_host.fleet import hosts, questions
-from arbiter_host.subcommands.base import of_texts
+from arbiter_host.subcommands.base import Subcommand
 
 
 def run(options: argparse.Namespace) -> None:
@@ -16,4 +16,4 @@ def run(options: argparse.Namespace) -> None:
     questions.answer(options, fleet or hosts.of_one(load.opened(options, options.source)))
 
 
-PLACE = of_texts("place", run)
+PLACE = Subcommand.of_texts("place", run)

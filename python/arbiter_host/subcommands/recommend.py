@@ -13,7 +13,7 @@ from arbiter_host.plan import Engine
 from arbiter_host.recommend import Advised, Recommendation
 from arbiter_host.sources import used
 from arbiter_host.sources.register import READERS
-from arbiter_host.subcommands.base import found_engine, of_texts, source_name
+from arbiter_host.subcommands.base import Subcommand, found_engine, source_name
 
 
 def loaded(options: argparse.Namespace, by: Engine) -> Model:
@@ -94,4 +94,4 @@ def lines_of(advice: Recommendation, count: int) -> Styled:
             *(note if any(each.proposal.is_throttled for each in advice.rows) else [])]
 
 
-RECOMMEND = of_texts("recommend", run)
+RECOMMEND = Subcommand.of_texts("recommend", run)

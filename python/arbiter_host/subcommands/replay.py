@@ -11,7 +11,7 @@ from arbiter_host.plan import Engine
 from arbiter_host.series import Series
 from arbiter_host.sources import by_options, used
 from arbiter_host.sources.usage import some
-from arbiter_host.subcommands.base import found_engine, of_texts, source_name
+from arbiter_host.subcommands.base import Subcommand, found_engine, source_name
 
 
 def periods_of(options: argparse.Namespace, model: Model) -> int:
@@ -65,4 +65,4 @@ def run(options: argparse.Namespace) -> None:
                                  "svg": lambda: series.picture(series_)})
 
 
-REPLAY = of_texts("replay", run)
+REPLAY = Subcommand.of_texts("replay", run)

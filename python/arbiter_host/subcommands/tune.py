@@ -13,7 +13,7 @@ from arbiter_host.model import MAX_PROCESSORS
 from arbiter_host.names import short, shown
 from arbiter_host.output import json_text, write_forms
 from arbiter_host.plan import plan
-from arbiter_host.subcommands.base import found_engine, loaded, of_texts
+from arbiter_host.subcommands.base import Subcommand, found_engine, loaded
 from arbiter_host.tune import Tuned
 
 # What goals are measured by.
@@ -153,4 +153,4 @@ def unreached(setting: str, processors: int) -> str:
     return f"{MAX_PROCESSORS} CPUs do not reach it{more}"
 
 
-TUNE = of_texts("tune", run)
+TUNE = Subcommand.of_texts("tune", run)
