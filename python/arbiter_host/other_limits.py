@@ -181,6 +181,7 @@ class Lowering:
         most = {place: self.caps[place].most for place in limits}
         return without_needless(search.raised(limits, most, meets, "limits"), meets)
 
+
 def without_needless(limits: Limits, meets: Meets) -> Limits:
     """The limits of which none can be left out. The last ones are left out first."""
     kept = search.needed(sorted(limits, reverse=True), lambda places: meets(

@@ -14,6 +14,7 @@ from arbiter_host.output import json_text, write_forms
 from arbiter_host.plan import Engine, plan
 from arbiter_host.subcommands.base import Subcommand, found_engine, source_name, view_of
 
+
 def on_host(options: argparse.Namespace, host: Host) -> argparse.Namespace:
     """The options with a host in the place of what a source says."""
     return argparse.Namespace(**{**vars(options), "cpus": host.processors,

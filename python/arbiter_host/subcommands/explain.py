@@ -11,6 +11,7 @@ from arbiter_host.output import json_text, write_forms
 from arbiter_host.plan import Plan, guarantees, plan
 from arbiter_host.subcommands.base import Subcommand, found_engine, loaded, source_name, view_of
 
+
 def shown_view(options: argparse.Namespace, plan: Plan) -> View:
     """What is shown of a plan, with what the groups are guaranteed where that is asked for."""
     view = view_of(options, choosing.chosen(plan.model, options))
