@@ -16,7 +16,7 @@ from __future__ import annotations
 import argparse
 import os
 import re
-from collections.abc import Mapping, Sequence
+from collections.abc import Mapping
 from typing import Any, NamedTuple
 
 from arbiter_host.faults import UsageFault
@@ -335,15 +335,6 @@ def check(options: argparse.Namespace, kind: str) -> None:
         raise UsageFault(f"{each.name}: it has no effect on {source}")
 
 
-def check_forms(options: argparse.Namespace, outputs_: Sequence[Output]) -> None:
-    """A fault where an option was given that shows in none of the forms asked for."""
-    for each in of(options.asked):
-        if each.dest in options.given and each.forms and not any(
-                form in each.forms for form, _ in outputs_):
-            raise UsageFault(f"{each.name}: it has no effect on"
-                             f" -o {' and '.join(form for form, _ in outputs_)}")
-
-
 def outputs(options: argparse.Namespace) -> list[Output]:
     """The forms and files that are asked for, at most one on standard output. A fault where an
     option was given that shows in none of them."""
@@ -357,7 +348,10 @@ def outputs(options: argparse.Namespace) -> list[Output]:
         named.append(Output(form, path or "-"))
     if sum(1 for each in named if each.path == "-") > 1:
         raise UsageFault("-o: one form alone has room on standard output: write -o FORM=FILE")
-    check_forms(options, named)
+    asked = [each.form for each in named]
+    for option in of(options.asked):
+        if option.dest in options.given and option.forms and not {*asked} & {*option.forms}:
+            raise UsageFault(f"{option.name}: it has no effect on -o {' and '.join(asked)}")
     return named
 
 

@@ -6,6 +6,7 @@ from __future__ import annotations
 
 from collections.abc import Sequence
 from dataclasses import dataclass, replace
+from functools import partial
 
 from arbiter import Unmet
 from arbiter_host import owned, search
@@ -13,7 +14,7 @@ from arbiter_host.goals import Goal, Goals, NewSetting, Way
 from arbiter_host.model import Model
 from arbiter_host.names import shown
 from arbiter_host.owned import Owned, Range, Setting
-from arbiter_host.plan import Plan, Planned
+from arbiter_host.plan import Plan
 
 # At most so many settings are raised one by one.
 MOST_RAISES = 200
@@ -69,36 +70,31 @@ class Raised:
             return f"{shown(goal.group.path)}: no {of.key} reaches its goal ({of.most})"
         return self.with_value(row, of, value)
 
-    def weighed(self, group: Planned, weight: int) -> Raised | None:
-        """The same with the least setting of a group that gives it a weight at least, and no other
-        group another weight."""
-        if not self.source.has(group.path) or "request" in self.source.keys:
-            return None
-        of = self.source.weighing(group.path)
+    def weighed(self, weights: Sequence[int]) -> Raised | None:
+        """The same with the least settings that give groups some weights at least, and no other
+        group another weight. None where a group that changes has no such setting."""
+        known = self
+        for group, weight in zip(self.goals.before.groups, weights):
+            if weight == group.weight:
+                continue
+            if not self.source.has(group.path) or "request" in self.source.keys:
+                return None
+            of = self.source.weighing(group.path)
+            value = search.least_of(of.parts, partial(known.weighs, group.row, of, weight))
+            if value is None:
+                return None
+            known = known.with_value(group.row, of, value)
+        return known
 
-        def weighs(value: int) -> bool:
-            after = self.with_value(group.row, of, value).model
-            return list(after.groups.values())[group.row - 1].weight >= weight
-
-        value = search.least_of(of.parts, weighs)
-        return None if value is None else self.with_value(group.row, of, value)
+    def weighs(self, row: int, of: Range, weight: int, value: int) -> bool:
+        """Whether a value of the setting of a row gives it a weight at least."""
+        after = self.with_value(row, of, value).model
+        return list(after.groups.values())[row - 1].weight >= weight
 
     def changes(self) -> list[NewSetting]:
         return [NewSetting(setting.path, setting.key, now, setting.value)
                 for setting in (self.settings[row] for row in sorted(self.settings))
                 if (now := self.source.weighing(setting.path).now) != setting.value]
-
-
-def weighed(start: Raised, weights: Sequence[int]) -> Raised | None:
-    """The least settings with which groups have some weights at least.
-
-    None where a group that changes has no setting that gives its weight alone.
-    """
-    known: Raised | None = start
-    for group, weight in zip(start.goals.before.groups, weights):
-        if known is not None and weight != group.weight:
-            known = known.weighed(group, weight)
-    return known
 
 
 def raised(start: Raised) -> Raised | str:
@@ -122,7 +118,7 @@ def by_settings(goals: Goals, weights: Way | Unmet) -> Way | str | None:
         return None
     start = Raised(goals, source, {})
     if isinstance(weights, Way):
-        start = weighed(start, weights.plan.weights) or start
+        start = start.weighed(weights.plan.weights) or start
     known = raised(start)
     if isinstance(known, str):
         return known
