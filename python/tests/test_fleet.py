@@ -7,9 +7,9 @@ from fractions import Fraction
 
 import fleets
 import pytest
+from arbiter import Host
 from arbiter_host import command
 from arbiter_host.faults import UsageFault
-from arbiter import Host
 from arbiter_host.fleet import report, work
 from arbiter_host.fleet.answers import unpacked
 from arbiter_host.fleet.work import Sent, SentPlan, packed

@@ -7,11 +7,11 @@ from __future__ import annotations
 
 import functools
 import zlib
+from argparse import Namespace
 from array import array
 from collections import Counter
 from collections.abc import Mapping, Sequence
 from dataclasses import dataclass, field, replace
-from argparse import Namespace
 from typing import Any, NamedTuple
 
 from arbiter import Columns, Host
