@@ -10,8 +10,8 @@ from typing import Any, NamedTuple
 from arbiter_host import text
 from arbiter_host.model import MAX_DEPTH
 from arbiter_host.names import cut, last_name, listed, short, shown, tail, width
-from arbiter_host.placement import Bounds, Outlook
-from arbiter_host.plan import Plan, Planned, marks, walk
+from arbiter_host.placement import Outlook
+from arbiter_host.plan import Plan, Planned, walk
 from arbiter_host.text import BAR_HEAD, LEAST_NAME, WIDE, Reasoned
 
 ONLY: dict[str, Callable[[Planned], bool]] = {
@@ -61,18 +61,29 @@ class View(NamedTuple):
         """Whether a group is among those that are chosen."""
         return self.chosen is None or group.path in self.chosen
 
+    def amounts(self, group: Planned) -> dict[str, int | None]:
+        """The slices of a group that are shown, by their heads."""
+        owed = {} if self.guaranteed is None else {"guaranteed": self.guaranteed.get(group.row)}
+        return {"gets": group.gets, "wants": group.want, "limit": group.limit, **owed}
+
+    def cells(self, plan: Plan, group: Planned) -> dict[str, str]:
+        """The same as text, in the unit."""
+        return {head: text.amount(plan, slices, self.unit)
+                for head, slices in self.amounts(group).items()}
+
 
 def why(plan: Plan, group: Planned, is_wide: bool) -> str:
-    """The reason of a group, after its warning labels."""
-    reason = plan.reason(group)
-    words = reason.words if is_wide else narrow(plan, group)
-    labels = [each for each in marks(group) if each != "THROTTLED" or reason.name != "own limit"]
-    whole = "; ".join([*labels, words])
+    """The reason of a group, after its warning labels (STARVED, THROTTLED ..)."""
+    reason, labels = plan.reason(group), ["STARVED"] if group.is_starved else []
+    if group.is_throttled_elsewhere:
+        labels.append("THROTTLED, NOT BY ITS LIMIT")
+    elif group.is_throttled and reason.name != "own limit":
+        labels.append("THROTTLED")
+    whole = "; ".join([*labels, reason.words if is_wide else narrow(plan, group)])
     return whole if is_wide else starred(whole)
 
 
 def narrow(plan: Plan, group: Planned) -> str:
-    """The reason in few letters."""
     reason = plan.reason(group)
     part = f" {reason.weight}/{reason.active_weight}" if reason.active_weight else ""
     if reason.name == "limit above":
@@ -86,35 +97,24 @@ def label(group: Planned, view: View, depth: int) -> str:
     chosen, its path."""
     if group.parent is None:
         return "the host (.)"
-    title = group.group.title if group.group else ""
     if view.is_flat or depth == 0:
         return short(shown(group.path))
-    folded = size(group) - 1 if group.depth >= view.depth else 0
-    more = f" (+{folded} below)" if folded else ""
-    people = f"  {shown(title)}" if title and "/" not in title else ""
+    below = size(group) - 1 if group.depth >= view.depth else 0
+    more = f" (+{below} below)" if below else ""
+    people = f"  {shown(group.title)}" if group.title and "/" not in group.title else ""
     return "  " * depth + short(shown(last_name(group.path))) + more + people
 
 
 def line_of(plan: Plan, group: Planned, view: View, depth: int) -> Reasoned:
     """The line of a group that stands so deep in the tree that is shown."""
-    cells = [text.amount(plan, value, view.unit)
-             for value in (group.gets, group.want, group.limit)]
-    if view.guaranteed is not None:
-        cells.append(text.amount(plan, view.guaranteed.get(group.row), view.unit))
+    cells = list(view.cells(plan, group).values())
     if view.width >= WIDE:
         cells.append(text.bar(group.gets, group.want, BAR))
-    return Reasoned(tuple(cells), forms(why(plan, group, True), why(plan, group, False), view),
-                    label(group, view, depth))
-
-
-def style_of(plan: Plan, group: Planned) -> str:
-    """The style of a group's line, by its reason."""
-    return STYLES.get("STARVED" if group.is_starved else plan.reason(group).name, "")
-
-
-def forms(whole: str, brief: str, view: View) -> tuple[str, ...]:
-    """The forms of a reason that a table may have, from long to short."""
-    return (whole, starred(whole), brief) if view.width >= WIDE else (brief,)
+    forms = [why(plan, group, False)]
+    if view.width >= WIDE:
+        whole = why(plan, group, True)
+        forms = [whole, starred(whole), *forms]
+    return Reasoned(tuple(cells), tuple(forms), label(group, view, depth))
 
 
 def starred(words: str) -> str:
@@ -145,16 +145,10 @@ def tops(plan: Plan, view: View) -> list[Planned]:
 
 def family(plan: Plan, view: View) -> list[Planned]:
     """The groups of a page or a picture in the order of the tree: those chosen, and all above."""
-    tree = list(walk([plan.root], lambda group: ordered(group.children, view)))
-    if view.chosen is None:
-        return tree
-    rows = {0}
-    for group in plan.groups:
-        above: Planned | None = group if group.path in view.chosen else None
-        while above is not None and above.row not in rows:
-            rows.add(above.row)
-            above = None if above.parent is None else plan.groups[above.parent]
-    return [group for group in tree if group.row in rows]
+    rows = {0, *(each.row for group in plan.groups if view.has(group)
+                 for each in (group, *plan.above(group)))}
+    return [group for group in walk([plan.root], lambda group: ordered(group.children, view))
+            if group.row in rows]
 
 
 def size(group: Planned) -> int:
@@ -193,28 +187,19 @@ def head(plan: Plan, view: View) -> Iterator[str]:
 
 
 def limiting(plan: Plan, unit: str) -> str:
-    """The groups whose limits hold the total down."""
     groups = [f"{'the host' if group.parent is None else short(shown(group.path))}"
-             f" ({text.amount(plan, group.limit, unit)})" for group in plan.limiting]
+              f" ({text.amount(plan, group.limit, unit)})" for group in plan.limiting]
     return listed(groups, 8) or "the demands alone"
 
 
-def in_slices(plan: Plan, bounds: Bounds) -> tuple[int, int]:
-    """A range in slices of one period."""
-    host = plan.model.host
-    low, high = (each * host.period_us / host.slice_us for each in (bounds.low, bounds.high))
-    return math.floor(low), math.ceil(high)
-
-
-def is_firm(plan: Plan, group: Planned, bounds: Bounds) -> bool:
-    """Whether a group has its plan wherever tasks run."""
-    low, high = in_slices(plan, bounds)
-    return bounds.is_firm and low <= group.gets <= high
-
-
-def span(plan: Plan, group: Planned, bounds: Bounds) -> tuple[int, int]:
-    """A range in slices of one period, with the plan in it."""
-    low, high = in_slices(plan, bounds)
+def span(plan: Plan, group: Planned, outlook: Outlook) -> tuple[int, int] | None:
+    """The range of what a group may be given by where its tasks run, in slices of one period; None
+    for one that is firm: it has its plan wherever they run."""
+    bounds, host = outlook.ranges[group.path], plan.model.host
+    low = math.floor(bounds.low * host.period_us / host.slice_us)
+    high = math.ceil(bounds.high * host.period_us / host.slice_us)
+    if bounds.is_firm and low <= group.gets <= high:
+        return None
     return min(low, group.gets), max(high, group.gets)
 
 
@@ -231,34 +216,32 @@ def placed(plan: Plan, view: View, outlook: Outlook) -> Iterator[str]:
         yield "Linux may differ by where tasks run; how far is not known:"
         yield f"  {outlook.why_not}"
         return
-    known = [group for group in plan.groups[1:] if group.path in outlook.ranges and view.has(group)]
-    ranged = [group for group in known if not is_firm(plan, group, outlook.ranges[group.path])]
-    firm = len(known) - len(ranged)
+    spans = {group.row: span(plan, group, outlook) for group in plan.groups[1:]
+             if group.path in outlook.ranges and view.has(group)}
+    ranges = {row: each for row, each in spans.items() if each is not None}
+    firm = len(spans) - len(ranges)
     if firm:
-        yield f"firm to 0.03 CPUs, wherever tasks run: {firm} of {len(known)} groups"
-    if ranged:
+        yield f"firm to 0.03 CPUs, wherever tasks run: {firm} of {len(spans)} groups"
+    if ranges:
         yield "what Linux may give a group by where tasks run (a model):"
-        yield from range_lines(plan, view, outlook, ranged)
+        yield from range_lines(plan, view, ranges)
 
 
-def range_lines(plan: Plan, view: View, outlook: Outlook,
-                ranged: Sequence[Planned]) -> Iterator[str]:
+def range_lines(plan: Plan, view: View, ranges: Mapping[int, tuple[int, int]]) -> Iterator[str]:
     """A line for each group that is not firm, at most MOST_RANGES, the widest ranges."""
-    spans = {group.row: span(plan, group, outlook.ranges[group.path]) for group in ranged}
-    widest = sorted(ranged, key=lambda group: spans[group.row][0] - spans[group.row][1])
-    shown_ = {group.row for group in widest[:MOST_RANGES]}
-    rows = [["from", "to", "gets"]]
-    rows += [[text.amount(plan, each, view.unit) for each in (*spans[group.row], group.gets)]
-             for group in ranged if group.row in shown_]
-    paths = ["group", *(short(shown(group.path)) for group in ranged if group.row in shown_)]
+    widest = sorted(ranges, key=lambda row: ranges[row][0] - ranges[row][1])[:MOST_RANGES]
+    groups = [plan.groups[row] for row in ranges if row in set(widest)]
+    rows = [["from", "to", "gets"], *(
+        [text.amount(plan, each, view.unit) for each in (*ranges[group.row], group.gets)]
+        for group in groups)]
+    paths = ["group", *(short(shown(group.path)) for group in groups)]
     for numbers, path in zip(text.table(rows), paths):
         yield f"  {numbers}  {tail(path, max(view.width - width(numbers) - 4, LEAST_NAME))}"
-    if len(ranged) > MOST_RANGES:
-        yield f"  and {len(ranged) - MOST_RANGES} with narrower ranges; -o json has all"
+    if len(ranges) > MOST_RANGES:
+        yield f"  and {len(ranges) - MOST_RANGES} with narrower ranges; -o json has all"
 
 
 def foot(plan: Plan, view: View, lines: Sequence[str]) -> Iterator[str]:
-    """The lines below the table."""
     if any("THROTTLED*" in line for line in lines):
         yield THROTTLED_NOTE
     idle = sum(1 for group in plan.groups[1:] if group.want == 0 and view.has(group)
@@ -267,21 +250,18 @@ def foot(plan: Plan, view: View, lines: Sequence[str]) -> Iterator[str]:
         yield f"groups that ask for nothing and are left out (--all shows them): {idle}"
 
 
-def heads(view: View) -> list[str]:
-    """The heads of the columns of numbers and of the bar."""
-    return ["gets", "wants", "limit", *(["guaranteed"] if view.guaranteed is not None else []),
-            *([BAR_HEAD] if view.width >= WIDE else [])]
-
-
 def table(plan: Plan, view: View) -> list[tuple[str, str]]:
     """All lines with their styles."""
     groups = list(shown_groups(plan, view))
     answer = [(cut(each, max(view.width, 80)), "") for each in head(plan, view)] + [("", "")]
     if groups:
+        heads = [*view.amounts(plan.root), *([BAR_HEAD] if view.width >= WIDE else [])]
         lines = text.reasoned_table(
-            heads(view), [line_of(plan, group, view, depth) for group, depth in groups],
+            heads, [line_of(plan, group, view, depth) for group, depth in groups],
             view.width, cut if view.chosen is None and not view.is_flat else tail, 5)
-        answer += zip(lines, ["bold", *(style_of(plan, group) for group, _ in groups)])
+        styles = [STYLES.get("STARVED" if group.is_starved else plan.reason(group).name, "")
+                  for group, _ in groups]
+        answer += zip(lines, ["bold", *styles])
     else:
         answer.append((f"no group is {' or '.join(view.only)}", ""))
     return answer + [(each, "") for each in foot(plan, view, [each for each, _ in answer])]
@@ -297,13 +277,13 @@ def amounts(plan: Plan, slices: int | None) -> dict[str, Any] | None:
 
 def range_data(plan: Plan, group: Planned, outlook: Outlook) -> dict[str, Any] | None:
     """Whether a group is firm, or its range; None where that is not known."""
-    bounds = outlook.ranges.get(group.path)
-    if bounds is None:
+    if group.path not in outlook.ranges:
         return None
-    if is_firm(plan, group, bounds):
+    range_ = span(plan, group, outlook)
+    if range_ is None:
         return {"firm": True}
-    low, high = span(plan, group, bounds)
-    return {"firm": False, "from": amounts(plan, low), "to": amounts(plan, high)}
+    low, high = (amounts(plan, each) for each in range_)
+    return {"firm": False, "from": low, "to": high}
 
 
 def with_placement(plan: Plan, data: dict[str, Any], outlook: Outlook) -> dict[str, Any]:
@@ -315,29 +295,28 @@ def with_placement(plan: Plan, data: dict[str, Any], outlook: Outlook) -> dict[s
     return {**data, "placement": {"not_known": why, "grain": round(outlook.grain, 4)}}
 
 
-def group_data(plan: Plan, group: Planned) -> dict[str, Any]:
-    """A group as data."""
+def group_data(plan: Plan, group: Planned, view: View) -> dict[str, Any]:
     reason, own = plan.reason(group), group.group
     above = plan.groups[group.parent].path if group.parent is not None else None
+    shown_ = {head: amounts(plan, slices) for head, slices in view.amounts(group).items()}
+    owed = {"guaranteed": shown_.pop("guaranteed")} if view.guaranteed is not None else {}
     return {
-        "group": group.path, "title": own.title if own else "", "row": group.row, "parent": above,
+        "group": group.path, "title": group.title, "row": group.row, "parent": above,
         "depth": group.depth, "weight": group.weight,
         "quota_usec": own.quota if own else None, "period_usec": own.period if own else None,
         "burst_usec": own.burst if own else 0, "tasks": own.tasks if own else None,
         "asks_millicpu": float(own.demand) if own else None,
         "request_millicpu": float(own.request) if own and own.request is not None else None,
-        "gets": amounts(plan, group.gets), "wants": amounts(plan, group.want),
-        "limit": amounts(plan, group.limit), "reason": reason.name, "words": reason.words,
+        **shown_, "reason": reason.name, "words": reason.words,
         "cause": reason.cause, "active_weight": reason.active_weight or None,
         "starved": group.is_starved, "throttled": group.is_throttled,
-        "throttled_not_by_its_limit": group.is_throttled_elsewhere,
+        "throttled_not_by_its_limit": group.is_throttled_elsewhere, **owed,
     }
 
 
 def as_data(plan: Plan, view: View = View()) -> dict[str, Any]:
     """A plan as data. Filters, order and depth hold as in the table."""
     host = plan.model.host
-    groups = [group for group in ordered(plan.groups, view) if is_one_of(group, view)]
     return {
         "host": {"cpus": host.processors, "period_usec": host.period_us,
                  "slice_usec": host.slice_us, "capacity": amounts(plan, plan.capacity)},
@@ -346,33 +325,20 @@ def as_data(plan: Plan, view: View = View()) -> dict[str, Any]:
         "limiting": [{"group": group.path, "limit": amounts(plan, group.limit)}
                      for group in plan.limiting],
         "refused": plan.model.refused, "notes": plan.model.notes,
-        "groups": [group_data(plan, group) | guaranteed_data(plan, group, view)
-                   for group in groups],
+        "groups": [group_data(plan, group, view) for group in ordered(plan.groups, view)
+                   if is_one_of(group, view)],
     }
-
-
-def guaranteed_data(plan: Plan, group: Planned, view: View) -> dict[str, Any]:
-    """What a group is guaranteed as data, where that is asked for."""
-    if view.guaranteed is None:
-        return {}
-    return {"guaranteed": amounts(plan, view.guaranteed.get(group.row))}
 
 
 def as_csv(plan: Plan, view: View) -> str:
     """A plan as CSV: a row for each group, with amounts in the unit. Filters hold as in the table.
     """
-    written = io.StringIO()
-    out = csv.writer(written, lineterminator="\n")
-    more = [] if view.guaranteed is None else ["guaranteed"]
-    out.writerow(["group", "title", "weight", "gets", "wants", "limit", *more, "reason", "why"])
+    rows = [["group", "title", "weight", *view.amounts(plan.root), "reason", "why"]]
     for group in ordered(plan.groups, view):
-        if not is_one_of(group, view):
-            continue
-        values = [group.gets, group.want, group.limit]
-        if view.guaranteed is not None:
-            values.append(view.guaranteed.get(group.row))
-        out.writerow([shown(group.path), shown(group.group.title if group.group else ""),
-                      group.weight, *(text.amount(plan, each, view.unit) if each is not None else ""
-                                      for each in values),
-                      plan.reason(group).name, why(plan, group, True)])
+        if is_one_of(group, view):
+            cells = [cell if cell != "-" else "" for cell in view.cells(plan, group).values()]
+            rows.append([shown(group.path), shown(group.title), str(group.weight), *cells,
+                         plan.reason(group).name, why(plan, group, True)])
+    written = io.StringIO()
+    csv.writer(written, lineterminator="\n").writerows(rows)
     return written.getvalue()

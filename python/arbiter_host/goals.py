@@ -2,12 +2,12 @@
 from __future__ import annotations
 
 from collections import Counter
-from collections.abc import Iterator, Sequence
+from collections.abc import Callable, Sequence
 from dataclasses import dataclass
 from fractions import Fraction
 from typing import NamedTuple
 
-from arbiter_host import demands, units
+from arbiter_host import demands, search, units
 from arbiter_host.faults import HostFault, UsageFault
 from arbiter_host.model import Model
 from arbiter_host.names import parent_path, shown
@@ -15,6 +15,8 @@ from arbiter_host.plan import Plan, Planned, plan
 from arbiter_host.units import Slices
 
 NO_CHANGE = "all goals are met as it stands: nothing changes"
+# At most so many changes are left out one by one.
+MOST_LEFT = 64
 # What is said of changes of which each is needed.
 NEEDED = "; none of the changes can be left out"
 
@@ -62,13 +64,6 @@ def with_weights(model: Model, weights: Sequence[int]) -> Model:
     return after
 
 
-def above(before: Plan, group: Planned) -> Iterator[Planned]:
-    """The groups above a group, without the root, the nearest first."""
-    while group.parent:
-        group = before.groups[group.parent]
-        yield group
-
-
 @dataclass(frozen=True)
 class Goals:
     """Goals of groups of a plan, and the rows whose settings stay."""
@@ -80,7 +75,6 @@ class Goals:
 
     @property
     def rows(self) -> frozenset[int]:
-        """The rows of the goals."""
         return frozenset(goal.group.row for goal in self.goals)
 
     @property
@@ -90,7 +84,6 @@ class Goals:
 
     @property
     def depth(self) -> int:
-        """The depth of the deepest group of a goal."""
         return max(goal.group.depth for goal in self.goals)
 
     @property
@@ -98,21 +91,19 @@ class Goals:
         """What the goals at a row and below it ask for in all, for each row of goals and above."""
         sums: dict[int, int] = {}
         for goal in self.goals:
-            for group in (goal.group, *above(self.before, goal.group)):
+            for group in (goal.group, *self.before.above(goal.group)):
                 sums[group.row] = sums.get(group.row, 0) + goal.amount
         return sums
 
     @property
     def weights(self) -> list[int]:
-        """The weight of each row."""
-        return [group.weight for group in self.before.groups]
+        return self.before.weights
 
     def amount(self, after: Plan, row: int) -> int:
         """What a goal of a group is measured by in a plan."""
         return after.guaranteed(row) if self.is_guaranteed else after.groups[row].gets
 
     def amounts(self, after: Plan) -> tuple[int, ...]:
-        """What each goal's group gets in a plan, or is guaranteed."""
         return tuple(self.amount(after, goal.group.row) for goal in self.goals)
 
     def short(self, after: Plan) -> int | None:
@@ -120,17 +111,22 @@ class Goals:
         return next((place for place, goal in enumerate(self.goals)
                      if self.amount(after, goal.group.row) < goal.amount), None)
 
-    def plan(self, weights: Sequence[int]) -> Plan:
-        """The accepted plan with other weights."""
-        return self.plan_of(with_weights(self.before.model, weights))
+    def are_met(self, after: Plan) -> bool:
+        return self.short(after) is None
 
     def plan_of(self, model: Model) -> Plan:
-        """The accepted plan of a model."""
         return plan(self.before.engine, model)
 
-    def are_met(self, after: Plan) -> bool:
-        """Whether a plan meets all goals."""
-        return self.short(after) is None
+    def plan(self, weights: Sequence[int]) -> Plan:
+        return self.plan_of(with_weights(self.before.model, weights))
+
+    def needed(self, rows: Sequence[int], plan_with: Callable[[Sequence[int]], Plan],
+               what: str) -> tuple[Sequence[int], str]:
+        """The rows of which no change can be left out, and what is known of them then. Of many
+        none is tried."""
+        if len(rows) > MOST_LEFT:
+            return rows, ""
+        return search.needed(rows, lambda some: self.are_met(plan_with(some)), what), NEEDED
 
     def way(self, after: Plan, changes: Sequence[NewSetting], told: str) -> Way:
         """Settings whose accepted plan has to meet all goals."""
@@ -143,14 +139,13 @@ class Goals:
 
 def check_apart(goals: Sequence[Goal]) -> None:
     """A fault that names a goal's group which is another goal's, or above it."""
-    paths = {goal.group.path for goal in goals}
-    twice = next((path for path, many in Counter(goal.group.path for goal in goals).items()
-                  if many > 1), None)
-    if twice is not None:
-        raise UsageFault(f"--goal: {shown(twice)} has two goals: name it once")
-    for path in paths:
+    counts = Counter(goal.group.path for goal in goals)
+    for path, many in counts.items():
+        if many > 1:
+            raise UsageFault(f"--goal: {shown(path)} has two goals: name it once")
+    for path in counts:
         higher = parent_path(path)
-        while higher not in paths and higher != ".":
+        while higher not in counts and higher != ".":
             higher = parent_path(higher)
         if higher != ".":
             raise UsageFault(f"--goal: {shown(higher)} is above {shown(path)}: a goal of both"

@@ -6,9 +6,9 @@ a request, is found by halving over accepted plans.
 """
 from __future__ import annotations
 
-import functools
-from collections.abc import Callable, Iterator
+from collections.abc import Callable
 from dataclasses import replace
+from functools import partial
 from typing import Any, NamedTuple
 
 from arbiter import Columns, Host
@@ -31,7 +31,7 @@ class Knob(NamedTuple):
     now: int | str | None
     least: int | str | None
     plan: Plan | None
-    # Remark on it beside the groups that pay.
+    # What is said of it beside the groups that pay.
     told: str = ""
     # Whether it is a setting that people own.
     is_owned: bool = False
@@ -53,6 +53,10 @@ def with_limit(model: Model, path: str, slices: int) -> Model:
     return after
 
 
+def with_cpus(model: Model, _: str, cpus: int) -> Model:
+    return replace(model, host=replace(model.host, processors=cpus))
+
+
 class Knobs:
     """The settings of the group of one goal."""
 
@@ -63,54 +67,41 @@ class Knobs:
 
     def each(self) -> list[Knob]:
         """Each setting with its least value."""
-        finds, knobs = [self.weight, self.limit, self.cpus, *self.owned()], []
+        library, host, group = self.before.engine.library, self.model.host, self.goal.group
+        # Above 64 CPUs the planner's host has another period. The answer is of any number of CPUs.
+        any_host = replace(host, processors=min(host.processors, MAX_PROCESSORS))
+        finds: list[Callable[[], Knob]] = [
+            partial(self.knob, "weight", group.weight, planned(host), library.least_weight,
+                    with_weight),
+            partial(self.knob, "limit", group.limit, planned(host), library.least_limit,
+                    with_limit),
+            partial(self.knob, "CPUs", host.processors, any_host, library.least_processors,
+                    with_cpus)]
+        source = self.model.owned
+        meant = source.meant(self.path) if source else []
+        if source is not None and len(meant) == 1:
+            finds += [partial(self.owned_knob, source, meant[0], of)
+                      for of in source.ranges(meant[0])]
+        knobs = []
         with progress.bar("settings", len(finds)) as step:
             for find in finds:
                 knobs.append(find())
                 step()
         return knobs
 
-    def knob(self, name: str, now: int | None,
+    def knob(self, name: str, now: int | None, host: Host,
              call: Callable[[Host, Columns, int, int], int | None],
-             with_value: Callable[[int], Model], host: Host | None = None) -> Knob:
+             with_value: Callable[[Model, str, int], Model]) -> Knob:
         """A setting with its least value by a call of the library, whose accepted plan has to reach
         the amount."""
         with asking(call.__name__):
-            value = call(host or planned(self.model.host), self.before.columns,
-                         self.goal.group.row, self.goal.amount)
+            value = call(host, self.before.columns, self.goal.group.row, self.goal.amount)
         if value is None:
             return Knob(name, now, None, None)
-        after = self.goals.plan_of(with_value(value))
+        after = self.goals.plan_of(with_value(self.model, self.path, value))
         if after.groups[self.goal.group.row].gets < self.goal.amount:
             raise HostFault(f"{name} {value}: the accepted plan does not reach the amount")
         return Knob(name, now, value, after)
-
-    def weight(self) -> Knob:
-        """The least weight."""
-        return self.knob("weight", self.goal.group.weight, self.before.engine.library.least_weight,
-                         lambda weight: with_weight(self.model, self.path, weight))
-
-    def limit(self) -> Knob:
-        """The least limit."""
-        return self.knob("limit", self.goal.group.limit, self.before.engine.library.least_limit,
-                         lambda slices: with_limit(self.model, self.path, slices))
-
-    def cpus(self) -> Knob:
-        """The least number of CPUs with the same period and slice, at most 64."""
-        host = self.model.host
-        # Above 64 CPUs the planner's host has another period. The answer is of any number of CPUs.
-        of_host = replace(host, processors=min(host.processors, MAX_PROCESSORS))
-        return self.knob("CPUs", host.processors, self.before.engine.library.least_processors,
-                         lambda cpus: replace(self.model, host=replace(host, processors=cpus)),
-                         of_host)
-
-    def owned(self) -> Iterator[Callable[[], Knob]]:
-        """Searches for the least of each setting of the group that people own."""
-        source = self.model.owned
-        meant = source.meant(self.path) if source else []
-        if source is not None and len(meant) == 1:
-            for of in source.ranges(meant[0]):
-                yield functools.partial(self.owned_knob, source, meant[0], of)
 
     def owned_knob(self, source: Owned, path: str, of: Range) -> Knob:
         """The least of a setting that people own of a group, which is the goal's or below it."""

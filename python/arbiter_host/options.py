@@ -16,7 +16,7 @@ from __future__ import annotations
 import argparse
 import os
 import re
-from collections.abc import Mapping, Sequence
+from collections.abc import Mapping
 from typing import Any, NamedTuple
 
 from arbiter_host.faults import UsageFault
@@ -88,11 +88,9 @@ class Option(NamedTuple):
 
     @property
     def name(self) -> str:
-        """Its longest flag, for messages."""
         return max(self.flags, key=len)
 
     def help_of(self, subcommand: str) -> str:
-        """Its help for a subcommand, with the forms of -o."""
         text = self.helps.get(subcommand, self.help)
         return text.replace("FORMS", ", ".join(FORMS.get(subcommand, ())))
 
@@ -333,21 +331,8 @@ def check(options: argparse.Namespace, kind: str) -> None:
             continue
         if not each.kinds and each.used:
             raise UsageFault(f"{each.name}: it needs --used with a {' or '.join(each.used)}")
-        raise UsageFault(f"{each.name}: it has no effect on {words_of_kind(kind)}")
-
-
-def check_forms(options: argparse.Namespace, outputs_: Sequence[Output]) -> None:
-    """A fault where an option was given that shows in none of the forms asked for."""
-    for each in of(options.asked):
-        if each.dest in options.given and each.forms and not any(
-                form in each.forms for form, _ in outputs_):
-            raise UsageFault(f"{each.name}: it has no effect on"
-                             f" -o {' and '.join(form for form, _ in outputs_)}")
-
-
-def words_of_kind(kind: str) -> str:
-    """A kind of source, for messages."""
-    return "many hosts" if kind == HOSTS else f"a source of the kind {kind}"
+        source = "many hosts" if kind == HOSTS else f"a source of the kind {kind}"
+        raise UsageFault(f"{each.name}: it has no effect on {source}")
 
 
 def outputs(options: argparse.Namespace) -> list[Output]:
@@ -363,7 +348,10 @@ def outputs(options: argparse.Namespace) -> list[Output]:
         named.append(Output(form, path or "-"))
     if sum(1 for each in named if each.path == "-") > 1:
         raise UsageFault("-o: one form alone has room on standard output: write -o FORM=FILE")
-    check_forms(options, named)
+    asked = [each.form for each in named]
+    for option in of(options.asked):
+        if option.dest in options.given and option.forms and not {*asked} & {*option.forms}:
+            raise UsageFault(f"{option.name}: it has no effect on -o {' and '.join(asked)}")
     return named
 
 

@@ -12,7 +12,7 @@ from fractions import Fraction
 from typing import NamedTuple, TypeAlias
 
 from arbiter import Unmet
-from arbiter_host import change, owned, progress, search, units
+from arbiter_host import change, owned, search, units
 from arbiter_host.faults import HostFault
 from arbiter_host.goals import NEEDED, Goals, NewSetting, Way
 from arbiter_host.model import Model
@@ -44,11 +44,8 @@ class Cap(NamedTuple):
 def limitable(goals: Goals, can_be: Callable[[Planned], bool]) -> Iterator[Planned]:
     """The highest groups that can be limited and may change: none of a goal, and none below or
     above one."""
-    before, above = goals.before, set()
-    for row in goals.rows:
-        while row:
-            row = before.groups[row].parent or 0
-            above.add(row)
+    before = goals.before
+    above = {each.row for goal in goals.goals for each in before.above(goal.group)}
     ways = [before.root]
     while ways:
         for child in ways.pop().children:
@@ -133,7 +130,6 @@ class Lowering:
     caps: tuple[Cap, ...]
 
     def model(self, limits: Limits) -> Model:
-        """The model with some limits."""
         before = self.goals.before.model
         settings = [Setting(self.caps[place].path, self.caps[place].key,
                             self.caps[place].written(value)) for place, value in limits.items()]
@@ -149,7 +145,6 @@ class Lowering:
         return replace(self.goals, before=self.goals.plan_of(self.model(limits)))
 
     def changes(self, limits: Limits) -> list[NewSetting]:
-        """The changes of some limits."""
         return [NewSetting(cap.path, cap.key, cap.now, cap.written(limits[place]))
                 for place, cap in enumerate(self.caps) if place in limits]
 
@@ -183,18 +178,8 @@ class Lowering:
         top = max(self.caps[place].most for place in places)
         lost = search.least(0, top, lambda lost: meets(at_most(top - lost)))
         limits = without_needless(at_most(top - lost), meets)
-        return without_needless(self.raised(limits, meets), meets)
-
-    def raised(self, limits: Limits, meets: Meets) -> Limits:
-        """The limits, each raised as far as goals are met beside the others."""
-        with progress.bar("limits", len(limits)) as step:
-            for place in limits:
-                most, now = self.caps[place].most, limits
-                lost = search.least(0, most - limits[place], lambda lost: meets(
-                    {**now, place: most - lost}))
-                limits = {**limits, place: most - lost}
-                step()
-        return limits
+        most = {place: self.caps[place].most for place in limits}
+        return without_needless(search.raised(limits, most, meets, "limits"), meets)
 
 
 def without_needless(limits: Limits, meets: Meets) -> Limits:

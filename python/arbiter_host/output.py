@@ -31,7 +31,6 @@ def emit(lines: str) -> None:
 
 
 def emit_styled(lines: Styled) -> None:
-    """Writes lines, with their styles on a terminal."""
     if sys.stdout is None or not sys.stdout.isatty() or "NO_COLOR" in os.environ:
         emit("".join(f"{line}\n" for line, _ in lines))
         return

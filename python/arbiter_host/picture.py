@@ -7,7 +7,7 @@ The scale is repeated every few rows.
 """
 from __future__ import annotations
 
-from collections.abc import Iterator, Set
+from collections.abc import Callable, Iterator, Set
 from dataclasses import dataclass, field
 
 from arbiter_host import explain, svg, text
@@ -42,36 +42,28 @@ class Entry:
 
 def chosen(plan: Plan, own: Set[int], rows: int) -> set[int]:
     """The rows of so many of some groups: the greatest wants, each with those above it."""
-    limiting = {group.row for group in plan.limiting}
-    order = sorted((group for group in plan.groups[1:] if group.row in own),
-                   key=lambda group: (group.row not in limiting, -group.want))
+    limiting = set(plan.answer.limiting)
     shows = {0}
-    for group in order:
-        above = [group.row]
-        while plan.groups[above[-1]].parent is not None:
-            above.append(plan.groups[above[-1]].parent or 0)
-        new = [row for row in above if row not in shows]
-        if group.want == 0 or len(shows) + len(new) > rows:
-            continue
-        shows.update(new)
+    for group in sorted((group for group in plan.groups[1:] if group.row in own),
+                        key=lambda group: (group.row not in limiting, -group.want)):
+        new = {each.row for each in (group, *plan.above(group))} - shows
+        if group.want and len(shows) + len(new) <= rows:
+            shows |= new
     return shows
 
 
 def entry_of(plan: Plan, group: Planned, view: View) -> Entry:
-    """The row of a group."""
-    is_limiting = group in plan.limiting
-    gets, want, limit = (text.amount(plan, each, view.unit)
-                         for each in (group.gets, group.want, group.limit))
-    more = "" if group.limit is None or group.parent is None else f", at most {limit}"
-    if view.guaranteed is not None and group.row in view.guaranteed:
-        more += f", guaranteed {text.amount(plan, view.guaranteed[group.row], view.unit)}"
+    cells = view.cells(plan, group)
+    more = "" if group.limit is None or group.parent is None else f", at most {cells['limit']}"
+    if cells.get("guaranteed", "-") != "-":
+        more += f", guaranteed {cells['guaranteed']}"
     name = "the host" if group.parent is None else short(shown(last_name(group.path)))
-    title = group.group.title if group.group else ""
-    if title and "/" not in title:
-        name = f"{name}  {title}"
+    if group.title and "/" not in group.title:
+        name = f"{name}  {group.title}"
     why = explain.why(plan, group, True)
     return Entry(group.depth, name, group.gets, group.want, group.limit,
-                 f"{gets} of {want}{more}: {why}", f"{group.path}: {why}", is_limiting,
+                 f"{cells['gets']} of {cells['wants']}{more}: {why}", f"{group.path}: {why}",
+                 group.row in plan.answer.limiting,
                  group.is_starved or group.is_throttled_elsewhere)
 
 
@@ -146,7 +138,6 @@ class Drawing:
         self.height = HEAD + ROW * (len(entries_) + scales) + EDGE
 
     def y(self, place: int) -> float:
-        """The top of a row."""
         return HEAD + ROW * (place + place // SCALE_ROWS)
 
     def x(self, slices: float) -> float:
@@ -181,7 +172,6 @@ class Drawing:
                 yield svg.line((x, y), (x + INDENT - 6, y), svg.BRANCH)
 
     def bar(self, entry: Entry, y: float) -> Iterator[str]:
-        """Bars of a group: want, amount and limit."""
         tall = ROW - 8
         yield svg.box((self.left, y + 4), (self.x(entry.want) - self.left, tall), svg.WANTS)
         gets = max(self.x(entry.gets) - self.left, 1.5 if entry.gets else 0)
@@ -196,7 +186,6 @@ class Drawing:
             yield svg.line((x, y + 1), (x, y + ROW - 1), colour, wide)
 
     def row(self, place: int, entry: Entry) -> Iterator[str]:
-        """One row."""
         y = self.y(place)
         ink = svg.MARK if entry.is_limiting else svg.FAINT if entry.is_folded else svg.INK
         yield svg.words((EDGE + INDENT * entry.depth, y + 14), cut(entry.name, NAME_CELLS), ink, 12,
@@ -208,20 +197,16 @@ class Drawing:
 
 
 def legend(y: float) -> Iterator[str]:
-    """Legend of the colours."""
-    x = float(EDGE)
-    for name, colour in (("gets", svg.GETS), ("wants", svg.WANTS)):
-        yield svg.box((x, y - 10), (14, 12), colour)
-        yield svg.words((x + 19, y), name, svg.INK, 11)
-        x += 19 + svg.wide(name, 11) + 16
-    for name, colour, wide in (("limit", svg.LIMIT, 1.5), ("limits the total", svg.MARK, 3.0)):
-        yield svg.line((x + 4, y - 11), (x + 4, y + 3), colour, wide)
-        yield svg.words((x + 13, y), name, svg.INK, 11)
-        x += 13 + svg.wide(name, 11) + 16
+    def line(colour: str, wide: float) -> Callable[[float], str]:
+        return lambda x: svg.line((x + 4, y - 11), (x + 4, y + 3), colour, wide)
+
+    return svg.legend(EDGE, y, [("gets", 19, svg.swatch(y - 10, svg.GETS)),
+                                ("wants", 19, svg.swatch(y - 10, svg.WANTS)),
+                                ("limit", 13, line(svg.LIMIT, 1.5)),
+                                ("limits the total", 13, line(svg.MARK, 3))])
 
 
 def title_of(plan: Plan, unit: str) -> str:
-    """The plan in one line."""
     served, most, want = (text.amount(plan, each, unit)
                           for each in (plan.root.gets, plan.capacity, plan.root.want))
     return f"{served} of {most} {text.UNIT_WORDS[unit]} served, {want} wanted"

@@ -24,21 +24,14 @@ from arbiter_host.names import last_name, short, shown
 
 
 class Answer(NamedTuple):
-    """An accepted plan: slices for each row, and the rows whose limits hold the total down."""
+    """An accepted plan: slices for each row, its certificate, and the rows whose limits hold the
+    total down."""
 
     columns: Columns
     amounts: list[int]
-    limiting: list[int]
-    # Slices wanted outside the limiting groups.
-    rest: int
-    figures: Figures
-
-
-class Certified(NamedTuple):
-    """A plan with its certificate, which no check has read."""
-
-    amounts: Sequence[int]
     certificate: Certificate
+    limiting: list[int]
+    figures: Figures
 
 
 @contextmanager
@@ -59,39 +52,26 @@ class Engine:
     def __init__(self, library: Library) -> None:
         self.library = library
 
-    @property
-    def words(self) -> str:
-        """What the engine is, for people."""
-        kind = "library" if self.library.is_proved else "checked build"
-        return f"{kind} {self.library.path}"
-
     def plan(self, host: Host, rows: Sequence[Row]) -> Answer:
         """A plan that the proved check accepted."""
-        columns = columns_of(rows)
-        return self.accepted(host, columns, self.certified(host, columns))
-
-    def certified(self, host: Host, columns: Columns) -> Certified:
-        """A plan with its certificate, which no check has read."""
         with asking("no plan"):
-            return Certified(*self.library.certify(planned(host), columns))
+            columns = Columns.of(rows)
+            amounts, certificate = self.library.certify(planned(host), columns)
+        return self.accepted(host, columns, amounts, certificate)
 
-    def accepted(self, host: Host, columns: Columns, certified: Certified) -> Answer:
+    def accepted(self, host: Host, columns: Columns, amounts: Sequence[int],
+                 certificate: Certificate) -> Answer:
         """The answer of a certificate that the proved check accepts for these rows."""
         host = planned(host)
         # The check reads the memory that is answered, after whatever wrote it has ended.
-        amounts = list(certified.amounts)
+        amounts = list(amounts)
         with asking("the check refused the plan"):
-            self.library.check(host, columns, amounts, certified.certificate)
+            self.library.check(host, columns, amounts, certificate)
         with asking("what limits the total"):
-            limiting, rest = self.library.limiting(host, columns)
+            limiting, _ = self.library.limiting(host, columns)
         with asking("wants"):
-            return Answer(columns, amounts, limiting, rest, self.library.figures(host, columns))
-
-
-def columns_of(rows: Sequence[Row]) -> Columns:
-    """The columns of rows; a fault for a number that does not fit."""
-    with asking("no plan"):
-        return Columns.of(rows)
+            figures = self.library.figures(host, columns)
+        return Answer(columns, amounts, certificate, limiting, figures)
 
 
 def engine_of(path: str | None = None, changes: bool = False) -> Engine:
@@ -130,6 +110,11 @@ class Planned:
     depth: int = 0
 
     @property
+    def title(self) -> str:
+        """Its name for people; empty for none."""
+        return self.group.title if self.group else ""
+
+    @property
     def is_starved(self) -> bool:
         """Whether it wants something and gets nothing."""
         return self.want > 0 and self.gets == 0
@@ -165,27 +150,37 @@ class Explanation(NamedTuple):
     active_weight: int = 0
 
 
-@dataclass
+@dataclass(eq=False)
 class Plan:
     """The plan of the next period of a model, accepted by the proved check."""
 
     model: Model
     groups: list[Planned]
-    limiting: list[Planned]
-    rest: int
-    # The rows that were planned.
-    columns: Columns = field(repr=False)
+    answer: Answer = field(repr=False)
     engine: Engine = field(repr=False)
 
     @property
     def by(self) -> str:
-        """The words of the engine, for people."""
-        return self.engine.words
+        """The maker of the plan, for people."""
+        library = self.engine.library
+        return f"{'library' if library.is_proved else 'checked build'} {library.path}"
 
     @property
     def root(self) -> Planned:
         """The host itself."""
         return self.groups[0]
+
+    @property
+    def limiting(self) -> list[Planned]:
+        return [self.groups[row] for row in self.answer.limiting]
+
+    @property
+    def columns(self) -> Columns:
+        return self.answer.columns
+
+    @property
+    def weights(self) -> list[int]:
+        return [group.weight for group in self.groups]
 
     @property
     def capacity(self) -> int:
@@ -203,17 +198,21 @@ class Plan:
         return slices * host.slice_us * 1000 / host.period_us
 
     def by_path(self) -> dict[str, Planned]:
-        """The groups by path."""
         return {group.path: group for group in self.groups}
+
+    def above(self, group: Planned) -> Iterator[Planned]:
+        """The groups above a group, without the root, the nearest first."""
+        while group.parent:
+            group = self.groups[group.parent]
+            yield group
 
     @functools.cached_property
     def reasons(self) -> list[arbiter.Reason]:
-        """The reasons, by row."""
         with asking("arbiter_reasons"):
             return self.engine.library.reasons(planned(self.model.host), self.columns)
 
     @functools.cached_property
-    def told(self) -> dict[int, Explanation]:
+    def explanations(self) -> dict[int, Explanation]:
         """The reasons in words that were asked for, by row."""
         return {}
 
@@ -223,44 +222,44 @@ class Plan:
             return self.engine.library.guarantee(planned(self.model.host), self.columns, row)
 
     def reason(self, group: Planned) -> Explanation:
-        """The reason of a group in words."""
-        if group.row not in self.told:
-            self.told[group.row] = self.found_reason(group)
-        return self.told[group.row]
-
-    def found_reason(self, group: Planned) -> Explanation:
-        """The reason of a group, which each answer asks for several times."""
-        kind, above = self.reasons[group.row]
-        if kind is Kind.NOTHING_ASKED:
-            return Explanation("nothing asked", "nothing asked")
-        if kind is Kind.ALL_WANTED:
-            return all_reason(group)
-        if kind is Kind.OWN_LIMIT:
-            words = "its own limit" if group.limit else "its own limit, less than a slice"
-            return Explanation("own limit", words, group.path)
-        if group.parent is None:
-            return Explanation("the host is full", "the host is full", group.path)
-        return self.weight_reason(group, self.groups[above or 0])
-
-    def weight_reason(self, group: Planned, cut: Planned) -> Explanation:
-        """The reason of a group that gets the part of its weight below a limit."""
-        above = self.groups[group.parent or 0]
-        name = "the host is full" if cut.parent is None else "limit above"
-        words = ("the host is full" if cut.parent is None
-                 else f"limit of {short(shown(last_name(cut.path)))} above")
-        if above.active == 1:
-            return Explanation(name, f"{words}: the only one that asks here", cut.path)
-        words = f"{words}: weight {group.weight} of {above.active_weight}"
-        return Explanation(name, words, cut.path, group.weight, above.active_weight)
+        """The reason of a group in words. Each answer asks for it several times."""
+        if group.row not in self.explanations:
+            self.explanations[group.row] = explained(self, group)
+        return self.explanations[group.row]
 
 
-def children_of(group: Planned) -> Sequence[Planned]:
-    """All children of a group, in order of creation."""
-    return group.children
+def explained(plan_: Plan, group: Planned) -> Explanation:
+    kind, above = plan_.reasons[group.row]
+    if kind is Kind.NOTHING_ASKED:
+        return Explanation("nothing asked", "nothing asked")
+    if kind is Kind.ALL_WANTED:
+        if not group.is_cut_by_tasks or group.group is None:
+            return Explanation("all", "all that it wants")
+        tasks = group.group.tasks
+        which = "1 task" if tasks == 1 else f"{tasks} tasks"
+        return Explanation("tasks", f"all that its {which} can use at once", group.path)
+    if kind is Kind.OWN_LIMIT:
+        words = "its own limit" if group.limit else "its own limit, less than a slice"
+        return Explanation("own limit", words, group.path)
+    if group.parent is None:
+        return Explanation("the host is full", "the host is full", group.path)
+    return by_weight(plan_, group, plan_.groups[above or 0])
 
 
-def walk(tops: Sequence[Planned],
-         below: Callable[[Planned], Sequence[Planned]] = children_of) -> Iterator[Planned]:
+def by_weight(plan_: Plan, group: Planned, cut: Planned) -> Explanation:
+    """The reason of a group that gets the part of its weight below a limit."""
+    above = plan_.groups[group.parent or 0]
+    name = words = "the host is full"
+    if cut.parent is not None:
+        name, words = "limit above", f"limit of {short(shown(last_name(cut.path)))} above"
+    if above.active == 1:
+        return Explanation(name, f"{words}: the only one that asks here", cut.path)
+    words = f"{words}: weight {group.weight} of {above.active_weight}"
+    return Explanation(name, words, cut.path, group.weight, above.active_weight)
+
+
+def walk(tops: Sequence[Planned], below: Callable[[Planned], Sequence[Planned]] =
+         lambda group: group.children) -> Iterator[Planned]:
     """Groups from some on down, each right before those that `below` gives of it."""
     waiting = list(reversed(tops))
     while waiting:
@@ -269,27 +268,7 @@ def walk(tops: Sequence[Planned],
         waiting += reversed(below(group))
 
 
-def all_reason(group: Planned) -> Explanation:
-    """The reason of a group that gets all that it wants."""
-    if group.is_cut_by_tasks and group.group is not None:
-        tasks = group.group.tasks
-        which = "1 task" if tasks == 1 else f"{tasks} tasks"
-        return Explanation("tasks", f"all that its {which} can use at once", group.path)
-    return Explanation("all", "all that it wants")
-
-
-def marks(group: Planned) -> list[str]:
-    """The warning labels of a group (STARVED, THROTTLED ..)."""
-    labels = ["STARVED"] if group.is_starved else []
-    if group.is_throttled_elsewhere:
-        labels.append("THROTTLED, NOT BY ITS LIMIT")
-    elif group.is_throttled:
-        labels.append("THROTTLED")
-    return labels
-
-
-def planned_of(rows: list[Row], model: Model, answer: Answer) -> list[Planned]:
-    """The groups of a plan, with their children and depths."""
+def planned_of(rows: Sequence[Row], model: Model, answer: Answer) -> list[Planned]:
     entries: list[tuple[str, Group | None]] = [(".", None), *model.groups.items()]
     figures = answer.figures
     groups = [Planned(place, path, row.parent, row.weight, row.limit, row.demand, gets, group,
@@ -309,9 +288,7 @@ def plan(engine: Engine, model: Model) -> Plan:
     """The plan of the next period of a model, accepted by the proved check."""
     rows = model.rows(engine.library)
     answer = engine.plan(checked(model.host), rows)
-    groups = planned_of(rows, model, answer)
-    limiting = [groups[row] for row in answer.limiting]
-    return Plan(model, groups, limiting, answer.rest, answer.columns, engine)
+    return Plan(model, planned_of(rows, model, answer), answer, engine)
 
 
 def guarantees(before: Plan, chosen: Sequence[Planned]) -> list[int]:
@@ -332,5 +309,5 @@ def payers(before: Plan, after: Plan) -> list[tuple[str, int]]:
     Both plans have the same groups in the same rows. A pod whose class changes has another path.
     """
     losses = [(each.path, each.gets - then.gets) for each, then in zip(before.groups, after.groups)
-              if not each.children]
-    return sorted([each for each in losses if each[1] > 0], key=lambda each: -each[1])
+              if not each.children and each.gets > then.gets]
+    return sorted(losses, key=lambda each: -each[1])

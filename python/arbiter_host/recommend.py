@@ -11,14 +11,14 @@ import re
 from collections.abc import Mapping, Sequence, Set
 from dataclasses import dataclass
 from fractions import Fraction
-from typing import Any
+from typing import Any, NamedTuple
 
 from arbiter_host import demands, names, units
 from arbiter_host.demands import Use
 from arbiter_host.faults import HostFault, NothingFound, UsageFault
 from arbiter_host.model import Model
 from arbiter_host.owned import Amounts, Owned, Setting
-from arbiter_host.plan import Engine, Plan, guarantees, plan
+from arbiter_host.plan import Engine, Plan, Planned, guarantees, plan
 from arbiter_host.sources import usage
 from arbiter_host.sources.samples import History
 
@@ -56,18 +56,34 @@ class Proposal:
     # The changes that make the proposal.
     settings: tuple[Setting, ...]
 
+    @property
+    def data(self) -> dict[str, Any]:
+        """What it was and is to be, as data."""
+        return {"used_millicpu": float(self.used), "most_millicpu": float(self.most),
+                "throttled": self.is_throttled, "request_millicpu": self.now.request,
+                "limit_millicpu": self.now.limit,
+                "recommended": {"request_millicpu": self.then.request,
+                                "limit_millicpu": self.then.limit}}
+
+
+class Advised(NamedTuple):
+    """A proposal, its group in the plans before and after, and what that is guaranteed then, in
+    slices."""
+
+    proposal: Proposal
+    before: Planned
+    after: Planned
+    guaranteed: int
+
 
 @dataclass(frozen=True)
 class Recommendation:
     """All proposals, and the accepted plans in which each container asks for what it used."""
 
     rule: Rule
-    proposals: tuple[Proposal, ...]
+    rows: tuple[Advised, ...]
     before: Plan
     after: Plan
-    # The paths after the change, and the guarantees there, in slices.
-    paths: tuple[str, ...]
-    guaranteed: tuple[int, ...]
     # Thousandths that all pods request before and after, and that the node has for them.
     requests: tuple[int, int] | None
     allocatable: int | None
@@ -155,42 +171,30 @@ def recommended(engine: Engine, model: Model, uses: Mapping[str, Use], rule: Rul
              for path in model.groups]
     before = plan(engine, asking(model.copy(), asked))
     after = plan(engine, asking(changed, asked))
-    chosen = [now for was, now in zip(before.groups, after.groups) if was.path in set(own)]
+    chosen = [(was, then) for was, then in zip(before.groups, after.groups) if was.path in set(own)]
+    owed = guarantees(after, [then for _, then in chosen])
     totals, then = kind.totals(), owned_of(changed).totals()
-    return Recommendation(rule, tuple(proposals), before, after,
-                          tuple(each.path for each in chosen),
-                          tuple(guarantees(after, chosen)),
-                          (totals[0], then[0]) if totals and then else None,
-                          totals[1] if totals else None, kind.noun, kind.keys)
-
-
-def words_of(one: Proposal) -> list[str]:
-    """The words of `--set` that make a proposal."""
-    return [f"{one.title}.{each.key}={each.value}" for each in one.settings]
-
-
-def setting_data(one: Proposal, keys: Sequence[str]) -> dict[str, Any]:
-    """The settings of a proposal as people write them, now and then."""
-    then = {each.key: each.value for each in one.settings}
-    return {key: {"now": now, "then": then.get(key)} for key, now in zip(keys, one.words)}
+    return Recommendation(
+        rule, tuple(Advised(each, *groups, slices) for each, groups, slices in zip(
+            proposals, chosen, owed)), before, after,
+        (totals[0], then[0]) if totals and then else None, totals[1] if totals else None,
+        kind.noun, kind.keys)
 
 
 def as_data(advice: Recommendation) -> dict[str, Any]:
     """The recommendation as data. Amounts are thousandths of a CPU."""
-    gets = [plan_.by_path() for plan_ in (advice.before, advice.after)]
     requests, rows = advice.requests or (None, None), []
-    for each, path, owed in zip(advice.proposals, advice.paths, advice.guaranteed):
+    for one, was, group, owed in advice.rows:
+        then = {each.key: each.value for each in one.settings}
         rows.append({
-            advice.noun: each.title, "used_millicpu": float(each.used),
-            "most_millicpu": float(each.most), "throttled": each.is_throttled,
-            "request_millicpu": each.now.request, "limit_millicpu": each.now.limit,
-            "recommended": {"request_millicpu": each.then.request,
-                            "limit_millicpu": each.then.limit},
-            "gets_now_millicpu": advice.before.millicpu(gets[0][each.path].gets),
-            "gets_millicpu": advice.after.millicpu(gets[1][path].gets),
-            "wants_millicpu": advice.after.millicpu(gets[1][path].want),
-            "guaranteed_millicpu": advice.after.millicpu(owed), "set": words_of(each),
-            "settings": setting_data(each, advice.keys)})
+            advice.noun: one.title, **one.data,
+            "gets_now_millicpu": advice.before.millicpu(was.gets),
+            "gets_millicpu": advice.after.millicpu(group.gets),
+            "wants_millicpu": advice.after.millicpu(group.want),
+            "guaranteed_millicpu": advice.after.millicpu(owed),
+            "set": [f"{one.title}.{key}={value}" for key, value in then.items()],
+            "settings": {key: {"now": now, "then": then.get(key)}
+                         for key, now in zip(advice.keys, one.words)}})
     return {"percent": advice.rule.percent, "headroom": float(advice.rule.headroom),
             "engine": advice.after.by, "requests_millicpu": requests[0],
             "recommended_requests_millicpu": requests[1],

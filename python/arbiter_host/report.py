@@ -2,7 +2,6 @@
 from __future__ import annotations
 
 from collections.abc import Sequence
-from fractions import Fraction
 from typing import Any
 
 from arbiter_host import diff, explain, text
@@ -20,37 +19,32 @@ KINDS = {"green": "up", "red": "down"}
 
 def title_of(group: Planned) -> str:
     """The name for people, where it tells more than the group's own name and those above it."""
-    title = group.group.title if group.group else ""
     name = last_name(group.path).replace(":", "/")
-    return "" if f"/{title}".replace(":", "/").endswith(f"/{name}") else shown(title)
+    is_told = f"/{group.title}".replace(":", "/").endswith(f"/{name}")
+    return "" if is_told else shown(group.title)
 
 
 def request_of(plan: Plan, group: Planned, unit: str) -> str:
-    """Request of a group; empty where the source has no requests."""
-    asked, host = group.group.request if group.group else None, plan.model.host
+    """What a group requests; empty where the source has no requests."""
+    asked = group.group.request if group.group else None
     if asked is None:
         return ""
-    scale = {"cpu": Fraction(1, 1000), "m": Fraction(1), "%": Fraction(1, 10),
-             "us": Fraction(host.period_us, 1000),
-             "slices": Fraction(host.period_us, 1000 * host.slice_us)}[unit]
-    return f"{float(asked * scale):.{3 if unit == 'cpu' else 1}f}"
+    value = text.in_unit(plan.model.host, asked, unit)
+    return f"{float(value):.{3 if unit == 'cpu' else 1}f}"
 
 
 def row(plan: Plan, group: Planned, view: View, is_open: bool) -> dict[str, Any]:
     """The cells of a group, and what the search reads. `within` tells it apart in a flat list."""
-    is_root, unit, owed = group.parent is None, view.unit, view.guaranteed
+    is_root = group.parent is None
     part = 100 * group.gets / group.want if group.want else 0
-    title = shown(group.group.title) if group.group else ""
     return {
         "name": "the host" if is_root else short(shown(last_name(group.path))),
         "title": title_of(group),
         "within": short(shown(parent_path(group.path))) if group.depth > 1 else "",
-        "path": shown(f"{group.path} {title}"), "depth": group.depth,
+        "path": shown(f"{group.path} {shown(group.title)}"), "depth": group.depth,
         "has_children": bool(group.children), "is_open": is_open or is_root,
-        "weight": "" if is_root else group.weight, "request": request_of(plan, group, unit),
-        "limit": text.amount(plan, group.limit, unit), "wants": text.amount(plan, group.want, unit),
-        "gets": text.amount(plan, group.gets, unit), "percent": f"{min(part, 100):.2f}",
-        "guaranteed": "" if owed is None else text.amount(plan, owed.get(group.row), unit),
+        "weight": "" if is_root else group.weight, "request": request_of(plan, group, view.unit),
+        **view.cells(plan, group), "percent": f"{min(part, 100):.2f}",
         "why": explain.why(plan, group, True), "is_idle": group.want == 0,
         "is_hurt": group.gets < group.want,
         "is_bad": group.is_starved or group.is_throttled_elsewhere,
@@ -71,13 +65,13 @@ def changes(before: Plan, plan: Plan, view: View, words: Sequence[str]) -> dict[
     wide = view._replace(width=1000)
     rows = []
     for pair in diff.differing(before, plan, view):
-        cells, (why, *_), name = diff.row(before, plan, pair, wide)
+        cells, (why, *_), name = pair.row(wide)
         keys = ("got", "gets", "change", "wanted", "wants")
         is_below = "/" in pair.path
         rows.append({**dict(zip(keys, cells)), "why": why,
                      "name": short(shown(last_name(pair.path))) if is_below else name,
                      "within": short(shown(parent_path(pair.path))) if is_below else "",
-                     "kind": KINDS.get(diff.style_of(before, plan, pair), "")})
+                     "kind": KINDS.get(pair.style, "")})
     heads = [next(explain.head(each, view)) for each in (before, plan)]
     return {"before": heads[0], "after": heads[1], "rows": rows, "words": list(words)}
 

@@ -1,7 +1,7 @@
 """Searches over whole numbers and over changes, whatever it is that is asked of them."""
 from __future__ import annotations
 
-from collections.abc import Callable, Sequence
+from collections.abc import Callable, Mapping, Sequence
 from typing import TypeVar
 
 from arbiter_host import progress
@@ -25,18 +25,30 @@ def least_of(parts: Sequence[tuple[int, int]], reaches: Callable[[int], bool]) -
     return next((least(low, high, reaches) for low, high in parts if reaches(high)), None)
 
 
-def needed(changes: Sequence[T], meets: Callable[[Sequence[T]], bool], what: str) -> list[T]:
-    """The changes of which none can be left out: each is left out where the others meet so too.
+def raised(values: Mapping[T, int], most: Mapping[T, int],
+           meets: Callable[[Mapping[T, int]], bool], what: str) -> Mapping[T, int]:
+    """The values, one after another as near to its most as all meet beside the others.
 
     `what` names them beside a progress bar.
     """
-    kept, is_done = list(changes), False
-    while not is_done:
-        is_done = True
+    with progress.bar(what, len(values)) as step:
+        for key, value in values.items():
+            now = values
+            lost = least(0, most[key] - value,
+                         lambda less: meets({**now, key: most[key] - less}))
+            values = {**values, key: most[key] - lost}
+            step()
+    return values
+
+
+def needed(changes: Sequence[T], meets: Callable[[Sequence[T]], bool], what: str) -> list[T]:
+    """The changes of which none can be left out: each is left out where the others meet so too."""
+    kept, tried = list(changes), -1
+    while len(kept) != tried:
+        tried = len(kept)
         with progress.bar(what, len(kept)) as step:
             for each in list(kept):
                 rest = [other for other in kept if other != each]
-                if meets(rest):
-                    kept, is_done = rest, False
+                kept = rest if meets(rest) else kept
                 step()
     return kept

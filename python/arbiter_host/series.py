@@ -7,9 +7,10 @@ from __future__ import annotations
 
 import csv
 import io
+import itertools
 import json
 from collections.abc import Callable, Iterator, Mapping, Sequence
-from dataclasses import dataclass, field
+from dataclasses import dataclass
 from fractions import Fraction
 
 from arbiter_host import demands, svg, text, units
@@ -67,6 +68,9 @@ class SampleCell:
         """A sum as a mean over the periods."""
         return Fraction(slices, max(self.periods, 1))
 
+    def data(self) -> dict[str, int]:
+        return {name: getattr(self, key) for key, name in COUNTS.items()}
+
     @property
     def flags(self) -> str:
         """The letters of what happened in any of its periods."""
@@ -74,42 +78,20 @@ class SampleCell:
         return "".join(letter for (letter, _, _), count in zip(FLAGS, counts) if count)
 
 
-@dataclass
-class Sums:
-    """One group over all samples: sums as of a cell, and runs of samples in which it starved."""
-
-    all: SampleCell = field(default_factory=SampleCell)
-    run: int = 0
-    longest: int = 0
-
-    def add(self, cell: SampleCell) -> None:
-        """Adds one sample."""
-        for key in COUNTS:
-            setattr(self.all, key, getattr(self.all, key) + getattr(cell, key))
-        self.run = self.run + 1 if cell.starved else 0
-        self.longest = max(self.longest, self.run)
-
-    def data(self) -> dict[str, int]:
-        """The sums as data."""
-        counts = {name: getattr(self.all, key) for key, name in COUNTS.items()}
-        return {**counts, "samples_starved_in_a_row": self.longest}
+def summed(cells: Sequence[SampleCell]) -> dict[str, int]:
+    """The sums of a group over all samples, and its longest run of samples in which it starved."""
+    sums = {name: sum(getattr(cell, key) for cell in cells) for key, name in COUNTS.items()}
+    starved = [end - begin for begin, end in runs([cell.starved > 0 for cell in cells])]
+    return {**sums, "samples_starved_in_a_row": max(starved, default=0)}
 
 
 @dataclass
 class Series:
-    """The samples' names, the groups that are shown, and a cell for each."""
+    """The samples' names, the groups that are shown with a cell for each sample, and a plan."""
 
     names: list[str]
-    groups: list[str]
-    cells: list[list[SampleCell]]
+    groups: dict[str, list[SampleCell]]
     plan: Plan
-
-    def sums(self, place: int) -> Sums:
-        """The sums of a group."""
-        found = Sums()
-        for row in self.cells:
-            found.add(row[place])
-        return found
 
 
 def target(model: Model, children: Mapping[str, list[str]], pattern: str) -> str:
@@ -165,23 +147,6 @@ def quota_slices(model: Model, engine: Engine, path: str) -> int | None:
     return Slices(engine.library, model.host).limit(group.quota, group.period)
 
 
-def count_period(plan_: Plan, groups: Sequence[str], quotas: Sequence[int | None],
-                 cells: Sequence[SampleCell], times: int) -> None:
-    """Adds one plan to the cells, for so many periods."""
-    by_path = plan_.by_path()
-    for path, quota, cell in zip(groups, quotas, cells):
-        group = by_path[path]
-        cell.count(group.gets, group.want, group.limit, group.is_throttled,
-                   group.withheld * plan_.model.host.slice_us, quota, times)
-
-
-def save_up(plan_: Plan) -> None:
-    """Keeps what each group leaves of its limit for the next period."""
-    for group in plan_.groups[1:]:
-        if group.group is not None:
-            group.group.saved = 0 if group.limit is None else group.limit - group.gets
-
-
 def periods_of(engine: Engine, model: Model, count: int) -> Iterator[tuple[Plan, int]]:
     """The plans of so many periods with the same demands, each with how often it holds.
 
@@ -190,12 +155,14 @@ def periods_of(engine: Engine, model: Model, count: int) -> Iterator[tuple[Plan,
     """
     seen: dict[tuple[int, ...], int] = {}
     plans: list[Plan] = []
-    while count > 0:
+    for left in range(count, 0, -1):
         state = tuple(group.saved for group in model.groups.values())
         if state in seen:
             cycle = plans[seen[state]:]
-            yield from repeated(cycle, count)
-            settle(cycle[(count - 1) % len(cycle)], model)
+            times, more = divmod(left, len(cycle))
+            yield from ((each, times + (place < more)) for place, each in enumerate(cycle)
+                        if times or place < more)
+            settle(cycle[more - 1], model)
             return
         if len(plans) >= MOST_DISTINCT:
             raise HostFault(f"a sample with more than {MOST_DISTINCT} distinct periods")
@@ -203,40 +170,36 @@ def periods_of(engine: Engine, model: Model, count: int) -> Iterator[tuple[Plan,
         plans.append(plan(engine, model.copy()))
         yield plans[-1], 1
         settle(plans[-1], model)
-        count -= 1
 
 
 def settle(plan_: Plan, model: Model) -> None:
-    """The state after a period, in the model."""
-    save_up(plan_)
-    for path, group in plan_.model.groups.items():
-        model.groups[path].saved = group.saved
-
-
-def repeated(cycle: list[Plan], count: int) -> Iterator[tuple[Plan, int]]:
-    """The plans of a cycle for the periods that are left."""
-    for place, each in enumerate(cycle):
-        times = count // len(cycle) + (place < count % len(cycle))
-        if times:
-            yield each, times
+    """Keeps what each group leaves of its limit in a plan for the next period of the model."""
+    for group in plan_.groups[1:]:
+        model.groups[group.path].saved = 0 if group.limit is None else group.limit - group.gets
 
 
 def run(engine: Engine, model: Model, history: History, unit: str, chosen: Sequence[str],
         path_of: Mapping[str, str], periods: int, tick: Callable[[], None]) -> Series:
     """The samples one after another. Columns of no path are left out."""
-    groups = list(chosen) or list(dict.fromkeys(path_of.values())) or ["."]
-    model, table, last = model.copy(), [], None
+    groups: dict[str, list[SampleCell]] = {
+        path: [] for path in chosen or path_of.values() or ["."]}
+    model, last = model.copy(), None
     quotas = [quota_slices(model, engine, path) for path in groups]
     for _, asked in history.demands(unit, model.host):
         set_demands(model, path_of, asked)
         cells = [SampleCell() for _ in groups]
         for last, times in periods_of(engine, model, periods):
-            count_period(last, groups, quotas, cells, times)
-        table.append(cells)
+            by_path = last.by_path()
+            for path, quota, cell in zip(groups, quotas, cells):
+                group = by_path[path]
+                cell.count(group.gets, group.want, group.limit, group.is_throttled,
+                           group.withheld * model.host.slice_us, quota, times)
+        for path, cell in zip(groups, cells):
+            groups[path].append(cell)
         tick()
     if last is None:
         raise HostFault("no sample")
-    return Series([each.name for each in history.samples], groups, table, last)
+    return Series([each.name for each in history.samples], groups, last)
 
 
 def set_demands(model: Model, path_of: Mapping[str, str], asked: Mapping[str, Fraction]) -> None:
@@ -247,45 +210,36 @@ def set_demands(model: Model, path_of: Mapping[str, str], asked: Mapping[str, Fr
 
 
 def written(series: Series, slices: Fraction, unit: str) -> str:
-    """A mean in a unit."""
-    host = series.plan.model.host
-    value = slices * {"slices": Fraction(1), "us": Fraction(host.slice_us),
-                      "m": Fraction(1000 * host.slice_us, host.period_us),
-                      "cpu": Fraction(host.slice_us, host.period_us),
-                      "%": Fraction(100 * host.slice_us, host.period_us)}[unit]
+    """A mean of slices in a unit."""
+    value = text.in_unit(series.plan.model.host, slices * series.plan.thousandths(1), unit)
     return units.decimal(value, 3 if unit == "cpu" else 1)
-
-
-def summary_rows(series: Series, unit: str) -> list[list[str]]:
-    """The sums of each group."""
-    rows = [["group", "wanted", "got", "of it", "throttled", "not by limit", "withheld_usec",
-             "bursts", "starved", "samples in a row"]]
-    for place, path in enumerate(series.groups):
-        sums = series.sums(place)
-        all_ = sums.all
-        part = f"{100 * all_.gets / all_.wants:.0f}%" if all_.wants else "-"
-        counts = (all_.throttled, all_.elsewhere, all_.withheld, all_.bursts, all_.starved)
-        rows.append([short(shown(path)), *(written(series, all_.mean(each), unit)
-                                           for each in (all_.wants, all_.gets)),
-                     part, *map(str, counts), str(sums.longest)])
-    return rows
 
 
 def as_text(series: Series, unit: str) -> str:
     """The sums of each group as a table. `wanted` and `got` are means."""
-    return "".join(f"{line}\n" for line in text.table(summary_rows(series, unit), (0,)))
+    rows = [["group", "wanted", "got", "of it", "throttled", "not by limit", "withheld_usec",
+             "bursts", "starved", "samples in a row"]]
+    for path, cells in series.groups.items():
+        sums = summed(cells)
+        wanted, got = (written(series, Fraction(sums[key], max(sums["periods"], 1)), unit)
+                       for key in ("wanted", "got"))
+        part = f"{100 * sums['got'] / sums['wanted']:.0f}%" if sums["wanted"] else "-"
+        rows.append([short(shown(path)), wanted, got, part, *(str(sums[key]) for key in (
+            "throttled", "throttled_not_by_limit", "withheld_usec", "bursts", "starved",
+            "samples_starved_in_a_row"))])
+    return "".join(f"{line}\n" for line in text.table(rows, (0,)))
 
 
 def records(series: Series, unit: str) -> Iterator[dict[str, object]]:
-    """One record for each group and sample."""
-    for name, cells in zip(series.names, series.cells):
-        for path, cell in zip(series.groups, cells):
+    for place, name in enumerate(series.names):
+        for path, cells in series.groups.items():
+            cell = cells[place]
             gets, wants, limit = (None if each is None else written(series, cell.mean(each), unit)
                                   for each in (cell.gets, cell.wants, cell.limit))
+            counts = cell.data()
+            del counts["got"], counts["wanted"]
             yield {"sample": name, "group": path, "gets": gets, "wants": wants, "limit": limit,
-                   "periods": cell.periods, "throttled": cell.throttled,
-                   "throttled_not_by_limit": cell.elsewhere, "bursts": cell.bursts,
-                   "starved": cell.starved, "withheld_usec": cell.withheld}
+                   **counts}
 
 
 def as_csv(series: Series, unit: str) -> str:
@@ -294,9 +248,8 @@ def as_csv(series: Series, unit: str) -> str:
     rows = list(records(series, unit))
     writer = csv.DictWriter(out, list(rows[0]), lineterminator="\n")
     writer.writeheader()
-    for row in rows:
-        writer.writerow({key: shown(str(value)) if key in ("sample", "group") else value
-                         for key, value in row.items()})
+    writer.writerows({**row, "sample": shown(str(row["sample"])), "group": shown(str(row["group"]))}
+                     for row in rows)
     return out.getvalue()
 
 
@@ -305,24 +258,19 @@ def as_json(series: Series, unit: str) -> str:
     return json.dumps({"unit": unit, "records": list(records(series, unit))}, indent=1) + "\n"
 
 
+def runs(holds: Sequence[bool]) -> Iterator[tuple[int, int]]:
+    """The runs of samples that have something: from, to."""
+    for held, places in itertools.groupby(range(len(holds)), lambda place: holds[place]):
+        run_ = list(places)
+        if held:
+            yield run_[0], run_[-1] + 1
+
+
 def stairs(values: Sequence[float], x: Callable[[float], float],
            y: Callable[[float], float], begin: int = 0) -> list[svg.Point]:
     """The corners of a line that stays at each value for one sample, from a sample on."""
-    found: list[svg.Point] = []
-    for place, value in enumerate(values, begin):
-        found += [(x(place), y(value)), (x(place + 1), y(value))]
-    return found
-
-
-def runs(holds: Sequence[bool]) -> Iterator[tuple[int, int]]:
-    """The runs of samples that have something: from, to."""
-    begun = None
-    for place, held in enumerate([*holds, False]):
-        if held and begun is None:
-            begun = place
-        elif not held and begun is not None:
-            yield begun, place
-            begun = None
+    return [(x(at), y(value)) for place, value in enumerate(values, begin)
+            for at in (place, place + 1)]
 
 
 def gapped(values: Sequence[float | None], x: Callable[[float], float],
@@ -332,11 +280,9 @@ def gapped(values: Sequence[float | None], x: Callable[[float], float],
         yield stairs([each or 0.0 for each in values[begin:end]], x, y, begin)
 
 
-def panel(series: Series, place: int, top: float) -> Iterator[str]:
-    """One group over time, in CPUs."""
-    host = series.plan.model.host
+def panel(series: Series, path: str, top: float) -> Iterator[str]:
+    host, cells = series.plan.model.host, series.groups[path]
     one = host.slice_us / host.period_us
-    cells = [row[place] for row in series.cells]
     wants = [float(each.mean(each.wants)) * one for each in cells]
     gets = [float(each.mean(each.gets)) * one for each in cells]
     most = max(*wants, *gets, one)
@@ -350,8 +296,7 @@ def panel(series: Series, place: int, top: float) -> Iterator[str]:
     def y(value: float) -> float:
         return top + TALL - TALL * value / most
 
-    yield svg.words((EDGE, top - 8), cut(short(shown(series.groups[place])), 100), svg.INK, 12,
-                    "start", True, series.groups[place])
+    yield svg.words((EDGE, top - 8), cut(short(shown(path)), 100), svg.INK, 12, "start", True, path)
     for value in svg.steps(most, 4):
         yield svg.line((LEFT, y(value)), (LEFT + WIDE, y(value)), svg.GRID)
         yield svg.words((LEFT - 6, y(value) + 4), f"{value:g}", svg.FAINT, 10, "end")
@@ -364,7 +309,6 @@ def panel(series: Series, place: int, top: float) -> Iterator[str]:
 
 
 def strips(cells: Sequence[SampleCell], top: float, x: Callable[[float], float]) -> Iterator[str]:
-    """The strips of flags below a group."""
     for place, (letter, _, colour) in enumerate(FLAGS):
         for begin, end in runs([letter in each.flags for each in cells]):
             corner = (x(begin), top + TALL + 3 + STRIP * place)
@@ -372,20 +316,15 @@ def strips(cells: Sequence[SampleCell], top: float, x: Callable[[float], float])
 
 
 def legend(y: float) -> Iterator[str]:
-    """Legend of the colours."""
-    x = float(EDGE)
-    entries = [("gets", svg.GETS, 12), ("wants", svg.WANTS, 12)]
-    entries += [(name, colour, STRIP) for _, name, colour in FLAGS]
-    for name, colour, tall in entries:
-        yield svg.box((x, y - tall + (2 if tall == 12 else 0)), (14, tall), colour)
-        yield svg.words((x + 19, y), name, svg.INK, 11)
-        x += 19 + svg.wide(name, 11) + 16
-    yield svg.line((x, y - 4), (x + 18, y - 4), svg.LIMIT, 1.5, "5 3")
-    yield svg.words((x + 23, y), "limit", svg.INK, 11)
+    marks = [("gets", 19.0, svg.swatch(y - 10, svg.GETS)),
+             ("wants", 19.0, svg.swatch(y - 10, svg.WANTS)),
+             *((name, 19.0, svg.swatch(y - STRIP, colour, STRIP)) for _, name, colour in FLAGS),
+             ("limit", 23.0, lambda x: svg.line((x, y - 4), (x + 18, y - 4), svg.LIMIT, 1.5,
+                                                "5 3"))]
+    return svg.legend(EDGE, y, marks)
 
 
 def time_labels(series: Series, y: float) -> Iterator[str]:
-    """The names of some samples, as many as have room."""
     count = len(series.names)
     widest = max(svg.wide(shown(name), 10) for name in series.names) + 16
     each = max(-(-count // max(int(WIDE // widest), 1)), 1)
@@ -404,7 +343,7 @@ def picture(series: Series) -> str:
     height = TOP + 16 + len(series.groups) * (TALL + GAP) + 12
     title = f"{len(series.names)} samples, CPUs in each: {text.host_words(series.plan)}"
     parts = [svg.words((EDGE, 24), title, svg.INK, 13, "start", True), *legend(46)]
-    for place in range(len(series.groups)):
-        parts += panel(series, place, TOP + 22 + place * (TALL + GAP))
+    for place, path in enumerate(series.groups):
+        parts += panel(series, path, TOP + 22 + place * (TALL + GAP))
     parts += time_labels(series, height - 10)
     return svg.document(LEFT + WIDE + 3 * EDGE, height, title, parts)

@@ -1,7 +1,7 @@
 """Pieces of pictures as SVG text, each number with at most one decimal."""
 from __future__ import annotations
 
-from collections.abc import Sequence
+from collections.abc import Callable, Iterable, Iterator, Sequence
 from xml.sax.saxutils import escape, quoteattr
 
 from arbiter_host.names import shown, width
@@ -15,7 +15,6 @@ Point = tuple[float, float]
 
 
 def number(value: float) -> str:
-    """A number as it is written."""
     return f"{value:.1f}".rstrip("0").rstrip(".")
 
 
@@ -57,6 +56,20 @@ def wide(text: str, size: float = 12) -> float:
     return width(text) * LETTER * size / 12
 
 
+def swatch(y: float, colour: str, tall: float = 12) -> Callable[[float], str]:
+    """A filled mark of a legend, at a place from the left."""
+    return lambda x: box((x, y), (14, tall), colour)
+
+
+def legend(x: float, y: float,
+           marks: Iterable[tuple[str, float, Callable[[float], str]]]) -> Iterator[str]:
+    """What marks mean: each mark, and behind so much room its name."""
+    for name, room, mark in marks:
+        yield mark(x)
+        yield words((x + room, y), name, INK, 11)
+        x += room + wide(name, 11) + 16
+
+
 def steps(most: float, about: int) -> list[float]:
     """Round numbers from 0 to the greatest that is not above `most`, at most `about` and one."""
     step = 0.001
@@ -67,7 +80,6 @@ def steps(most: float, about: int) -> list[float]:
 
 
 def head(width_: float, height: float, title: str, space: str = "", typeface: str = "") -> str:
-    """The beginning of a picture."""
     wide_, tall = number(width_), number(height)
     return (f'<svg{space} width="{wide_}" height="{tall}" viewBox="0 0 {wide_} {tall}"{typeface}'
             f' role="img" aria-label={quoteattr(shown(title))}>')

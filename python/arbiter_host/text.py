@@ -8,6 +8,7 @@ from collections.abc import Callable, Collection, Sequence
 from fractions import Fraction
 from typing import NamedTuple
 
+from arbiter import Host
 from arbiter_host import units
 from arbiter_host.names import cut, padded, width
 from arbiter_host.plan import Plan
@@ -34,6 +35,13 @@ def amount(plan: Plan, slices: int | None, unit: str) -> str:
     one = host.slice_us * {"cpu": 1, "m": 1000, "%": 100}[unit]
     # (division of whole numbers rounds to the nearest float)
     return f"{slices * one / host.period_us:.{places(one, host.period_us)}f}"
+
+
+def in_unit(host: Host, thousandths: Fraction, unit: str) -> Fraction:
+    """Thousandths of a CPU in a unit."""
+    return thousandths * {"cpu": Fraction(1, 1000), "m": Fraction(1), "%": Fraction(1, 10),
+                          "us": Fraction(host.period_us, 1000),
+                          "slices": Fraction(host.period_us, 1000 * host.slice_us)}[unit]
 
 
 @functools.lru_cache(maxsize=64)
@@ -67,7 +75,6 @@ def terminal_width() -> int:
 
 
 def cpus(count: int) -> str:
-    """A number of CPUs."""
     return "1 CPU" if count == 1 else f"{count} CPUs"
 
 

@@ -12,7 +12,7 @@ from typing import Any
 
 from arbiter import Unmet
 from arbiter_host import knobs
-from arbiter_host.goals import Goals, Way, above, goals_of
+from arbiter_host.goals import Goals, Way, goals_of
 from arbiter_host.knobs import Knob, Knobs
 from arbiter_host.other_limits import by_limits
 from arbiter_host.plan import Plan, payers
@@ -38,7 +38,6 @@ class Tuned:
 
     @property
     def before(self) -> Plan:
-        """The plan as it is."""
         return self.asked.before
 
     @property
@@ -46,7 +45,7 @@ class Tuned:
         """The groups of goals, and those above them, whose settings are kept."""
         before = self.before
         on_paths = {each.row for goal in self.asked.goals
-                    for each in (goal.group, *above(before, goal.group))}
+                    for each in (goal.group, *before.above(goal.group))}
         return [before.groups[row].path for row in sorted(self.asked.kept & on_paths)]
 
     @property
@@ -63,7 +62,6 @@ class Tuned:
 
     @property
     def is_nothing(self) -> bool:
-        """Whether no settings were found."""
         return self.best is None and all(each.least is None for each in self.alone)
 
 

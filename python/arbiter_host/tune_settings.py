@@ -6,17 +6,18 @@ from __future__ import annotations
 
 from collections.abc import Sequence
 from dataclasses import dataclass, replace
+from functools import partial
 
 from arbiter import Unmet
 from arbiter_host import owned, search
-from arbiter_host.goals import NEEDED, Goal, Goals, NewSetting, Way
+from arbiter_host.goals import Goal, Goals, NewSetting, Way
 from arbiter_host.model import Model
 from arbiter_host.names import shown
 from arbiter_host.owned import Owned, Range, Setting
-from arbiter_host.plan import Plan, Planned
+from arbiter_host.plan import Plan
 
-# At most so many settings are raised one by one, and left out.
-MOST_RAISES, MOST_LEFT = 200, 64
+# At most so many settings are raised one by one.
+MOST_RAISES = 200
 RAISED = "one after another, each the least beside the others; not proved to be the least"
 
 
@@ -30,19 +31,18 @@ class Raised:
 
     @property
     def model(self) -> Model:
-        """The model with the settings."""
         return owned.remade(self.goals.before.model, self.source, list(self.settings.values()))
 
     def plan(self) -> Plan:
-        """The accepted plan with the settings."""
         return self.goals.plan_of(self.model)
 
     def only(self, rows: Sequence[int]) -> Raised:
-        """These settings, of some rows alone."""
         return replace(self, settings={row: self.settings[row] for row in rows})
 
+    def plan_with(self, rows: Sequence[int]) -> Plan:
+        return self.only(rows).plan()
+
     def with_value(self, row: int, of: Range, value: int) -> Raised:
-        """These settings with another value in a row."""
         setting = Setting(self.goals.before.groups[row].path, of.key, of.written(value))
         return replace(self, settings={**self.settings, row: setting})
 
@@ -59,7 +59,7 @@ class Raised:
         return row, changed.weighing(list(changed.plain.groups)[row - 1])
 
     def raised(self, goal: Goal) -> Raised | str:
-        """These settings with the least value that meets one goal, or why there is none."""
+        """The same with the least value that meets one goal, or why there is none."""
         known = self.range_of(goal)
         if isinstance(known, str):
             return known
@@ -70,65 +70,44 @@ class Raised:
             return f"{shown(goal.group.path)}: no {of.key} reaches its goal ({of.most})"
         return self.with_value(row, of, value)
 
-    def weighed(self, group: Planned, weight: int) -> Raised | None:
-        """These settings with the least one of a group that gives it a weight at least, and changes
-        no other group's weight."""
-        if not self.source.has(group.path) or "request" in self.source.keys:
-            return None
-        of = self.source.weighing(group.path)
+    def weighed(self, weights: Sequence[int]) -> Raised | None:
+        """The same with the least settings that give groups some weights at least, and no other
+        group another weight. None where a group that changes has no such setting."""
+        known = self
+        for group, weight in zip(self.goals.before.groups, weights):
+            if weight == group.weight:
+                continue
+            if not self.source.has(group.path) or "request" in self.source.keys:
+                return None
+            of = self.source.weighing(group.path)
+            value = search.least_of(of.parts, partial(known.weighs, group.row, of, weight))
+            if value is None:
+                return None
+            known = known.with_value(group.row, of, value)
+        return known
 
-        def weighs(value: int) -> bool:
-            after = self.with_value(group.row, of, value).model
-            return list(after.groups.values())[group.row - 1].weight >= weight
-
-        value = search.least_of(of.parts, weighs)
-        return None if value is None else self.with_value(group.row, of, value)
+    def weighs(self, row: int, of: Range, weight: int, value: int) -> bool:
+        """Whether a value of the setting of a row gives it a weight at least."""
+        after = self.with_value(row, of, value).model
+        return list(after.groups.values())[row - 1].weight >= weight
 
     def changes(self) -> list[NewSetting]:
-        """The changes of the settings."""
         return [NewSetting(setting.path, setting.key, now, setting.value)
                 for setting in (self.settings[row] for row in sorted(self.settings))
                 if (now := self.source.weighing(setting.path).now) != setting.value]
 
 
-def weighed(start: Raised, weights: Sequence[int]) -> Raised | None:
-    """The least settings with which groups have some weights at least.
-
-    None where a group that changes has no setting that gives its weight alone.
-    """
-    known: Raised | None = start
-    for group, weight in zip(start.goals.before.groups, weights):
-        if known is not None and weight != group.weight:
-            known = known.weighed(group, weight)
-    return known
-
-
-def raised(start: Raised) -> tuple[Raised, Plan] | str:
-    """Settings that are raised one after another until all goals are met, with their plan."""
+def raised(start: Raised) -> Raised | str:
+    """Settings that are raised one after another until all goals are met."""
     for _ in range(MOST_RAISES):
-        after = start.plan()
-        place = start.goals.short(after)
+        place = start.goals.short(start.plan())
         if place is None:
-            return start, after
+            return start
         more = start.raised(start.goals.goals[place])
         if isinstance(more, str):
             return more
         start = more
     return f"goals are not met after {MOST_RAISES} raises"
-
-
-def without_needless(known: Raised, after: Plan) -> tuple[Raised, Plan, str]:
-    """The settings without those that can be left out, their plan, and what is known of them."""
-    if len(known.settings) > MOST_LEFT:
-        return known, after, RAISED
-    kept = known.only(search.needed(sorted(known.settings), lambda rows: known.goals.are_met(
-        known.only(rows).plan()), "settings"))
-    return kept, kept.plan(), RAISED + NEEDED
-
-
-def weights_in(plan: Plan) -> list[int]:
-    """The weight of each row of a plan."""
-    return [group.weight for group in plan.groups]
 
 
 def by_settings(goals: Goals, weights: Way | Unmet) -> Way | str | None:
@@ -139,11 +118,13 @@ def by_settings(goals: Goals, weights: Way | Unmet) -> Way | str | None:
         return None
     start = Raised(goals, source, {})
     if isinstance(weights, Way):
-        start = weighed(start, weights_in(weights.plan)) or start
-    answer = raised(start)
-    if isinstance(answer, str):
-        return answer
-    known, after, told = without_needless(*answer)
-    if isinstance(weights, Way) and weights_in(after) == weights_in(weights.plan):
+        start = start.weighed(weights.plan.weights) or start
+    known = raised(start)
+    if isinstance(known, str):
+        return known
+    rows, more = goals.needed(sorted(known.settings), known.plan_with, "settings")
+    known, told = known.only(rows), RAISED + more
+    after = known.plan()
+    if isinstance(weights, Way) and after.weights == weights.plan.weights:
         told = weights.told
     return goals.way(after, known.changes(), told)

@@ -13,12 +13,12 @@ from dataclasses import replace
 
 from arbiter import Columns, Unmet
 from arbiter.columns import U64
-from arbiter_host import progress, search, units
-from arbiter_host.goals import NEEDED, Goals, NewSetting, Way, above
+from arbiter_host import search, units
+from arbiter_host.goals import Goals, NewSetting, Way
 from arbiter_host.model import planned
 from arbiter_host.plan import Plan, Planned, asking
 
-# At most so many weights are put back one by one, and ways down the tree are tried.
+# At most so many weights are put back, and ways down the tree are tried.
 MOST_BACK, MOST_CLIMBS = 64, 64
 LEAST = "proved: of all weights that lower none and meet the goals these are the least"
 LOWER = "greater weights alone do not meet the goals; not proved to be the fewest changes"
@@ -56,9 +56,9 @@ def tuned_free(goals: Goals, weights: Sequence[int]) -> list[int] | Unmet:
     free = goals.free
     answer = tuned(goals, weights, [(goals.goals[place].group.row, goals.goals[place].amount)
                                     for place in free])
-    if isinstance(answer, Unmet):
-        return Unmet(free[answer.goal], [free[each] for each in answer.together])
-    return answer
+    if isinstance(answer, list):
+        return answer
+    return Unmet(free[answer.goal], [free[each] for each in answer.together])
 
 
 def own_weights(goals: Goals) -> list[int] | Unmet:
@@ -78,7 +78,6 @@ def own_weights(goals: Goals) -> list[int] | Unmet:
 
 
 def changed_rows(goals: Goals, weights: Sequence[int]) -> list[int]:
-    """The rows whose weight is another."""
     return [row for row, (was, weight) in enumerate(zip(goals.weights, weights)) if weight != was]
 
 
@@ -96,19 +95,19 @@ def fewer(goals: Goals, weights: list[int]) -> list[int]:
     return weights
 
 
+def replaced(weights: Sequence[int], some: Mapping[int, int]) -> list[int]:
+    """The weights, with those of some rows in their places."""
+    return [some.get(row, weight) for row, weight in enumerate(weights)]
+
+
 def put_back(goals: Goals, weights: list[int]) -> list[int]:
     """The weights, of which each that is less than it stands is put back as far as all goals are
     met so too. The greater it is, the less the other groups get."""
     now = goals.weights
     lowered = [row for row, weight in enumerate(weights) if weight < now[row]][:MOST_BACK]
-    with progress.bar("weights", len(lowered)) as step:
-        for row in lowered:
-            before, after, most = weights[:row], weights[row + 1:], now[row]
-            lost = search.least(0, most - weights[row], lambda less: goals.are_met(
-                goals.plan([*before, most - less, *after])))
-            weights = [*before, most - lost, *after]
-            step()
-    return weights
+    return replaced(weights, search.raised(
+        {row: weights[row] for row in lowered}, {row: now[row] for row in lowered},
+        lambda some: goals.are_met(goals.plan(replaced(weights, some))), "weights"))
 
 
 def goals_at(goals: Goals, depth: int, extras: Mapping[int, int]) -> list[tuple[int, int]]:
@@ -150,7 +149,7 @@ def climbed(goals: Goals) -> list[int] | None:
         if isinstance(answer, list):
             return trimmed(goals, extras, answer)
         grown = {group.row: max(2 * extras.get(group.row, 0), 1)
-                 for group in above(goals.before, answer)}
+                 for group in goals.before.above(answer)}
         if not grown or max(grown.values()) > goals.before.capacity:
             return None
         extras |= grown
@@ -188,10 +187,8 @@ def is_short_above(goals: Goals) -> bool:
     goal's group gives it more: none is a sibling of it, or of a group above it."""
     before, parents = goals.before, {goal.group.parent for goal in goals.goals}
 
-    def is_fixed(row: int) -> bool:
-        return parents.isdisjoint({0, *(each.row for each in above(before, before.groups[row]))})
-
-    return any(is_fixed(row) and goals.amount(before, row) < amount
+    return any(goals.amount(before, row) < amount and parents.isdisjoint(
+        {0, *(each.row for each in before.above(before.groups[row]))})
                for row, amount in goals.sums.items())
 
 
@@ -211,30 +208,18 @@ def weights_above(goals: Goals) -> list[int] | None:
 def first_weights(goals: Goals) -> tuple[list[int], str] | Unmet:
     """Weights by the first way that finds some and what is known of them, or the goals that cannot
     be met together."""
-    # (the library may need long to find that goals ask for little more than a group above has)
-    is_early = is_short_above(goals)
-    climb = weights_above(goals) if is_early else None
-    if climb is not None:
-        return climb, CLIMBED
-    own = own_weights(goals)
-    if not isinstance(own, Unmet):
-        return own, LEAST
-    climb = None if is_early else weights_above(goals)
-    return own if climb is None else (climb, CLIMBED)
-
-
-def without_needless(goals: Goals, weights: list[int], told: str) -> tuple[list[int], str]:
-    """The weights without those changes that can be left out, and what is known of them."""
-    now, rows = goals.weights, changed_rows(goals, weights)
-    if len(rows) > MOST_BACK:
-        return weights, told
-
-    def of_rows(some: Sequence[int]) -> list[int]:
-        return [weight if row in some else now[row] for row, weight in enumerate(weights)]
-
-    needed = search.needed(rows, lambda some: goals.are_met(goals.plan(of_rows(some))),
-                           "weights")
-    return of_rows(needed), told + NEEDED
+    ways = [(own_weights, LEAST), (weights_above, CLIMBED)]
+    if is_short_above(goals):
+        # (the library may need long to find that goals ask for little more than a group above has)
+        ways.reverse()
+    clash = None
+    for find, told in ways:
+        answer = find(goals)
+        if isinstance(answer, list):
+            return answer, told
+        clash = answer or clash
+    assert clash is not None, "own_weights answers weights or goals"
+    return clash
 
 
 def by_weights(goals: Goals) -> Way | Unmet:
@@ -243,12 +228,17 @@ def by_weights(goals: Goals) -> Way | Unmet:
     if isinstance(first, Unmet):
         return first
     weights, told = first
-    if any(then < weight for then, weight in zip(weights, goals.weights)):
+    now, groups = goals.weights, goals.before.groups
+    if any(then < weight for then, weight in zip(weights, now)):
         weights = put_back(goals, fewer(goals, weights) if told == LEAST else weights)
         told = LOWER if told == LEAST else told
+
+    def plan_with(rows: Sequence[int]) -> Plan:
+        return goals.plan(replaced(now, {row: weights[row] for row in rows}))
+
+    rows: Sequence[int] = changed_rows(goals, weights)
     if told != LEAST:
-        weights, told = without_needless(goals, weights, told)
-    groups = goals.before.groups
-    changes = [NewSetting(groups[row].path, "weight", str(groups[row].weight), str(weights[row]))
-               for row in changed_rows(goals, weights)]
-    return goals.way(goals.plan(weights), changes, told)
+        rows, more = goals.needed(rows, plan_with, "weights")
+        told += more
+    return goals.way(plan_with(rows), [NewSetting(
+        groups[row].path, "weight", str(now[row]), str(weights[row])) for row in rows], told)

@@ -17,7 +17,6 @@ def files() -> dict[Path, str]:
 
 
 def main() -> None:
-    """Writes the files."""
     for path, text in files().items():
         path.parent.mkdir(exist_ok=True)
         path.write_text(text, encoding="utf-8")

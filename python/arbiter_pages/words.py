@@ -2,14 +2,14 @@
 from __future__ import annotations
 
 import argparse
-from collections.abc import Sequence
 from dataclasses import dataclass
 
+from jinja2 import Environment, PackageLoader
+
 from arbiter_host import command, options as table
-from arbiter_host.subcommands import every
 from arbiter_host.subcommands.base import Subcommand
 
-ARGUMENTS = "positional arguments"
+ARGUMENTS = "Arguments"
 # Names of values that are files or folders.
 FILES = ("FILE", "DIR", "FILE|DIR|URL", "PATH", "SOURCE", "BEFORE [AFTER]")
 
@@ -27,58 +27,48 @@ class Word:
 
     @property
     def is_file(self) -> bool:
-        """Whether its value is a file or a folder."""
         return self.value in FILES
 
     @property
     def takes_value(self) -> bool:
-        """Whether a value follows."""
         return bool(self.value or self.values)
 
 
-@dataclass(frozen=True)
-class Section:
-    """Words under a title of the help."""
-
-    title: str
-    words: tuple[Word, ...]
-
-
-def option_of(option: table.Option, subcommand: str) -> Word:
-    """A word of the table."""
-    return Word(option.flags, option.metavar, option.words_of(subcommand),
-                option.help_of(subcommand), option.is_many)
+HELP = Word(("-h", "--help"), "", (), "print help")
 
 
 def argument_of(action: argparse.Action) -> Word:
-    """An argument of the parser."""
     value = action.metavar if isinstance(action.metavar, str) else action.dest.upper()
     return Word((), value, (), (action.help or "").replace("%%", "%"), action.nargs in ("+", "*"),
                 action.nargs not in ("?", "*"))
 
 
-def sections(each: Subcommand) -> list[Section]:
+def sections(each: Subcommand) -> dict[str, list[Word]]:
     """The words of a subcommand by the titles of its help, without that for help itself."""
     titles: dict[str, list[Word]] = {}
     for action in command.parser_of(each)._actions:  # no public name has them
         if not action.option_strings:
             titles.setdefault(ARGUMENTS, []).append(argument_of(action))
     for option in table.of(each.name):
-        titles.setdefault(option.title, []).append(option_of(option, each.name))
-    return [Section(title, tuple(part)) for title, part in titles.items()]
+        titles.setdefault(option.title.capitalize(), []).append(Word(
+            option.flags, option.metavar, option.words_of(each.name), option.help_of(each.name),
+            option.is_many))
+    return titles
 
 
 def arguments(each: Subcommand) -> list[Word]:
     """The arguments of a subcommand."""
-    return [word for part in sections(each) for word in part.words if not word.names]
+    return [word for part in sections(each).values() for word in part if not word.names]
 
 
 def options(each: Subcommand) -> list[Word]:
     """The options of a subcommand, help among them."""
-    words = [word for part in sections(each) for word in part.words if word.names]
-    return [*words, Word(("-h", "--help"), "", (), "print help")]
+    return [*(word for part in sections(each).values() for word in part if word.names), HELP]
 
 
-def subcommands() -> Sequence[Subcommand]:
-    """All subcommands in order."""
-    return every()
+def environment() -> Environment:
+    """What renders the templates of this package, with the questions to a subcommand."""
+    made = Environment(loader=PackageLoader("arbiter_pages"), trim_blocks=True, lstrip_blocks=True,
+                       keep_trailing_newline=True)
+    made.filters |= {"sections": sections, "arguments": arguments, "options": options}
+    return made

@@ -4,7 +4,6 @@
     fleet_worker.py ADDRESS MODE     a worker: honest, or wrong in one way
 """
 import asyncio
-import json
 import os
 import sys
 import time
@@ -14,32 +13,32 @@ from places import PACKAGE
 
 sys.path[:0] = [str(PACKAGE)]
 from arbiter_host.fleet import work  # noqa: E402
-from arbiter_host.fleet.evidence import packed, unpacked  # noqa: E402
-from arbiter_host.plan import Certified  # noqa: E402
+from arbiter_host.fleet.answers import unpacked  # noqa: E402
 
 
-def forged(job_text, item):
+def forged(job, host):
     """The last group gets one slice more."""
-    told = json.loads(honest(job_text, item))
-    columns, found = unpacked(told["plans"][0], len(told["paths"][0]))
-    amounts = [found.amounts[0] + 1, *found.amounts[1:-1], found.amounts[-1] + 1]
-    told["plans"] = [packed(columns, Certified(amounts, found.certificate))]
-    return json.dumps(told).encode()
+    told = honest(job, host)
+    (plan,) = told.plans
+    columns, amounts, certificate = unpacked(plan.data, len(plan.paths))
+    amounts[0] += 1
+    amounts[-1] += 1
+    return told._replace(plans=[plan._replace(data=work.packed(columns, amounts, certificate))])
 
 
-def hung(job_text, item):
+def hung(job, host):
     """Never ends. What waits for it reads that it has begun."""
     print("begun", flush=True)
     time.sleep(3600)
 
 
-def pickled(job_text, item):
-    """An object in place of bytes."""
-    return {"results": item}
+def other(job, host):
+    """An object of another kind."""
+    return {"results": host}
 
 
 honest = work.answered
-MODES = {"honest": honest, "forged": forged, "hung": hung, "pickled": pickled}
+MODES = {"honest": honest, "forged": forged, "hung": hung, "other": other}
 
 
 async def scheduler():

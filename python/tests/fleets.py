@@ -3,7 +3,7 @@ import random
 from types import SimpleNamespace
 
 from arbiter_host.fleet import hosts, questions
-from arbiter_host.fleet.job import Job
+from arbiter_host.fleet.work import Job
 
 READING = {"kind": None, "want": None, "scale": [], "read": None, "node": "", "strict": False,
            "cpus": None, "period": None, "slice": None, "node_weights": "linear", "used": []}

@@ -2,15 +2,17 @@
 import json
 import os
 import re
+import zlib
 from fractions import Fraction
 
 import fleets
 import pytest
+from arbiter import Host
 from arbiter_host import command
 from arbiter_host.faults import UsageFault
-from arbiter_host.fleet import figures, work
-from arbiter_host.fleet.evidence import packed, unpacked
-from arbiter_host.plan import Certified, columns_of
+from arbiter_host.fleet import report, work
+from arbiter_host.fleet.answers import unpacked
+from arbiter_host.fleet.work import Sent, SentPlan, packed
 from arbiter_host.sources import script
 from arbiter_host.sources.wish import Wish
 from places import PACKAGE
@@ -162,36 +164,47 @@ def test_certificates_travel(engine):
     """Rows and their certificate are read back as they were; of other rows there are none."""
     files = [("x", fleets.script(3, GROUPS).encode())]
     model = script.read(files, engine.library, Wish())
-    columns = columns_of(model.rows(engine.library))
-    found = engine.certified(model.host, columns)
-    text = packed(columns, found)
-    rows, again = unpacked(text, len(columns))
-    assert rows.given and bytes(rows.limits) == bytes(columns.limits)
-    assert (list(again.amounts), again.certificate) == (found.amounts, found.certificate)
-    for wrong in ("", "!", text[:40]):
-        with pytest.raises((ValueError, OSError, Exception)):
-            unpacked(wrong, len(columns))
+    found = engine.plan(model.host, model.rows(engine.library))
+    count = len(found.amounts)
+    data = packed(found.columns, found.amounts, found.certificate)
+    rows, amounts, certificate = unpacked(data, count)
+    assert rows.given and bytes(rows.limits) == bytes(found.columns.limits)
+    assert (list(amounts), certificate) == (found.amounts, found.certificate)
+    for wrong in (b"", b"!", data[:40], packed(found.columns, found.amounts[1:], certificate)):
+        with pytest.raises((ValueError, zlib.error)):
+            unpacked(wrong, count)
 
 
-def forged(told):
+def forged(sent):
     """Whoever gets most gets one slice more."""
-    columns, found = unpacked(told["plans"][0], len(told["paths"][0]))
-    amounts = list(found.amounts)
+    paths, data = sent.plans[0]
+    columns, amounts, certificate = unpacked(data, len(paths))
     amounts[-1] += 1
     amounts[0] += 1
-    told["plans"][0] = packed(columns, Certified(amounts, found.certificate))
+    return sent._replace(plans=[SentPlan(paths, packed(columns, amounts, certificate))])
+
+
+def renamed(sent, change):
+    """Other paths of the first plan."""
+    paths, data = sent.plans[0]
+    return sent._replace(plans=[SentPlan(change(paths), data)])
 
 
 LIES = {
     "an amount": (forged, "the check refused the plan"),
-    "no plan": (lambda told: told.update(plans=[]), "fewer plans than were asked"),
-    "other groups": (lambda told: told["paths"][0].append("more"), "cannot be read: ValueError"),
-    "no certificate": (lambda told: told.update(plans=["!"]), "cannot be read"),
-    "another host": (lambda told: told.update(host=[1, 100000, 50000]), "refused the plan"),
-    "no host": (lambda told: told.update(host=[0, 0, 0]), "period 0"),
-    "names that are none": (lambda told: told["paths"][0].__setitem__(1, 7), "cannot be read"),
-    "no number": (lambda told: told.update(notes="x"), "cannot be read"),
-    "nothing": (dict.clear, "cannot be read: KeyError"),
+    "no plan": (lambda sent: sent._replace(plans=[]), "fewer plans than were asked"),
+    "other groups": (lambda sent: renamed(sent, lambda paths: [*paths, "more"]),
+                     "cannot be read: ValueError"),
+    "no certificate": (lambda sent: sent._replace(plans=[SentPlan(sent.plans[0].paths, b"!")]),
+                       "cannot be read"),
+    "another host": (lambda sent: sent._replace(host=Host(1, 100000, 50000)), "refused the plan"),
+    "no host": (lambda sent: sent._replace(host=Host(0, 0, 0)), "period 0"),
+    "a host of words": (lambda sent: sent._replace(host=Host("1", 100000, 5000)),
+                        "a host of other than whole numbers"),
+    "names that are none": (lambda sent: renamed(sent, lambda paths: [".", 7, *paths[2:]]),
+                            "cannot be read"),
+    "no number": (lambda sent: sent._replace(told={**sent.told, "notes": "x"}), "cannot be read"),
+    "nothing": (lambda sent: sent._replace(told={}), "cannot be read: KeyError"),
 }
 
 
@@ -201,11 +214,9 @@ def test_a_wrong_answer_is_a_fault_of_its_host(fleet, calls, monkeypatch, lie):
     right = fleets.asked(fleet, calls)[0]
     honest, (change, said) = work.answered, LIES[lie]
 
-    def answered(job_text, item):
-        told = json.loads(honest(job_text, item))
-        if item.host == "host-00003":
-            change(told)
-        return json.dumps(told).encode()
+    def answered(job, host):
+        sent = honest(job, host)
+        return change(sent) if host.name == "host-00003" else sent
 
     monkeypatch.setattr(work, "answered", answered)
     found, missing = fleets.asked(fleet, calls)
@@ -213,13 +224,15 @@ def test_a_wrong_answer_is_a_fault_of_its_host(fleet, calls, monkeypatch, lie):
     assert found == {name: each for name, each in right.items() if name not in missing}
 
 
-@pytest.mark.parametrize("data", [b"", b"\xff", b"[" * 100000, b"7", b"null", b"[]",
-                                  b'{"why": {}}'],
-                         ids=lambda data: repr(data)[:20])
-def test_a_reply_that_is_none(fleet, calls, monkeypatch, data):
-    monkeypatch.setattr(work, "answered", lambda job_text, item: data)
+@pytest.mark.parametrize("sent", [b"", 7, None, [], {}, ("x",), Sent(None, None, None),
+                                  Sent(Host(), [SentPlan(["."], "x")], {}),
+                                  Sent(Host(), [(["."], b"x")], {}), Sent(Host(), 7, 7)],
+                         ids=lambda sent: repr(sent)[:20])
+def test_a_reply_that_is_none(fleet, calls, monkeypatch, sent):
+    monkeypatch.setattr(work, "answered", lambda job, host: sent)
     found, missing = fleets.asked(fleet, calls)
     assert found == {} and len(missing) == HOSTS
+    assert all("what its worker answers cannot be read" in each for each in missing.values())
 
 
 # What is no host
@@ -317,11 +330,13 @@ def test_what_is_one_host(folder):
 
 def test_quantiles():
     """Nearest ranks, with weights."""
-    assert figures.quantiles([]) == []
-    assert figures.quantiles([(Fraction(3), 1)]) == [3] * 7
-    assert figures.quantiles((Fraction(each), 1) for each in range(1, 101)) == [
-        1, 5, 25, 50, 75, 95, 100]
-    assert figures.quantiles([(Fraction(0), 94), (Fraction(9), 6)]) == [0, 0, 0, 0, 0, 9, 9]
+    def of(pairs):
+        return list(report.quantiles(pairs).values())
+
+    assert of([]) == []
+    assert of([(Fraction(3), 1)]) == [3] * 7
+    assert of((Fraction(each), 1) for each in range(1, 101)) == [1, 5, 25, 50, 75, 95, 100]
+    assert of([(Fraction(0), 94), (Fraction(9), 6)]) == [0, 0, 0, 0, 0, 9, 9]
 
 
 @pytest.mark.parametrize("words", [

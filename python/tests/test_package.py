@@ -43,8 +43,29 @@ def test_columns(path):
     assert [line for line in lines if len(line) > MOST_COLUMNS] == []
 
 
+def module(path):
+    """The last part of a module's name."""
+    return path.parent.name if path.stem == "__init__" else path.stem
+
+
+def named(path):
+    """What a module names of others: the last part of the other's name, and the name in it."""
+    tree, modules, found = ast.parse(path.read_text(encoding="utf-8")), {}, set()
+    for node in ast.walk(tree):
+        if isinstance(node, ast.ImportFrom):
+            modules |= {each.asname or each.name: each.name for each in node.names}
+            found |= {(node.module.rpartition(".")[2], each.name) for each in node.names}
+    return found | {(modules[node.value.id], node.attr) for node in ast.walk(tree)
+                    if isinstance(node, ast.Attribute) and isinstance(node.value, ast.Name)
+                    and node.value.id in modules}
+
+
+NAMED = set().union(*map(named, SOURCES))
+
+
 @pytest.mark.parametrize("path", SOURCES, ids=lambda path: path.name)
 def test_functions_are_short_and_have_comments(path):
+    """Each module and class has a comment, and each function that another module names."""
     tree = ast.parse(path.read_text(encoding="utf-8"))
     assert ast.get_docstring(tree)
     for node in ast.walk(tree):
@@ -52,7 +73,8 @@ def test_functions_are_short_and_have_comments(path):
             lines = (node.end_lineno or 0) - node.lineno + 1
             if isinstance(node, ast.FunctionDef):
                 assert lines <= MOST_LINES, f"{node.name}: {lines} lines"
-    public = [node for node in tree.body if isinstance(node, (ast.FunctionDef, ast.ClassDef))]
+    public = [node for node in tree.body if isinstance(node, ast.ClassDef)
+              or isinstance(node, ast.FunctionDef) and (module(path), node.name) in NAMED]
     assert [node.name for node in public if not ast.get_docstring(node)] == []
 
 

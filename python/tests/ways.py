@@ -6,14 +6,14 @@ import time
 from arbiter_host.fleet import work
 
 
-def by_name(job_text, item):
+def by_name(job, host):
     """What the name of the host says: to die, to raise, to take a while, else to be right."""
-    if item.host.startswith("die"):
+    if host.name.startswith("die"):
         os.kill(os.getpid(), signal.SIGKILL)
-    if item.host.startswith("raise"):
+    if host.name.startswith("raise"):
         raise ValueError("\x1b[31m")
-    if item.host.startswith("hang"):
+    if host.name.startswith("hang"):
         time.sleep(3600)
-    if item.host.startswith("slow"):
+    if host.name.startswith("slow"):
         time.sleep(0.7)
-    return work.answered(job_text, item)
+    return work.answered(job, host)

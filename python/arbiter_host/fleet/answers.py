@@ -5,137 +5,211 @@ worker that is wrong costs its host the answer, and shows no other amount.
 """
 from __future__ import annotations
 
-import json
+import ctypes
 import zlib
+from array import array
 from collections import Counter
-from collections.abc import Iterator, Sequence
+from collections.abc import Callable, Iterator, Sequence
+from dataclasses import astuple, dataclass
+from fractions import Fraction
+from functools import cached_property
 from typing import Any
 
+from arbiter import Certificate, Columns, Host
+from arbiter.c import NO_LIMIT
 from arbiter_host import series
 from arbiter_host.faults import HostFault
-from arbiter_host.fleet.evidence import Accepted, accepted, told_host
-from arbiter_host.fleet.job import Job
-from arbiter_host.plan import Engine
+from arbiter_host.fleet.work import Job, Sent, SentPlan
+from arbiter_host.model import checked
+from arbiter_host.plan import Answer, Engine
 from arbiter_host.series import SampleCell
 
 # Most groups that an answer names for one reason.
 MOST_NAMED = 5
+# The types of the columns: those of the rows, the amounts, and those of the certificate.
+KINDS = ("I", "Q", "Q", "Q", "Q", "B", "Q", "Q", "I")
 # What a reply of another form than that of `work` may raise.
 BROKEN = (ValueError, KeyError, TypeError, IndexError, AttributeError, OverflowError,
-          RecursionError, zlib.error)
+          RecursionError, zlib.error, ctypes.ArgumentError)
+
+
+@dataclass(frozen=True)
+class HostAnswer:
+    """One host's answer."""
+
+    name: str
+    answer: dict[str, Any]
+
+    def cpus(self, slices: int) -> Fraction:
+        """CPUs that slices of one of its periods are. Fractions add up exactly over hosts."""
+        return Fraction(slices * self.answer["slice_usec"], self.answer["period_usec"])
+
+    def of(self, *keys: str) -> Fraction:
+        """An amount of its answer in CPUs."""
+        found: Any = self.answer
+        for key in keys:
+            found = found[key]
+        return self.cpus(found)
+
+
+def unpacked(data: bytes, count: int) -> tuple[Columns, array[int], Certificate]:
+    """So many rows, their amounts and certificate. A ValueError or zlib.error where there are
+    none."""
+    size = sum(count * array(kind).itemsize for kind in KINDS)
+    raw = zlib.decompressobj().decompress(data, size + 1)
+    if len(raw) != size:
+        raise ValueError("of other rows")
+    arrays, at = [], 0
+    for kind in KINDS:
+        end = at + count * array(kind).itemsize
+        arrays.append(array(kind, raw[at:end]))
+        at = end
+    return Columns(*arrays[:4]), arrays[4], Certificate(*arrays[5:])
+
+
+@dataclass(frozen=True)
+class Accepted:
+    """A plan that the proved check accepted in this process. Lists have an entry for each row."""
+
+    host: Host
+    # The paths of the groups, `.` first.
+    paths: Sequence[str]
+    answer: Answer
+
+    @property
+    def gets(self) -> Sequence[int]:
+        return self.answer.amounts
+
+    @property
+    def wants(self) -> Sequence[int]:
+        return self.answer.figures.wants
+
+    def limit(self, row: int) -> int | None:
+        """The limit of a group; that of the root is the capacity."""
+        limit = self.answer.columns.limits[row]
+        return self.host.capacity if row == 0 else None if limit == NO_LIMIT else limit
+
+    @cached_property
+    def leaves(self) -> list[int]:
+        """The rows of the groups without children, in which demands are."""
+        above = set(self.answer.columns.parents)
+        return [row for row in range(1, len(self.paths)) if row not in above]
+
+    @cached_property
+    def sums(self) -> dict[str, int]:
+        return {"served": self.gets[0], "wanted": self.wants[0],
+                "lacking": sum(self.gets[row] < self.wants[row] for row in self.leaves),
+                "starved": sum(self.gets[row] == 0 < self.wants[row] for row in self.leaves),
+                "throttled": sum(self.answer.figures.tights[1:])}
+
+
+def accepted(engine: Engine, host: Host, plan: SentPlan) -> Accepted:
+    """A plan of a worker, once the proved check accepted it here."""
+    if not all(isinstance(each, str) for each in plan.paths):
+        raise TypeError(plan.paths)
+    return Accepted(host, plan.paths, engine.accepted(
+        host, *unpacked(plan.data, len(plan.paths))))
 
 
 def explained(_: Job, plans: Iterator[Accepted], told: dict[str, Any]) -> dict[str, Any]:
     """What a host serves, which groups are worst off, and what limits the total."""
-    found = next(plans)
-    worst = sorted((found.gets[row] - found.wants[row], found.paths[row], row)
-                   for row in found.leaves if found.gets[row] < found.wants[row])[:MOST_NAMED]
-    limiting = [[found.paths[row], found.limit(row)] for row in found.answer.limiting]
-    return {**found.sums, "limits": len(limiting), "limiting": limiting[:MOST_NAMED],
-            "worst": [[path, found.gets[row], found.wants[row]] for _, path, row in worst],
+    plan = next(plans)
+    worst = sorted((plan.gets[row] - plan.wants[row], plan.paths[row], row)
+                   for row in plan.leaves if plan.gets[row] < plan.wants[row])[:MOST_NAMED]
+    limiting = [[plan.paths[row], plan.limit(row)] for row in plan.answer.limiting]
+    return {**plan.sums, "limits": len(limiting), "limiting": limiting[:MOST_NAMED],
+            "worst": [[path, plan.gets[row], plan.wants[row]] for _, path, row in worst],
             "notes": int(told["notes"]), "refused": int(told["refused"])}
 
 
-def rows_after(before: Accepted, after: Accepted) -> Sequence[int]:
-    """The row that each group has after a change: its path's, or its own where paths change.
+def moved(before: Accepted, after: Accepted) -> list[tuple[int, str]]:
+    """By how much the amount of each group without children rises, and its path.
 
     A pod whose class changes has another path, and its row stays.
     """
-    if len(before.paths) == len(after.paths):
-        return range(len(before.paths))
-    then = {path: row for row, path in enumerate(after.paths)}
-    return [then[path] for path in before.paths]
-
-
-def moved(before: Accepted, after: Accepted) -> list[tuple[int, str]]:
-    """By how much the amount of each group without children rises, and its path."""
-    rows = rows_after(before, after)
+    rows: Sequence[int] = range(len(before.paths))
+    if len(before.paths) != len(after.paths):
+        then = {path: row for row, path in enumerate(after.paths)}
+        rows = [then[path] for path in before.paths]
     return [(after.gets[rows[row]] - before.gets[row], before.paths[row])
             for row in before.leaves]
+
+
+def losses(rises: Sequence[tuple[int, str]], sign: int = -1) -> list[list[Any]]:
+    """The groups that lose most, or gain most by the sign 1, each with its change."""
+    most = sorted((-sign * rise, path) for rise, path in rises if sign * rise > 0)[:MOST_NAMED]
+    return [[path, -sign * rise] for rise, path in most]
 
 
 def compared(_: Job, plans: Iterator[Accepted], told: dict[str, Any]) -> dict[str, Any]:
     """Who gains by a change and who loses."""
     before, after, paths = next(plans), next(plans), told["matched"]
     rises = moved(before, after)
-    gains = sorted((-rise, path) for rise, path in rises if rise > 0)[:MOST_NAMED]
-    losses = sorted((rise, path) for rise, path in rises if rise < 0)[:MOST_NAMED]
     of_set = [rise for rise, path in rises
               if any(path == each or path.startswith(each + "/") for each in paths)]
     return {"matched": len(paths), "before": before.sums, "after": after.sums,
             # How many groups have each change.
             "changes": sorted(Counter(rise for rise, _ in rises).items()),
             "changed_groups": sum(of_set), "others": sum(rise for rise, _ in rises) - sum(of_set),
-            "gains": [[path, -rise] for rise, path in gains],
-            "losses": [[path, rise] for rise, path in losses]}
-
-
-def loss(rises: Sequence[tuple[int, str]]) -> dict[str, Any]:
-    """Who loses, and how much."""
-    lost = sorted((rise, path) for rise, path in rises if rise < 0)
-    return {"lost": -sum(rise for rise, _ in lost), "losing": len(lost),
-            "losers": [[path, -rise] for rise, path in lost[:MOST_NAMED]]}
+            "gains": losses(rises, 1), "losses": losses(rises)}
 
 
 def placed(job: Job, plans: Iterator[Accepted], told: dict[str, Any]) -> dict[str, Any]:
     """What each pod gets by itself beside what is there, and who loses."""
-    before, found = next(plans), list[dict[str, Any]]()
+    before, pods = next(plans), list[dict[str, Any]]()
     for (name, _), pod in zip(job.pods, told["pods"], strict=True):
         if "why" in pod:
-            found.append({"pod": name, "why": str(pod["why"])})
+            pods.append({"pod": name, "why": str(pod["why"])})
             continue
         after, asking = next(plans), set(pod["asking"])
         rows = [row for row in after.leaves if after.paths[row] in asking]
-        found.append({"pod": name, "gets": sum(after.gets[row] for row in rows),
-                      "wants": sum(after.wants[row] for row in rows),
-                      "left": after.host.capacity - after.gets[0],
-                      **loss(moved(before, after))})
-    return {"before": before.sums, "pods": found}
+        rises = moved(before, after)
+        lost = [-rise for rise, _ in rises if rise < 0]
+        pods.append({"pod": name, "gets": sum(after.gets[row] for row in rows),
+                     "wants": sum(after.wants[row] for row in rows),
+                     "left": after.host.capacity - after.gets[0],
+                     "lost": sum(lost), "losing": len(lost),
+                     "losers": [[path, -rise] for path, rise in losses(rises)]})
+    return {"before": before.sums, "pods": pods}
 
 
-def counted(plan: Accepted, row: int, cell: SampleCell, quota: int | None, times: int) -> None:
+def counted(plan: Accepted, path: str, cell: SampleCell, quota: int | None, times: int) -> None:
     """Adds the periods of one plan to the cell of a group."""
-    figures = plan.answer.figures
+    figures, row = plan.answer.figures, plan.paths.index(path)
     cell.count(plan.gets[row], plan.wants[row], plan.limit(row), row > 0 and bool(
         figures.tights[row]), figures.withheld[row] * plan.host.slice_us, quota, times)
 
 
 def replayed(_: Job, plans: Iterator[Accepted], told: dict[str, Any]) -> dict[str, Any]:
     """The sums of each group over all samples."""
-    sums = {path: series.Sums() for path in told["columns"]}
+    samples = []
     for counts in told["times"]:
-        cells = {path: SampleCell() for path in sums}
+        cells = {path: SampleCell() for path in told["columns"]}
         for times in counts:
             plan = next(plans)
             for (path, cell), quota in zip(cells.items(), told["quotas"], strict=True):
-                counted(plan, plan.paths.index(path), cell, quota, times)
-        for path, cell in cells.items():
-            sums[path].add(cell)
-    return {"samples": len(told["times"]), "unknown": list(map(str, told["unknown"])),
-            "groups_of_columns": [{"group": path, **each.data()} for path, each in sums.items()]}
+                counted(plan, path, cell, quota, times)
+        samples.append(cells)
+    return {"samples": len(samples), "unknown": list(map(str, told["unknown"])),
+            "groups_of_columns": [
+                {"group": path, **series.summed([cells[path] for cells in samples])}
+                for path in told["columns"]]}
 
 
-ACTIONS = {"explain": explained, "diff": compared, "place": placed, "replay": replayed}
+ACTIONS: dict[str, Callable[[Job, Iterator[Accepted], dict[str, Any]], dict[str, Any]]] = {
+    "explain": explained, "diff": compared, "place": placed, "replay": replayed}
 
 
-def plans_of(engine: Engine, told: dict[str, Any]) -> Iterator[Accepted]:
-    """The plans of a reply one by one, each accepted here. All have the last paths told."""
-    host = told_host(told["host"])
-    for at, text in enumerate(told["plans"]):
-        paths = told["paths"][min(at, len(told["paths"]) - 1)]
-        if not all(isinstance(each, str) for each in paths):
-            raise TypeError(paths)
-        yield accepted(engine, host, paths, text)
-
-
-def of_reply(job: Job, data: bytes, engine: Engine) -> dict[str, Any]:
+def answer_of(job: Job, sent: Sent | str, engine: Engine) -> dict[str, Any]:
     """The answer of a host by what its worker sent. A fault where there is none."""
+    if isinstance(sent, str):
+        raise HostFault(sent)
     try:
-        told = json.loads(data)
-        if "why" in told:
-            raise HostFault(str(told["why"]))
-        host, groups = told_host(told["host"]), len(told["paths"][0]) - 1
-        found = ACTIONS[job.action](job, plans_of(engine, told), told)
+        if not all(type(each) is int for each in astuple(sent.host)):
+            raise HostFault("a host of other than whole numbers")
+        host, groups = checked(sent.host), len(sent.plans[0].paths) - 1 if sent.plans else 0
+        found = ACTIONS[job.action](job, (accepted(engine, host, each) for each in sent.plans),
+                                    sent.told)
     except BROKEN as error:
         raise HostFault(f"what its worker answers cannot be read: {type(error).__name__}"
                         ) from error

@@ -8,11 +8,11 @@ import os
 import re
 from collections.abc import Callable, Mapping, Sequence
 from dataclasses import dataclass, replace
-from fractions import Fraction
 from typing import Any
 
 from arbiter_host import demands, load, names
 from arbiter_host.faults import HostFault, UsageFault, strerror
+from arbiter_host.fleet.work import HostFile
 from arbiter_host.sources import kubernetes, pods
 from arbiter_host.sources.data import loads, table, tables, text
 from arbiter_host.sources.usage import Used, some
@@ -23,17 +23,6 @@ NODE = re.compile(rb'"kind"\s*:\s*"Node"')
 # Files that a tree of cgroups has, and the folder of a fleet does not.
 TREE_FILES = frozenset({"cgroup.controllers", "cgroup.procs", "cpu.stat"})
 MOST_FILES = 100000
-
-
-@dataclass(frozen=True)
-class HostFile:
-    """A host's name in the fleet, and the path of its file."""
-
-    name: str
-    path: str
-    # What the host is read from, where it is a part of a file, and the pods that it then has.
-    data: bytes | None = None
-    pods: frozenset[str] = frozenset()
 
 
 @dataclass(frozen=True)
@@ -61,7 +50,6 @@ class Fleet:
 
     @property
     def is_cluster(self) -> bool:
-        """Whether the hosts are the nodes of a cluster."""
         return self.room is not None
 
     def shapes(self) -> dict[pods.Pod, Pending]:
@@ -93,44 +81,16 @@ def items_of(path: str, data: bytes) -> list[dict[str, Any]]:
     return items if sum(each.get("kind") == "Node" for each in items) > 1 else []
 
 
-def paths_of(path: str, data: bytes) -> list[str]:
-    """The paths that a list names, one a line, relative to its folder."""
-    folder = "" if path == "-" else os.path.dirname(path)
-    lines = [line.strip() for line in data.decode("utf-8", "surrogateescape").split("\n")]
-    return [os.path.join(folder, line) for line in lines if line and not line.startswith("#")]
-
-
-def is_there(path: str) -> bool:
-    """Whether a path names something."""
-    try:
-        return os.path.lexists(path)
-    except ValueError:
-        return False
-
-
-def stem(path: str) -> str:
-    """A path without the ending of its last name."""
-    return os.path.splitext(path)[0]
-
-
 def named(paths: Sequence[str], folder: str) -> list[HostFile]:
     """The hosts in order of their names: their paths from a folder on, without endings."""
     files: dict[str, HostFile] = {}
     for path in paths:
-        name = names.shown(stem(os.path.relpath(path, folder)))
+        name = names.shown(os.path.splitext(os.path.relpath(path, folder))[0])
         if name in files:
             raise UsageFault(f"two hosts of the name {name}: {names.shown(files[name].path)},"
                              f" {names.shown(path)}")
         files[name] = HostFile(name, path)
     return [files[name] for name in sorted(files)]
-
-
-def check_alone(files: Sequence[load.Opened]) -> None:
-    """A fault where one of several sources is a folder of hosts."""
-    for path, data in files:
-        if data is None and below(path):
-            raise UsageFault(f"{names.shown(path)}: many hosts are one source, with no other beside"
-                             " it")
 
 
 def fleet_in(options: argparse.Namespace, files: Sequence[load.Opened],
@@ -143,7 +103,10 @@ def fleet_in(options: argparse.Namespace, files: Sequence[load.Opened],
     if options.kind == "cgroup":
         return None
     if more:
-        check_alone(files)
+        for name, bytes_ in files:
+            if bytes_ is None and below(name):
+                raise UsageFault(f"{names.shown(name)}: many hosts are one source, with no other"
+                                 " beside it")
         return None
     if data is None:
         paths = below(path)
@@ -161,15 +124,19 @@ def of_one(files: Sequence[load.Opened]) -> Fleet:
     if more or data is None:
         raise UsageFault("many hosts are a folder of their files, a list of these, or a cluster's"
                          " JSON; one host is one file")
-    return Fleet([HostFile(names.shown(stem(os.path.basename(path))), path, data)])
+    name = os.path.splitext(os.path.basename(path))[0]
+    return Fleet([HostFile(names.shown(name), path, data)])
 
 
 def of_list(path: str, data: bytes) -> Fleet | None:
-    """The hosts of a list of files: what is no other source, and has a line that names a file."""
+    """The hosts of a list of files, one a line, relative to its folder: what is no other source,
+    and has a line that names a file."""
     if load.kind_of(path, data) != "script" or path.endswith(".script") or MADE.search(data):
         return None
-    paths = paths_of(path, data)
-    if not any(map(is_there, paths)):
+    folder = "" if path == "-" else os.path.dirname(path)
+    lines = [line.strip() for line in data.decode("utf-8", "surrogateescape").split("\n")]
+    paths = [os.path.join(folder, line) for line in lines if line and not line.startswith("#")]
+    if not any(map(os.path.lexists, paths)):
         return None
     return Fleet(named(paths, os.path.commonpath([os.path.abspath(os.path.dirname(each))
                                                   for each in paths])))
@@ -179,13 +146,11 @@ def of_cluster(word: str, items: Sequence[dict[str, Any]], used: Sequence[Used] 
                want: str | None = None) -> Fleet:
     """A host for each node of `kubectl get nodes,pods -A -o json`, with the pods that it has and
     what these used."""
-    nodes = {text(table(each, "metadata"), "name"): each for each in items
-             if each.get("kind") == "Node"}
-    if len(nodes) < sum(each.get("kind") == "Node" for each in items):
+    nodes = [each for each in items if each.get("kind") == "Node"]
+    of_node: dict[str, list[dict[str, Any]]] = {name_of(node): [] for node in nodes}
+    if len(of_node) < len(nodes):
         raise UsageFault(f"{names.shown(word)}: two nodes of one name")
-    of_node: dict[str, list[dict[str, Any]]] = {name: [] for name in nodes}
-    pending: list[dict[str, Any]] = []
-    lost: list[dict[str, Any]] = []
+    pending, lost = list[dict[str, Any]](), list[dict[str, Any]]()
     for pod in filter(kubernetes.is_pod, items):
         place = text(table(pod, "spec"), "nodeName")
         if place in of_node:
@@ -193,7 +158,8 @@ def of_cluster(word: str, items: Sequence[dict[str, Any]], used: Sequence[Used] 
         elif not kubernetes.has_ended(pod):
             (lost if place else pending).append(pod)
     metrics = metrics_of(used, want or "usage")
-    hosts_ = [host_of(word, nodes[name], of_node[name], metrics) for name in sorted(nodes)]
+    hosts_ = [host_of(word, node, of_node[name_of(node)], metrics)
+              for node in sorted(nodes, key=name_of)]
     here = {title(pod) for each in of_node.values() for pod in each}
     told = {"pods of nodes that are not in it, left out": list(map(title, lost)),
             "used by pods that no node here has": [name for name in metrics if name not in here]}
@@ -203,15 +169,9 @@ def of_cluster(word: str, items: Sequence[dict[str, Any]], used: Sequence[Used] 
                  {host.name: room for host, room in hosts_ if room is not None}, tuple(notes))
 
 
-def value_of(amounts: Sequence[Fraction], want: str) -> Fraction:
-    """One amount of several: their mean, the greatest or the 95th percentile."""
-    if want == "usage":
-        return demands.mean(amounts)
-    return demands.percentile(amounts, 100 if want == "peak" else 95)
-
-
 def metrics_of(used: Sequence[Used], want: str) -> dict[str, dict[str, Any]]:
-    """What was used as objects of metrics-server, by the title of the pod."""
+    """What was used as objects of metrics-server, by the title of the pod: the mean, the greatest
+    or the 95th percentile of several amounts."""
     metrics: dict[str, dict[str, Any]] = {}
     for each in used:
         if not (each.namespace and each.pod and each.container):
@@ -220,20 +180,25 @@ def metrics_of(used: Sequence[Used], want: str) -> dict[str, dict[str, Any]]:
         entry = metrics.setdefault(f"{each.namespace}/{each.pod}", {
             "kind": "PodMetrics", "metadata": {"namespace": each.namespace, "name": each.pod},
             "containers": []})
-        nano = math.ceil(value_of(each.amounts, want) * 10**6)
-        entry["containers"].append({"name": each.container, "usage": {"cpu": f"{nano}n"}})
+        amount = demands.mean(each.amounts) if want == "usage" else demands.percentile(
+            each.amounts, 100 if want == "peak" else 95)
+        entry["containers"].append({"name": each.container, "usage": {
+            "cpu": f"{math.ceil(amount * 10**6)}n"}})
     return metrics
 
 
+def name_of(node: dict[str, Any]) -> str:
+    return text(table(node, "metadata"), "name")
+
+
 def title(pod: dict[str, Any]) -> str:
-    """Namespace and name of a pod."""
     return "/".join(pods.names_of(pod))
 
 
 def host_of(word: str, node: dict[str, Any], of_node: Sequence[dict[str, Any]],
             metrics: Mapping[str, dict[str, Any]]) -> tuple[HostFile, int | None]:
     """A node as a host, and the thousandths that it has left for requests."""
-    name = names.shown(text(table(node, "metadata"), "name") or "unnamed")
+    name = names.shown(name_of(node) or "unnamed")
     used = [metrics[each] for each in dict.fromkeys(map(title, of_node)) if each in metrics]
     data = json.dumps({"kind": "List", "items": [node, *of_node, *used]}).encode()
     allocatable = pods.thousandths(table(node, "status", "allocatable").get("cpu"), "", [])
@@ -244,7 +209,6 @@ def host_of(word: str, node: dict[str, Any], of_node: Sequence[dict[str, Any]],
 
 
 def pending_of(pod: dict[str, Any]) -> Pending:
-    """A pod that no node has yet."""
     read = pods.pod_of(pod, [])
     data = json.dumps({**pod, "kind": "Pod"}).encode()
     shape = replace(read, namespace="", name="", uid="")

@@ -6,7 +6,6 @@ notices workers that die; whoever its scheduler lets in can run code in all that
 from __future__ import annotations
 
 import importlib
-import itertools
 import logging
 import multiprocessing
 import os
@@ -14,18 +13,20 @@ import signal
 import threading
 import warnings
 from collections.abc import Generator, Iterable, Iterator
-from concurrent.futures import FIRST_COMPLETED, CancelledError, Executor, Future
-from concurrent.futures import ProcessPoolExecutor, wait
+from concurrent.futures import (FIRST_COMPLETED, Executor, Future, ProcessPoolExecutor,
+                                as_completed, wait)
 from concurrent.futures.process import BrokenProcessPool
 from contextlib import contextmanager, suppress
+from itertools import chain
 from multiprocessing.connection import wait as wait_for
-from typing import Any, NamedTuple
+from typing import Any
 
 from arbiter_host.faults import HostFault
 from arbiter_host.fleet import work
-from arbiter_host.fleet.work import Item
+from arbiter_host.fleet.work import HostFile, Job, Sent
 from arbiter_host.names import cut, shown
 
+Answered = Future[Sent | str]
 MOST_WORKERS = 1024
 # Hosts under way for each worker, so that none waits for this process.
 EACH = 2
@@ -36,28 +37,19 @@ ASK_SECONDS = 15.0
 GONE = "the scheduler went away"
 
 
-class Reply(NamedTuple):
-    """What a worker sent of a host, or why nothing came."""
-
-    host: str
-    data: bytes
-    why: str = ""
-
-
-Replies = Generator[Reply, None, None]
-
-
-def end_with_parent() -> None:
-    """Ends this process when the one that began it is gone, whatever it works at."""
-    parent = multiprocessing.parent_process()
-    if parent is not None:
-        wait_for([parent.sentinel])
-    os._exit(1)
+# The name of a host, and what a worker sent of it or why nothing came.
+Replies = Generator[tuple[str, Sent | str], None, None]
 
 
 def begin_worker() -> None:
-    """Makes a process a worker."""
-    threading.Thread(target=end_with_parent, daemon=True).start()
+    """Ends this process when the one that began it is gone, whatever it works at."""
+    def wait_for_parent() -> None:
+        parent = multiprocessing.parent_process()
+        if parent is not None:
+            wait_for([parent.sentinel])
+        os._exit(1)
+
+    threading.Thread(target=wait_for_parent, daemon=True).start()
 
 
 @contextmanager
@@ -70,95 +62,84 @@ def uninterrupted() -> Iterator[None]:
         signal.pthread_sigmask(signal.SIG_SETMASK, before)
 
 
-def let_go(executor: Executor) -> None:
-    """Frees the thread of a pool that hands items on, when no process is left that takes them.
-
-    Python waits for it without an end before 3.12 (gh-94777).
-    """
-    items: Any = getattr(executor, "_call_queue", None)
-    if items is not None:
-        # The executor's own thread may be closing it too.
-        with suppress(OSError):
-            items._reader.close()
-
-
 @contextmanager
 def processes(count: int) -> Iterator[Executor]:
     """Processes of this machine. All are ended behind it, whatever they work at."""
     # A new interpreter would look for modules in the folder that this one was called in.
     before = os.environ.get("PYTHONSAFEPATH")
     os.environ["PYTHONSAFEPATH"] = "1"
-    found = ProcessPoolExecutor(count, multiprocessing.get_context("spawn"), begin_worker)
+    executor = ProcessPoolExecutor(count, multiprocessing.get_context("spawn"), begin_worker)
     try:
-        yield found
+        yield executor
     except BaseException:
         for each in multiprocessing.active_children():
             each.kill()
-        let_go(found)
         raise
     finally:
-        found.shutdown(cancel_futures=True)
+        # Before 3.12 Python waits without an end for its thread that hands calls on, where no
+        # process is left that takes them (gh-94777). That thread may be closing it too.
+        calls: Any = getattr(executor, "_call_queue", None)
+        with suppress(OSError):
+            calls._reader.close()
+        executor.shutdown(cancel_futures=True)
         if before is None:
             os.environ.pop("PYTHONSAFEPATH", None)
 
 
-def given(executor: Executor, width: int, job_text: str,
-          items: Iterable[Item]) -> Iterator[tuple[Item, Future[bytes]]]:
-    """Each item with its future when that has ended. So many are under way at a time.
+def given(executor: Executor, width: int, job: Job,
+          hosts: Iterable[HostFile]) -> Iterator[tuple[HostFile, Answered]]:
+    """Each host with its future when that has ended. So many are under way at a time.
 
-    An executor that takes nothing more ends it: its last item has the error.
+    An executor that takes nothing more ends it: its last host has the error.
     """
-    under: dict[Future[bytes], Item] = {}
-    for item in items:
+    under: dict[Answered, HostFile] = {}
+    for host in hosts:
         try:
             with uninterrupted():
-                under[executor.submit(work.answered, job_text, item)] = item
-        except (BrokenProcessPool, RuntimeError) as error:
-            refused: Future[bytes] = Future()
+                under[executor.submit(work.answered, job, host)] = host
+        except RuntimeError as error:
+            refused: Answered = Future()
             refused.set_exception(error)
-            under[refused] = item
+            under[refused] = host
             break
         if len(under) >= width:
             for each in wait(under, return_when=FIRST_COMPLETED).done:
                 yield under.pop(each), each
-    while under:
-        for each in wait(under, return_when=FIRST_COMPLETED).done:
-            yield under.pop(each), each
+    for each in as_completed(list(under)):
+        yield under.pop(each), each
 
 
-def alone(job_text: str, item: Item) -> Reply:
-    """The reply of a worker of its own."""
-    with processes(1) as executor:
-        for _, future in given(executor, 1, job_text, [item]):
-            if future.exception() is None:
-                return Reply(item.host, future.result())
-        let_go(executor)
-    return Reply(item.host, b"", "its worker died, twice")
+def in_processes(count: int, job: Job,
+                 hosts: Iterable[HostFile]) -> Iterator[tuple[HostFile, Answered]]:
+    """Each host with its future, of processes of its own."""
+    with processes(count) as executor:
+        yield from given(executor, EACH * count, job, hosts)
 
 
-def by_processes(count: int, job_text: str, items: Iterator[Item]) -> Replies:
+def reply(future: Answered) -> Sent | str:
+    """What a worker sent, or the error that it ended with."""
+    error = future.exception()
+    return future.result() if error is None else (
+        f"its worker: {type(error).__name__}: {cut(str(error), 200)}")
+
+
+def by_processes(count: int, job: Job, hosts: Iterator[HostFile]) -> Replies:
     """Replies of processes. Where one dies, those under way are asked again one by one."""
     deaths = 0
-    while (first := next(items, None)) is not None:
-        lost: list[Item] = []
-        with processes(count) as executor:
-            every = itertools.chain([first], items)
-            for item, future in given(executor, EACH * count, job_text, every):
-                error = future.exception()
-                if isinstance(error, BrokenProcessPool):
-                    lost.append(item)
-                    continue
-                deaths = 0
-                yield Reply(item.host, b"", f"its worker: {type(error).__name__}: {error}"
-                            ) if error else Reply(item.host, future.result())
-            if lost:
-                let_go(executor)
-        for item in lost:
-            reply = alone(job_text, item)
-            deaths = deaths + 1 if reply.why else 0
+    for first in hosts:
+        lost: list[HostFile] = []
+        for host, future in in_processes(count, job, chain([first], hosts)):
+            if isinstance(future.exception(), BrokenProcessPool):
+                lost.append(host)
+                continue
+            deaths = 0
+            yield host.name, reply(future)
+        for host, future in chain.from_iterable(in_processes(1, job, [each]) for each in lost):
+            is_dead = isinstance(future.exception(), BrokenProcessPool)
+            deaths = deaths + 1 if is_dead else 0
             if deaths > MOST_DEATHS:
                 raise HostFault("workers die one after another, and answer nothing")
-            yield reply
+            yield host.name, "its worker died, twice" if is_dead else reply(future)
 
 
 @contextmanager
@@ -187,28 +168,20 @@ def dask(address: str) -> Iterator[tuple[Executor, int]]:
             client.close(timeout=3)
 
 
-def by_dask(address: str, job_text: str, items: Iterator[Item]) -> Replies:
+def by_dask(address: str, job: Job, hosts: Iterator[HostFile]) -> Replies:
     """Replies of the workers of a scheduler. With the scheduler all that is left goes."""
     with dask(address) as (executor, width):
-        for item, future in given(executor, width, job_text, items):
-            try:
-                data = future.result()
-            except (CancelledError, RuntimeError):
-                yield Reply(item.host, b"", GONE)
+        for host, future in given(executor, width, job, hosts):
+            if future.cancelled() or isinstance(future.exception(), RuntimeError):
+                yield host.name, GONE
                 break
-            except Exception as error:  # whatever a worker raises is told of the host
-                yield Reply(item.host, b"", f"its worker: {type(error).__name__}:"
-                            f" {shown(cut(str(error), 200))}")
-                continue
-            yield Reply(item.host, data) if isinstance(data, bytes) else Reply(
-                item.host, b"", "its worker answers no bytes")
+            yield host.name, reply(future)
 
 
-def replies(workers: int, scheduler: str | None, job_text: str,
-            items: Iterator[Item]) -> Replies:
+def replies(workers: int, scheduler: str | None, job: Job, hosts: Iterator[HostFile]) -> Replies:
     """What comes of each host, in the order in which it comes. Some may not come at all."""
     if scheduler is not None:
-        return by_dask(scheduler, job_text, items)
+        return by_dask(scheduler, job, hosts)
     if workers:
-        return by_processes(workers, job_text, items)
-    return (Reply(item.host, work.answered(job_text, item)) for item in items)
+        return by_processes(workers, job, hosts)
+    return ((host.name, work.answered(job, host)) for host in hosts)

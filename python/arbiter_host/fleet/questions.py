@@ -2,7 +2,6 @@
 from __future__ import annotations
 
 import argparse
-import base64
 import os
 from collections.abc import Callable, Iterator, Sequence
 from contextlib import closing
@@ -12,13 +11,12 @@ from typing import Any
 from arbiter_host import change, load, names, options as table, plain_files, progress
 from arbiter_host.faults import HostFault, NothingFound, UsageFault
 from arbiter_host.fleet import answers, hosts, pending, pool, report
-from arbiter_host.fleet.figures import HostAnswer
-from arbiter_host.fleet.hosts import Fleet, HostFile
-from arbiter_host.fleet.job import Job
-from arbiter_host.fleet.work import Item
+from arbiter_host.fleet.answers import HostAnswer
+from arbiter_host.fleet.hosts import Fleet
+from arbiter_host.fleet.work import HostFile, Job
 from arbiter_host.model import Group, Model
 from arbiter_host.output import json_text, warn, write_forms
-from arbiter_host.plan import Engine, engine_of
+from arbiter_host.plan import engine_of
 from arbiter_host.sources import by_options, used
 from arbiter_host.sources.samples import History
 
@@ -62,7 +60,6 @@ def check_sets(words: Sequence[str]) -> None:
 
 
 def job_of(options: argparse.Namespace, fleet: Fleet) -> Job:
-    """What is asked of each host."""
     if options.asked == "diff" and not options.set:
         raise UsageFault("diff of many hosts takes --set")
     check_sets(options.set)
@@ -75,36 +72,20 @@ def job_of(options: argparse.Namespace, fleet: Fleet) -> Job:
     library = options.library
     if library and "/" in library:
         library = os.path.abspath(library)
-    pods = [[names.shown(path), base64.b64encode(plain_files.file_bytes(path)).decode()]
-            for path in options.pod]
+    pods = [(names.shown(path), plain_files.file_bytes(path)) for path in options.pod]
     sample = by_options.time_option(options.step, "--step") if options.step else 0
     return Job(options.asked, reading, list(options.set), pods, options.unit, sample,
                used.mapped(options.map), used.is_served(options), library)
 
 
 def samples_of(options: argparse.Namespace, fleet: Fleet) -> Samples:
-    """The samples of each host."""
     if not fleet.is_cluster:
         by_host = used.by_host(options)
         return lambda host: by_host(host.name)
     whole = used.history(options)
-    return lambda host: whole.of_columns(lambda column: is_of(column, host.pods))
-
-
-def is_of(column: str, pods: frozenset[str]) -> bool:
-    """Whether a column names one of some pods, or a container of one."""
-    return column in pods or column.rpartition("/")[0] in pods
-
-
-def items_of(files: Sequence[HostFile], samples: Samples | None,
-             missing: Missing) -> Iterator[Item]:
-    """What is sent of each host. One that cannot be read is missing."""
-    for host in files:
-        try:
-            data = plain_files.file_bytes(host.path, True) if host.data is None else host.data
-            yield Item(host.name, host.path, data, samples(host) if samples else None)
-        except HostFault as fault:
-            missing.append((host.name, fault.message))
+    # A column names a pod, or a container of one.
+    return lambda host: whole.of_columns(
+        lambda column: not host.pods.isdisjoint((column, column.rpartition("/")[0])))
 
 
 def workers_of(options: argparse.Namespace, fleet: Fleet) -> int:
@@ -120,28 +101,29 @@ def workers_of(options: argparse.Namespace, fleet: Fleet) -> int:
 def asked(options: argparse.Namespace, job: Job, fleet: Fleet,
           samples: Samples | None = None) -> tuple[list[HostAnswer], Missing]:
     """The answers of all hosts, and the hosts that have none with the reasons, by name."""
-    engine = engine_of(options.library)
-    workers, answers = workers_of(options, fleet), dict[str, HostAnswer]()
-    missing: Missing = []
-    items = items_of(fleet.hosts, samples, missing)
-    replies = pool.replies(workers, options.scheduler, job.text(), items)
-    with progress.bar("hosts", len(fleet.hosts)) as tick, closing(replies):
-        for reply in replies:
+    engine, workers = engine_of(options.library), workers_of(options, fleet)
+    found, missing = dict[str, HostAnswer](), dict[str, str]()
+
+    def files() -> Iterator[HostFile]:
+        for host in fleet.hosts:
             try:
-                answers[reply.host] = HostAnswer(reply.host, answer_of(job, reply, engine))
+                data = plain_files.file_bytes(host.path, True) if host.data is None else host.data
+                yield replace(host, data=data, history=samples(host) if samples else None)
             except HostFault as fault:
-                missing.append((reply.host, fault.message))
+                missing[host.name] = fault.message
+
+    replies = pool.replies(workers, options.scheduler, job, files())
+    with progress.bar("hosts", len(fleet.hosts)) as tick, closing(replies):
+        for name, sent in replies:
+            try:
+                found[name] = HostAnswer(name, answers.answer_of(job, sent, engine))
+            except HostFault as fault:
+                missing[name] = fault.message
             tick()
-    known = {*answers, *(name for name, _ in missing)}
-    missing += [(host.name, pool.GONE) for host in fleet.hosts if host.name not in known]
-    return [answers[name] for name in sorted(answers)], sorted(missing)
-
-
-def answer_of(job: Job, reply: pool.Reply, engine: Engine) -> dict[str, Any]:
-    """The answer of a host. A fault where there is none."""
-    if reply.why:
-        raise HostFault(reply.why)
-    return answers.of_reply(job, reply.data, engine)
+    for host in fleet.hosts:
+        if host.name not in found:
+            missing.setdefault(host.name, pool.GONE)
+    return [found[name] for name in sorted(found)], sorted(missing.items())
 
 
 def with_pending(options: argparse.Namespace, job: Job, fleet: Fleet,
@@ -149,8 +131,7 @@ def with_pending(options: argparse.Namespace, job: Job, fleet: Fleet,
     """The report of a cluster's plan, with where its pods go that no node has yet."""
     if options.asked != "explain" or not fleet.pending:
         return told
-    pods = [[f"{each.title}.json", base64.b64encode(each.data).decode()]
-            for each in fleet.shapes().values()]
+    pods = [(f"{each.title}.json", each.data) for each in fleet.shapes().values()]
     placing, _ = asked(options, replace(job, action="place", pods=pods), fleet)
     return pending.added(told, pending.placed(fleet, placing, options.rank), options.rank)
 

@@ -1,14 +1,18 @@
 """The report of many hosts: what each question's answers come to, as lines, rows and data."""
 from __future__ import annotations
 
-from collections.abc import Callable, Iterator, Sequence
+import math
+from bisect import bisect_left
+from collections import Counter
+from collections.abc import Callable, Iterable, Mapping, Sequence
 from dataclasses import dataclass
 from fractions import Fraction
+from itertools import accumulate
 from typing import Any
 
 from arbiter_host import text as layout
-from arbiter_host.fleet import figures
-from arbiter_host.fleet.figures import HostAnswer, number, total
+from arbiter_host.fleet.answers import HostAnswer
+from arbiter_host.html import rendered
 from arbiter_host.names import short, shown
 from arbiter_host.series import COUNTS
 
@@ -17,6 +21,8 @@ RULES = {
     "least-loss": "the least that others lose and the pod lacks, then the most CPU left",
     "most-left": "the most CPU left, then the least that others lose and the pod lacks",
 }
+# Percents of hosts or groups, and the names of the values that so many do not exceed.
+QUANTILES = {0: "least", 5: "5%", 25: "25%", 50: "median", 75: "75%", 95: "95%", 100: "greatest"}
 MOST_MOVED = 10
 # Rows of a table without `--all`.
 MOST_ROWS = 20
@@ -44,11 +50,29 @@ class Report:
 
 # Lines, tables, and the same as data.
 Parts = tuple[list[str], list[Table], dict[str, Any]]
+Cell = Callable[[HostAnswer], str]
+Columns = Mapping[str, Cell]
 
 
-def cpu(value: Fraction, places: int = 2) -> str:
+def count_of(key: str) -> Cell:
+    """A cell with a number of a host's answer."""
+    return lambda host: str(host.answer[key])
+
+
+def amount_of(*keys: str) -> Cell:
+    """A cell with an amount of a host's answer, in CPUs."""
+    return lambda host: cpu(host.of(*keys))
+
+
+def table(title: str, hosts: Iterable[HostAnswer], columns: Columns) -> Table:
+    """A table with a row for each host, in the order in which they are given."""
+    return Table(title, list(columns), [[cell(host) for cell in columns.values()]
+                                        for host in hosts])
+
+
+def cpu(value: Fraction) -> str:
     """CPUs."""
-    return f"{float(value):.{places}f}"
+    return f"{float(value):.2f}"
 
 
 def signed(value: Fraction) -> str:
@@ -56,10 +80,42 @@ def signed(value: Fraction) -> str:
     return f"{float(value):+.2f}" if value else "0"
 
 
-def group_words(found: Sequence[Sequence[Any]], host: HostAnswer) -> str:
+def number(value: Fraction) -> float:
+    """A fraction as data, with six decimals."""
+    return round(float(value), 6)
+
+
+def part(one: Fraction, all_: Fraction) -> str:
+    return f"{float(100 * one / all_):.0f}%" if all_ else "-"
+
+
+def total(hosts: Iterable[HostAnswer], *keys: str) -> Fraction:
+    return sum((host.of(*keys) for host in hosts), Fraction(0))
+
+
+def quantiles(weighted: Iterable[tuple[Fraction, int]]) -> dict[str, Fraction]:
+    """The quantiles of values, each so many times, by their names. Empty of no value."""
+    counts: Counter[Fraction] = Counter()
+    for value, count in weighted:
+        counts[value] += count
+    ordered = sorted(counts)
+    ranks = list(accumulate(counts[value] for value in ordered))
+    return {name: ordered[bisect_left(ranks, max(math.ceil(Fraction(ranks[-1] * percent, 100)), 1))]
+            for percent, name in QUANTILES.items()} if ordered else {}
+
+
+def quantile_data(values: Mapping[str, Fraction]) -> dict[str, float]:
+    return {name: number(value) for name, value in values.items()}
+
+
+def quantile_words(values: Mapping[str, Fraction], places: int = 2) -> str:
+    return ", ".join(f"{name} {float(value):.{places}f}" for name, value in values.items())
+
+
+def group_words(groups: Sequence[Sequence[Any]], host: HostAnswer, none: str = "-") -> str:
     """The first groups of a list with their amounts."""
     return ", ".join(f"{'the host' if path == '.' else short(shown(path))}"
-                     f" ({cpu(host.cpus(amount))})" for path, amount in found[:2])
+                     f" ({cpu(host.cpus(amount))})" for path, amount in groups[:2]) or none
 
 
 def lack(host: HostAnswer) -> Fraction:
@@ -67,66 +123,35 @@ def lack(host: HostAnswer) -> Fraction:
     return host.of("wanted") - host.of("served")
 
 
-def part(one: Fraction, all_: Fraction) -> str:
-    """A part in percent."""
-    return f"{float(100 * one / all_):.0f}%" if all_ else "-"
-
-
-def plan_lines(hosts: Sequence[HostAnswer]) -> Iterator[str]:
-    """What `explain` says of the whole fleet."""
-    served, wanted, capacity = (total(hosts, key) for key in ("served", "wanted", "capacity"))
-    groups = sum(host.answer["groups"] for host in hosts)
-    yield (f"{cpu(served)} of {cpu(capacity)} CPUs served, {cpu(wanted)} wanted, groups: {groups};"
-           " the proved check accepted each plan")
-    counts = {key: sum(host.answer[key] for host in hosts)
-              for key in ("lacking", "starved", "throttled")}
-    yield (f"groups without all that they want: {counts['lacking']}, of these starved:"
-           f" {counts['starved']}; throttled: {counts['throttled']}")
-    use = figures.quantiles((100 * host.of("served") / host.of("capacity"), 1) for host in hosts)
-    yield f"use of a host in percent: {figures.quantile_words(use, 0)}"
-    yield f"lack of a host in CPUs: {figures.quantile_words(lacks(hosts))}"
-
-
-def lacks(hosts: Sequence[HostAnswer]) -> list[Fraction]:
-    """The quantiles of what hosts lack."""
-    return figures.quantiles((lack(host), 1) for host in hosts)
-
-
-def plan_row(host: HostAnswer) -> list[str]:
-    """The row of a host in `explain`."""
-    answer = host.answer
-    return [host.name, str(answer["cpus"]), cpu(host.of("served")), cpu(host.of("wanted")),
-            cpu(lack(host)), part(host.of("served"), host.of("capacity")),
-            *(str(answer[key]) for key in ("groups", "lacking", "starved", "throttled")),
-            group_words(answer["limiting"], host) or "the demands alone"]
+PLANNED = ("groups", "lacking", "starved", "throttled")
+PLAN_COLUMNS: Columns = {
+    "host": lambda host: host.name,
+    "cpus": count_of("cpus"), "served": amount_of("served"), "wanted": amount_of("wanted"),
+    "lack": lambda host: cpu(lack(host)),
+    "use": lambda host: part(host.of("served"), host.of("capacity")),
+    **{key: count_of(key) for key in PLANNED},
+    "what limits the total": lambda host: group_words(host.answer["limiting"], host,
+                                                      "the demands alone"),
+}
 
 
 def of_plan(hosts: Sequence[HostAnswer], _: str) -> Parts:
     """The report of `explain`: the hosts that lack most first."""
+    amounts = {key: total(hosts, key) for key in ("served", "wanted", "capacity")}
+    counts = {key: sum(host.answer[key] for host in hosts) for key in PLANNED}
+    use = quantiles((100 * host.of("served") / host.of("capacity"), 1) for host in hosts)
+    lacks = quantiles((lack(host), 1) for host in hosts)
+    lines = [f"{cpu(amounts['served'])} of {cpu(amounts['capacity'])} CPUs served,"
+             f" {cpu(amounts['wanted'])} wanted, groups: {counts['groups']};"
+             " the proved check accepted each plan",
+             f"groups without all that they want: {counts['lacking']}, of these starved:"
+             f" {counts['starved']}; throttled: {counts['throttled']}",
+             f"use of a host in percent: {quantile_words(use, 0)}",
+             f"lack of a host in CPUs: {quantile_words(lacks)}"]
     ordered = sorted(hosts, key=lambda host: (-lack(host), host.name))
-    heads = ["host", "cpus", "served", "wanted", "lack", "use", "groups", "lacking", "starved",
-             "throttled", "what limits the total"]
-    sums: dict[str, Any] = {f"{key}_cpus": number(total(hosts, key))
-                            for key in ("served", "wanted", "capacity")}
-    sums |= {key: sum(host.answer[key] for host in hosts)
-             for key in ("groups", "lacking", "starved", "throttled")}
-    sums["lack_cpus"] = figures.quantile_data(lacks(hosts))
-    return list(plan_lines(hosts)), [Table("Hosts, the greatest lack first", heads,
-                                           [plan_row(host) for host in ordered])], sums
-
-
-def changes(hosts: Sequence[HostAnswer]) -> Iterator[tuple[Fraction, int]]:
-    """The changes of all groups, each with its number."""
-    for host in hosts:
-        for rise, count in host.answer["changes"]:
-            yield host.cpus(rise), count
-
-
-def moved(hosts: Sequence[HostAnswer], key: str) -> list[tuple[Fraction, str, str]]:
-    """The groups of the fleet that gain or lose most."""
-    found = [(host.cpus(rise), host.name, path) for host in hosts
-             for path, rise in host.answer[key]]
-    return sorted(found, key=lambda each: (-abs(each[0]), *each[1:]))[:MOST_MOVED]
+    data: dict[str, Any] = {f"{key}_cpus": number(value) for key, value in amounts.items()}
+    data |= {**counts, "lack_cpus": quantile_data(lacks)}
+    return lines, [table("Hosts, the greatest lack first", ordered, PLAN_COLUMNS)], data
 
 
 def lost(host: HostAnswer) -> Fraction:
@@ -134,111 +159,119 @@ def lost(host: HostAnswer) -> Fraction:
     return host.cpus(-sum(rise * count for rise, count in host.answer["changes"] if rise < 0))
 
 
-def change_row(host: HostAnswer) -> list[str]:
-    """The row of a host in `diff`."""
-    answer = host.answer
-    before, after = host.of("before", "served"), host.of("after", "served")
-    starved = f"{answer['before']['starved']} to {answer['after']['starved']}"
-    return [host.name, str(answer["matched"]), cpu(before), cpu(after),
-            signed(host.of("changed_groups")), signed(host.of("others")), cpu(lost(host)), starved,
-            group_words(answer["gains"], host) or "-", group_words(answer["losses"], host) or "-"]
+CHANGE_COLUMNS: Columns = {
+    "host": lambda host: host.name,
+    "matched": count_of("matched"),
+    "served": amount_of("before", "served"), "then": amount_of("after", "served"),
+    "changed groups": lambda host: signed(host.of("changed_groups")),
+    "others": lambda host: signed(host.of("others")),
+    "lost": lambda host: cpu(lost(host)),
+    "starved": lambda host: " to ".join(str(host.answer[when]["starved"])
+                                        for when in ("before", "after")),
+    "gain most": lambda host: group_words(host.answer["gains"], host),
+    "lose most": lambda host: group_words(host.answer["losses"], host),
+}
+
+
+def moved(hosts: Sequence[HostAnswer], key: str) -> list[list[str]]:
+    """The rows of the groups of the fleet that gain or lose most."""
+    rises = [(host.cpus(rise), host.name, path) for host in hosts
+             for path, rise in host.answer[key]]
+    most = sorted(rises, key=lambda each: (-abs(each[0]), *each[1:]))[:MOST_MOVED]
+    return [[name, shown(path), signed(rise)] for rise, name, path in most]
 
 
 def of_changes(hosts: Sequence[HostAnswer], _: str) -> Parts:
     """The report of `diff`: the hosts whose groups lose most first."""
     before, after = (total(hosts, key, "served") for key in ("before", "after"))
-    found = list(changes(hosts))
-    gain, lose = (sum(count for rise, count in found if sign * rise > 0) for sign in (1, -1))
-    among = figures.quantiles((rise, count) for rise, count in found if rise)
+    changes = [(host.cpus(rise), count) for host in hosts
+               for rise, count in host.answer["changes"]]
+    gain, lose = (sum(count for rise, count in changes if sign * rise > 0) for sign in (1, -1))
+    among = quantiles((rise, count) for rise, count in changes if rise)
     with_group = sum(host.answer["matched"] > 0 for host in hosts)
     lines = [f"{cpu(before)} CPUs served before, {cpu(after)} after; the proved check accepted"
              " each plan",
              f"hosts with such a group: {with_group} of {len(hosts)}",
              f"groups that gain: {gain}, that lose: {lose}, of"
-             f" {sum(count for _, count in found)} without children",
-             f"change of a group that gains or loses, in CPUs: {figures.quantile_words(among)}"
+             f" {sum(count for _, count in changes)} without children",
+             f"change of a group that gains or loses, in CPUs: {quantile_words(among)}"
              if among else "no group gains or loses"]
-    rows = [[name, shown(path), signed(rise)] for key in ("gains", "losses")
-            for rise, name, path in moved(hosts, key)]
-    heads = ["host", "matched", "served", "then", "changed groups", "others", "lost", "starved",
-             "gain most", "lose most"]
-    ordered = sorted(hosts, key=lambda host: (-lost(host), host.name))
-    tables = [Table("Groups that gain and lose most", ["host", "group", "change"], rows),
-              Table("Hosts, the greatest loss first", heads,
-                    [change_row(host) for host in ordered])]
-    data = {"before_cpus": number(before), "after_cpus": number(after), "gain": gain, "lose": lose,
-            "hosts_with_such_a_group": with_group, "change_cpus": figures.quantile_data(among)}
-    return lines, tables, data
-
-
-def place_keys(host: HostAnswer, pod: dict[str, Any]) -> tuple[Fraction, Fraction]:
-    """What others lose and the pod lacks, and what is left after it, in CPUs."""
-    return host.cpus(pod["lost"] + pod["wants"] - pod["gets"]), host.cpus(pod["left"])
+    tables = [Table("Groups that gain and lose most", ["host", "group", "change"],
+                    [*moved(hosts, "gains"), *moved(hosts, "losses")]),
+              table("Hosts, the greatest loss first",
+                    sorted(hosts, key=lambda host: (-lost(host), host.name)), CHANGE_COLUMNS)]
+    return lines, tables, {
+        "before_cpus": number(before), "after_cpus": number(after), "gain": gain, "lose": lose,
+        "hosts_with_such_a_group": with_group, "change_cpus": quantile_data(among)}
 
 
 def ranked(hosts: Sequence[HostAnswer], place: int, rule: str) -> list[HostAnswer]:
     """The hosts that can take a pod, the best first."""
     def key(host: HostAnswer) -> tuple[Fraction, Fraction, str]:
-        harm, left = place_keys(host, host.answer["pods"][place])
+        pod = host.answer["pods"][place]
+        harm, left = host.cpus(pod["lost"] + pod["wants"] - pod["gets"]), host.cpus(pod["left"])
         return (harm, -left, host.name) if rule == "least-loss" else (-left, harm, host.name)
 
     return sorted((host for host in hosts if "why" not in host.answer["pods"][place]), key=key)
 
 
-def place_row(host: HostAnswer, place: int) -> list[str]:
-    """The row of a host for one pod."""
-    pod = host.answer["pods"][place]
-    return [host.name, cpu(host.cpus(pod["gets"])), cpu(host.cpus(pod["wants"])),
-            cpu(host.cpus(pod["lost"])), str(pod["losing"]), cpu(host.cpus(pod["left"])),
-            group_words(pod["losers"], host) or "-"]
+def place_columns(place: int) -> Columns:
+    def amount(key: str) -> Callable[[HostAnswer], str]:
+        return lambda host: cpu(host.cpus(host.answer["pods"][place][key]))
+
+    return {"host": lambda host: host.name, "gets": amount("gets"), "wants": amount("wants"),
+            "others lose": amount("lost"),
+            "losing": lambda host: str(host.answer["pods"][place]["losing"]),
+            "left": amount("left"),
+            "lose most": lambda host: group_words(host.answer["pods"][place]["losers"], host)}
 
 
 def of_places(hosts: Sequence[HostAnswer], rule: str) -> Parts:
     """The report of `place`: for each pod the best hosts first."""
-    heads = ["host", "gets", "wants", "others lose", "losing", "left", "lose most"]
     lines, tables, best = [f"by {rule}: {RULES[rule]}; amounts are CPUs"], [], {}
-    names = [pod["pod"] for pod in hosts[0].answer["pods"]] if hosts else []
-    for place, name in enumerate(names):
-        order = ranked(hosts, place, rule)
-        cannot = [f"{host.name}: {shown(host.answer['pods'][place]['why'])}" for host in hosts
-                  if "why" in host.answer["pods"][place]]
-        whole = sum(host.answer["pods"][place]["gets"] == host.answer["pods"][place]["wants"]
-                    and not host.answer["pods"][place]["lost"] for host in order)
+    for place, name in enumerate(pod["pod"] for pod in hosts[0].answer["pods"]) if hosts else ():
+        order, pods = ranked(hosts, place, rule), [host.answer["pods"][place] for host in hosts]
+        cannot = [f"{host.name}: {shown(pod['why'])}" for host, pod in zip(hosts, pods)
+                  if "why" in pod]
+        whole = sum("why" not in pod and pod["gets"] == pod["wants"] and not pod["lost"]
+                    for pod in pods)
         lines.append(f"{shown(name)}: hosts that give it all without a loss to others: {whole} of"
                      f" {len(hosts)}" + (f"; that cannot take it: {len(cannot)}, as {cannot[0]}"
                                          if cannot else ""))
-        tables.append(Table(f"Where {shown(name)} would go, the best first", heads,
-                            [place_row(host, place) for host in order]))
+        tables.append(table(f"Where {shown(name)} would go, the best first", order,
+                            place_columns(place)))
         best[name] = [host.name for host in order]
     return lines, tables, {"by": rule, "rule": RULES[rule], "best": best}
 
 
 def mean(host: HostAnswer, key: str) -> Fraction:
     """CPUs that the groups of a host got or wanted, as a mean over all periods."""
-    groups = host.answer["groups_of_columns"]
-    periods = max((group["periods"] for group in groups), default=1)
-    return host.cpus(sum(group[key] for group in groups)) / max(periods, 1)
+    periods = max((group["periods"] for group in host.answer["groups_of_columns"]), default=1)
+    return host.cpus(count(host, key)) / max(periods, 1)
 
 
 def count(host: HostAnswer, key: str) -> int:
-    """A count over all groups of a host."""
+    """A sum over all groups of a host."""
     return sum(group[key] for group in host.answer["groups_of_columns"])
 
 
-def series_row(host: HostAnswer) -> list[str]:
-    """The row of a host in `replay`."""
-    wanted, got = mean(host, "wanted"), mean(host, "got")
-    row = max((group["samples_starved_in_a_row"] for group in host.answer["groups_of_columns"]),
-              default=0)
-    return [host.name, str(host.answer["samples"]), cpu(wanted), cpu(got), part(got, wanted),
-            *(str(count(host, key)) for key in ("throttled", "bursts", "starved")), str(row)]
+SERIES_COLUMNS: Columns = {
+    "host": lambda host: host.name,
+    "samples": count_of("samples"),
+    "wanted": lambda host: cpu(mean(host, "wanted")),
+    "got": lambda host: cpu(mean(host, "got")),
+    "of it": lambda host: part(mean(host, "got"), mean(host, "wanted")),
+    "throttled": lambda host: str(count(host, "throttled")),
+    "bursts": lambda host: str(count(host, "bursts")),
+    "starved": lambda host: str(count(host, "starved")),
+    "samples in a row": lambda host: str(max((
+        group["samples_starved_in_a_row"] for group in host.answer["groups_of_columns"]),
+        default=0)),
+}
 
 
 def of_series(hosts: Sequence[HostAnswer], _: str) -> Parts:
     """The report of `replay`: the hosts that lack most as a mean first."""
-    def key(host: HostAnswer) -> tuple[Fraction, str]:
-        return mean(host, "got") - mean(host, "wanted"), host.name
-
     sums: dict[str, Any] = {f"mean_{each}_cpus": number(sum((mean(host, each) for host in hosts),
                                                              Fraction(0)))
                             for each in ("wanted", "got")}
@@ -247,10 +280,8 @@ def of_series(hosts: Sequence[HostAnswer], _: str) -> Parts:
              " means; the proved check accepted each plan",
              f"periods of groups: throttled {sums['throttled']}, with a burst {sums['bursts']},"
              f" starved {sums['starved']}"]
-    heads = ["host", "samples", "wanted", "got", "of it", "throttled", "bursts", "starved",
-             "samples in a row"]
-    rows = [series_row(host) for host in sorted(hosts, key=key)]
-    return lines, [Table("Hosts, the greatest lack first", heads, rows)], sums
+    ordered = sorted(hosts, key=lambda host: (mean(host, "got") - mean(host, "wanted"), host.name))
+    return lines, [table("Hosts, the greatest lack first", ordered, SERIES_COLUMNS)], sums
 
 
 ACTIONS: dict[str, Callable[[Sequence[HostAnswer], str], Parts]] = {
@@ -270,26 +301,23 @@ def built(action: str, hosts: Sequence[HostAnswer], missing: Sequence[tuple[str,
                   list(missing), data)
 
 
-def is_number(cell: str) -> bool:
-    """Whether a cell of a table is a number, or stands for none."""
-    return cell == "-" or cell.lstrip("+-")[:1].isdigit()
-
-
-def table_lines(table: Table, has_all: bool) -> list[str]:
-    """A table as text, of at most MOST_ROWS rows unless all are asked for."""
-    rows = table.rows if has_all else table.rows[:MOST_ROWS]
-    left = [at for at, column in enumerate(zip(*rows)) if at == 0
-            or not all(map(is_number, column))]
-    more = len(table.rows) - len(rows)
-    return layout.table([table.heads, *rows], left) + ([f"and {more} more (--all)"] if more else [])
+def table_lines(table_: Table, has_all: bool) -> list[str]:
+    """A table as text, of at most MOST_ROWS rows unless all are asked for. Columns of numbers,
+    where `-` stands for none, end at the right."""
+    rows = table_.rows if has_all else table_.rows[:MOST_ROWS]
+    left = [at for at, column in enumerate(zip(*rows)) if at == 0 or not all(
+        cell == "-" or cell.lstrip("+-")[:1].isdigit() for cell in column)]
+    more = len(table_.rows) - len(rows)
+    return layout.table([table_.heads, *rows], left) + ([f"and {more} more (--all)"]
+                                                        if more else [])
 
 
 def text(report: Report, has_all: bool) -> str:
     """The report as text. Each host without an answer is named."""
     lines = list(report.lines)
-    for table in report.tables:
-        if table.rows:
-            lines += ["", f"{table.title}:", *table_lines(table, has_all)]
+    for each in report.tables:
+        if each.rows:
+            lines += ["", f"{each.title}:", *table_lines(each, has_all)]
     if report.missing:
         lines += ["", "Not answered:", *(f"{name}: {shown(why)}" for name, why in report.missing)]
     return "".join(f"{line}\n" for line in lines)
@@ -297,10 +325,9 @@ def text(report: Report, has_all: bool) -> str:
 
 def page(report: Report) -> str:
     """The report as one HTML page, whose tables sort and can be searched."""
-    from arbiter_host.html import rendered  # (no other form needs jinja2)
-    tables = [{"title": table.title, "heads": list(table.heads),
-               "rows": [[shown(each) for each in row] for row in table.rows]}
-              for table in report.tables if table.rows]
+    tables = [{"title": each.title, "heads": each.heads,
+               "rows": [[shown(cell) for cell in row] for row in each.rows]}
+              for each in report.tables if each.rows]
     missing = [(shown(name), shown(why)) for name, why in report.missing]
     return rendered("fleet.html", f"Fleet: {report.action}", report.lines, tables=tables,
                     missing=missing)

@@ -1,48 +1,96 @@
-"""What a worker does: reads one host and plans it. It takes plain data and gives back JSON alone.
+"""What a worker does: reads one host and plans it.
 
-The value has the plans with their certificates, and what the file says beside them. What they
-come to is worked out where they are gathered, by `answers`.
+It sends the plans with their certificates, and what the file says beside them. What they come to is
+worked out where they are gathered, by `answers`.
 """
 from __future__ import annotations
 
 import functools
-import json
-from collections.abc import Iterable, Sequence
-from dataclasses import dataclass, replace
-from typing import Any
+import zlib
+from argparse import Namespace
+from array import array
+from collections import Counter
+from collections.abc import Mapping, Sequence
+from dataclasses import dataclass, field, replace
+from typing import Any, NamedTuple
 
-from arbiter import Library
+from arbiter import Columns, Host
 from arbiter_host import change, demands, load, names, series
 from arbiter_host.faults import HostFault
-from arbiter_host.fleet import job as jobs
-from arbiter_host.fleet.evidence import Recording
-from arbiter_host.fleet.job import Job
 from arbiter_host.model import Model
-from arbiter_host.plan import Plan, engine_of, plan
+from arbiter_host.plan import Engine, Plan, engine_of, plan
 from arbiter_host.sources.samples import History
 
 
 @dataclass(frozen=True)
-class Item:
-    """One host: its name, the bytes of its file, and of `replay` its demands over time."""
+class Job:
+    """One question to all hosts of a fleet."""
 
-    host: str
-    # The name of the file, for messages and for what its ending says.
-    file: str
-    data: bytes
+    action: str
+    # The options by which a host's file is read.
+    options: Mapping[str, Any]
+    # The changes of `diff`.
+    sets: Sequence[str] = ()
+    # The pods to be placed: a name and the bytes of the file.
+    pods: Sequence[tuple[str, bytes]] = ()
+    # Of `replay`: the unit of the demands, microseconds of a sample (0: one period), and the
+    # groups that columns stand for.
+    unit: str = "cpu"
+    sample_usec: int = 0
+    mapping: Mapping[str, str] = field(default_factory=dict)
+    # Whether a server gave the columns, which may know groups of other hosts too.
+    is_served: bool = False
+    # The C library; none stands for the first that a worker finds.
+    library: str | None = None
+
+
+@dataclass(frozen=True)
+class HostFile:
+    """A host's name in the fleet, and the path of its file, for messages and for what its ending
+    says."""
+
+    name: str
+    path: str
+    # The bytes of the file, once they are read, and of a part of one the pods that the host has.
+    data: bytes | None = None
+    pods: frozenset[str] = frozenset()
+    # Of `replay` its demands over time.
     history: History | None = None
 
 
-@functools.lru_cache(maxsize=4)
-def library(path: str | None) -> Library:
-    """The C library, once for each process."""
-    return engine_of(path).library
+class SentPlan(NamedTuple):
+    """A plan as it travels: the paths of its rows, `.` first, and `packed` rows with their
+    certificate."""
+
+    paths: list[str]
+    data: bytes
 
 
-@functools.lru_cache(maxsize=1)
-def job_of(text: str) -> Job:
-    """The job of its JSON, read once for each process."""
-    return jobs.of_text(text)
+class Sent(NamedTuple):
+    """What a worker sends of a host: its plans, and what its file says beside them."""
+
+    host: Host
+    plans: list[SentPlan]
+    told: dict[str, Any]
+
+
+Asked = tuple[list[SentPlan], dict[str, Any]]
+
+
+def packed(columns: Columns, amounts: Sequence[int], certificate: Sequence[array[int]]) -> bytes:
+    """Rows and their certificate: the bytes of each column, compressed."""
+    rows = (columns.parents, columns.weights, columns.limits, columns.demands)
+    return zlib.compress(b"".join(map(bytes, (*rows, array("Q", amounts), *certificate))), 1)
+
+
+def sent(made: Plan) -> SentPlan:
+    answer = made.answer
+    return SentPlan([".", *made.model.groups],
+                    packed(answer.columns, answer.amounts, answer.certificate))
+
+
+def explained(_: Job, model: Model, engine: Engine) -> Asked:
+    return [sent(plan(engine, model))], {"notes": len(model.notes), "refused": len(model.refused)}
 
 
 def matched(model: Model, words: Sequence[str]) -> tuple[list[str], set[str]]:
@@ -58,24 +106,10 @@ def matched(model: Model, words: Sequence[str]) -> tuple[list[str], set[str]]:
     return found, paths
 
 
-def paths_of(model: Model) -> list[str]:
-    """The paths of the rows."""
-    return [".", *model.groups]
-
-
-def explained(_: Job, model: Model, engine: Recording) -> dict[str, Any]:
-    """The plan of a host."""
-    plan(engine, model)
-    return {"paths": [paths_of(model)], "notes": len(model.notes), "refused": len(model.refused)}
-
-
-def compared(job: Job, model: Model, engine: Recording) -> dict[str, Any]:
-    """The plans before and after the changes."""
+def compared(job: Job, model: Model, engine: Engine) -> Asked:
     words, paths = matched(model, job.sets)
-    after = change.changed(model, words)
-    for each in (model, after):
-        plan(engine, each)
-    return {"paths": [paths_of(model), paths_of(after)], "matched": sorted(paths)}
+    models = (model, change.changed(model, words))
+    return [sent(plan(engine, each)) for each in models], {"matched": sorted(paths)}
 
 
 def with_pod(model: Model, pod: Model) -> tuple[Model, list[str]]:
@@ -103,83 +137,76 @@ def with_pod(model: Model, pod: Model) -> tuple[Model, list[str]]:
     return after, asking
 
 
-def pod_of(job: Job, place: int, model: Model, engine: Recording) -> Model:
+def pod_of(job: Job, name: str, data: bytes, model: Model, engine: Engine) -> Model:
     """The groups of a pod, as its file has them for this host's CPUs. It has used nothing yet."""
-    name = job.pods[place][0]
     want = None if job.options["want"] in demands.OF_USE else job.options["want"]
-    options = job.namespace(cpus=model.host.processors, period=None, slice=None, kind=None,
-                            want=want)
-    return load.of_bytes(options, name, job.pod_bytes(place), engine)
+    options = Namespace(**{**job.options, "cpus": model.host.processors, "period": None,
+                           "slice": None, "kind": None, "want": want})
+    return load.of_bytes(options, name, data, engine)
 
 
-def placed(job: Job, model: Model, engine: Recording) -> dict[str, Any]:
+def placed(job: Job, model: Model, engine: Engine) -> Asked:
     """The plan without a pod, and the plan with each by itself."""
-    plan(engine, model)
-    paths: list[list[str]] = [paths_of(model)]
-    pods: list[dict[str, Any]] = []
-    for place, (name, _) in enumerate(job.pods):
+    plans, pods = [sent(plan(engine, model))], list[dict[str, Any]]()
+    for name, data in job.pods:
         try:
-            after, asking = with_pod(model, pod_of(job, place, model, engine))
-            plan(engine, after)
+            after, asking = with_pod(model, pod_of(job, name, data, model, engine))
+            plans.append(sent(plan(engine, after)))
+            pods.append({"pod": name, "asking": asking})
         except HostFault as fault:
             pods.append({"pod": name, "why": fault.message})
-            continue
-        paths.append(paths_of(after))
-        pods.append({"pod": name, "asking": asking})
-    return {"paths": paths, "pods": pods}
+    return plans, {"pods": pods}
 
 
-def counts_of(found: Iterable[tuple[Plan, int]]) -> list[int]:
-    """For how many periods each plan holds, in the order in which they are made."""
-    every = list(found)
-    counts = dict.fromkeys((id(plan_) for plan_, _ in every), 0)
-    for plan_, count in every:
-        counts[id(plan_)] += count
-    return list(counts.values())
-
-
-def replayed(job: Job, model: Model, engine: Recording, history: History) -> dict[str, Any]:
+def replayed(job: Job, model: Model, engine: Engine, history: History) -> Asked:
     """The plans of all samples, and how many periods each holds for."""
     missing: list[str] = []
     path_of = series.targets(model, history.columns, job.mapping,
                              missing if job.is_served else None)
     if not path_of or not history.samples:
         raise HostFault("no sample of a group of this host")
-    periods, times = series.sample_periods(job.sample_usec, model.host.period_us), []
+    periods = series.sample_periods(job.sample_usec, model.host.period_us)
+    plans, times = list[SentPlan](), []
     for _, asked in history.demands(job.unit, model.host):
         series.set_demands(model, path_of, asked)
-        times.append(counts_of(series.periods_of(engine, model, periods)))
-    shown = list(path_of.values())
-    quotas = [series.quota_slices(model, engine, path) for path in shown]
-    return {"paths": [paths_of(model)], "columns": shown, "quotas": quotas, "times": times,
-            "unknown": missing}
+        counts: Counter[Plan] = Counter()
+        for made, count in series.periods_of(engine, model, periods):
+            counts[made] += count
+        plans += map(sent, counts)
+        times.append(list(counts.values()))
+    columns = list(path_of.values())
+    return plans, {"columns": columns, "times": times, "unknown": missing, "quotas": [
+        series.quota_slices(model, engine, path) for path in columns]}
 
 
-def planned(job: Job, item: Item) -> dict[str, Any]:
+ACTIONS = {"explain": explained, "diff": compared, "place": placed}
+
+
+@functools.cache
+def engine_here(path: str | None) -> Engine:
+    """The engine over the library of a path, once for each process."""
+    return engine_of(path)
+
+
+def planned(job: Job, host: HostFile) -> Sent:
     """The plans of one host, and what its file says beside them."""
-    engine = Recording(library(job.library))
-    model = load.of_bytes(job.namespace(), item.file, item.data, engine)
+    engine = engine_here(job.library)
+    model = load.of_bytes(Namespace(**job.options), host.path, host.data or b"", engine)
     if model.refused and not model.groups:
         raise HostFault(f"no host: {len(model.refused)} lines are none of a script, the first:"
                         f" {model.refused[0]}")
-    if item.history is not None:
-        found = replayed(job, model, engine, item.history)
-    else:
-        ask = {"explain": explained, "diff": compared, "place": placed}[job.action]
-        found = ask(job, model, engine)
-    host = model.host
-    return {**found, "host": [host.processors, host.period_us, host.slice_us],
-            "plans": engine.kept}
+    plans, told = (ACTIONS[job.action](job, model, engine) if host.history is None
+                   else replayed(job, model, engine, host.history))
+    return Sent(model.host, plans, told)
 
 
-def answered(job_text: str, item: Item) -> bytes:
-    """The plans of one host as JSON, or why there are none."""
+def answered(job: Job, host: HostFile) -> Sent | str:
+    """The plans of one host, or why there are none."""
     try:
-        found = planned(job_of(job_text), item)
+        return planned(job, host)
     except HostFault as fault:
-        found = {"why": fault.message}
-    except (MemoryError, ImportError) as fault:
-        found = {"why": f"its worker: {type(fault).__name__}: {fault}"}
+        return fault.message
+    except (MemoryError, ImportError) as error:
+        return f"its worker: {type(error).__name__}: {error}"
     except Exception as error:  # a file that no reader foresaw is one host's fault
-        found = {"why": f"{type(error).__name__}: {error}"}
-    return json.dumps(found).encode()
+        return f"{type(error).__name__}: {error}"

@@ -1,6 +1,6 @@
 """The subcommands of arbiterctl, each in a module that is imported when it is asked for.
 
-A new one is a module and a line here.
+A new one is a module, its texts in templates and a line here.
 """
 from __future__ import annotations
 

@@ -138,53 +138,5 @@ def run_undo(options: argparse.Namespace) -> None:
         warn(back.left)
 
 
-def add_apply_words(parser: argparse.ArgumentParser) -> None:
-    """The words of `apply`."""
-    parser.add_argument("source", nargs="+", metavar="BEFORE [AFTER]",
-                        help="sources, as of explain")
-    table.add(parser, "apply")
-
-
-def add_undo_words(parser: argparse.ArgumentParser) -> None:
-    """The words of `undo`."""
-    parser.add_argument("file", metavar="FILE", help="the undo file")
-    table.add(parser, "undo")
-
-
-DETAILS = (
-    "Each file is read first. If one does not hold what BEFORE says, nothing is changed. The undo"
-    " file is written and synced before the first change. A burst is lowered before its quota, and"
-    " raised after it. An interruption at any point can be undone. With --yes the steps are printed"
-    " that were made.",
-    "Nothing outside --root is opened for writing, no symbolic link is followed below it, and no"
-    " file is made there. Each group is open from the first reading to the last writing. If BEFORE"
-    " is a tree, a group that was made again since it was read is refused. A unit is set only if"
-    " its group is the folder that changes. A file that somebody sets between the reading and the"
-    " writing ends it there. A group that `hold` holds is refused.",
-    "The JSON of pods and that of their node, side by side, are one source.",
-    "With -o the change is written as files: `dropin` of units, `kubectl` patches of what owns"
-    " pods, `compose` overrides, `slurm` limits of users, or a `shell` script. What a form cannot"
-    " say is refused by name, and nothing is written. Files are new, or such that -o wrote; no link"
-    " is followed, and a folder that others may change is refused.",
-)
-UNDO_DETAILS = (
-    "A value that is neither what `apply` found nor what it wrote was set by somebody since. It is"
-    " told and left; --force sets it back too. A group that cannot be written costs the others"
-    " nothing. A file that other users may change is refused.",
-)
-APPLY_EXAMPLES = (
-    ("what would be done", "arbiterctl apply host.script --set web.service.weight=200"),
-    ("doing it", "arbiterctl apply host.script --set web.service.weight=200 --yes"
-     " --undo undo.json"),
-    ("a drop-in for review", "arbiterctl apply host.script --set web.service.weight=200"
-     " -o dropin=units/"),
-)
-UNDO_EXAMPLES = (("the old settings again", "arbiterctl undo undo.json --yes"),)
-APPLY = Subcommand("apply",
-                   "Prints how the settings of BEFORE become those of AFTER on a host with cgroup"
-                   " v2, each with what is there before. With --yes it is done, after an undo file"
-                   " was written, and read back.", add_apply_words, run_apply, DETAILS,
-                   APPLY_EXAMPLES)
-UNDO = Subcommand("undo",
-                  "Prints how the settings of an undo file come back. With --yes it is done and"
-                  " read back.", add_undo_words, run_undo, UNDO_DETAILS, UNDO_EXAMPLES)
+APPLY = Subcommand.of_texts("apply", run_apply)
+UNDO = Subcommand.of_texts("undo", run_undo)

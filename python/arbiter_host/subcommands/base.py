@@ -2,15 +2,19 @@
 from __future__ import annotations
 
 import argparse
+import tomllib
 from collections.abc import Callable, Sequence
+from pathlib import Path
 from typing import NamedTuple
 
-from arbiter_host import explain, load, names, text
+from arbiter_host import explain, load, names, options as table, text
 from arbiter_host.explain import View
 from arbiter_host.faults import UsageFault
-from arbiter_host.model import MAX_DEPTH
-from arbiter_host.plan import Engine, Plan, engine_of, plan
+from arbiter_host.model import MAX_DEPTH, Model
+from arbiter_host.plan import Engine, engine_of
 from arbiter_host.subcommands import PLACES
+
+TEXTS = Path(__file__).parent.parent / "templates"
 
 
 class Subcommand(NamedTuple):
@@ -31,6 +35,19 @@ class Subcommand(NamedTuple):
         """One line for the list of all."""
         return PLACES[self.name].summary
 
+    @classmethod
+    def of_texts(cls, name: str, run: Callable[[argparse.Namespace], None]) -> Subcommand:
+        """A subcommand whose texts and argument are in templates/NAME.toml."""
+        texts = tomllib.loads((TEXTS / f"{name}.toml").read_text(encoding="utf-8"))
+
+        def add_words(parser: argparse.ArgumentParser) -> None:
+            argument = dict(texts["argument"])
+            parser.add_argument(argument.pop("name"), **argument)
+            table.add(parser, name)
+
+        return cls(name, texts["description"], add_words, run, tuple(texts["details"]),
+                   tuple(texts["examples"].items()))
+
 
 def found_engine(options: argparse.Namespace) -> Engine:
     """The engine that the options name, else the first that is found."""
@@ -42,12 +59,11 @@ def source_name(paths: Sequence[str]) -> str:
     return "standard input" if paths[0] == "-" else names.shown(paths[0])
 
 
-def loaded_plan(options: argparse.Namespace, paths: Sequence[str]) -> Plan:
-    """The accepted plan of a source, after its notes were told."""
-    by = found_engine(options)
-    model = load.load(options, paths, by)
-    load.warn(model, source_name(paths))
-    return plan(by, model)
+def loaded(options: argparse.Namespace, by: Engine) -> Model:
+    """The source, after its notes were told."""
+    model = load.load(options, options.source, by)
+    load.warn(model, source_name(options.source))
+    return model
 
 
 def view_of(options: argparse.Namespace, chosen: frozenset[str] | None = None) -> View:

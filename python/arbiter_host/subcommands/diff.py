@@ -5,14 +5,13 @@ import argparse
 from collections.abc import Sequence
 
 from arbiter import Host
-from arbiter_host import change, choosing, diff, load, options as table
-from arbiter_host.explain import View
+from arbiter_host import change, choosing, diff, load, options as table, report
 from arbiter_host.faults import NoHost, NothingFound, UsageFault
 from arbiter_host.fleet import questions
 from arbiter_host.model import Model
 from arbiter_host.names import shown
 from arbiter_host.output import json_text, write_forms
-from arbiter_host.plan import Engine, Plan, plan
+from arbiter_host.plan import Engine, plan
 from arbiter_host.subcommands.base import Subcommand, found_engine, source_name, view_of
 
 
@@ -57,30 +56,19 @@ def compared(options: argparse.Namespace, by: Engine) -> tuple[Model, Model]:
 
 
 def chosen(options: argparse.Namespace, models: Sequence[Model]) -> frozenset[str] | None:
-    """The groups that are chosen in one of the models."""
-    groups: frozenset[str] | None = None
-    faults = []
+    """The groups that are chosen in one of the models; None for all."""
+    groups, faults = list[frozenset[str] | None](), list[NothingFound]()
     for model in models:
         try:
-            paths = choosing.chosen(model, options)
+            groups.append(choosing.chosen(model, options))
         except NothingFound as fault:
             faults.append(fault)
-            continue
-        groups = paths if groups is None else groups | (paths or frozenset())
-    if len(faults) == len(models):
+    if not groups:
         raise faults[0]
-    return groups
-
-
-def page(options: argparse.Namespace, one: Plan, two: Plan, view: View) -> str:
-    """The page of a change."""
-    from arbiter_host import report
-    return report.page(two, view, f"Change of {source_name(options.source)}", one,
-                       [shown(word) for word in options.set])
+    return None if None in groups else frozenset().union(*(each or () for each in groups))
 
 
 def run(options: argparse.Namespace) -> None:
-    """Writes what differs between two plans."""
     outputs, by = table.outputs(options), found_engine(options)
     if questions.answered(options):
         return
@@ -89,41 +77,9 @@ def run(options: argparse.Namespace) -> None:
     one, two = plan(by, before), plan(by, after)
     write_forms(outputs, {"text": lambda: diff.table(one, two, view),
                           "json": lambda: json_text(diff.as_data(one, two, view)),
-                          "html": lambda: page(options, one, two, view)})
+                          "html": lambda: report.page(
+                              two, view, f"Change of {source_name(options.source)}", one,
+                              [shown(word) for word in options.set])})
 
 
-def add_words(parser: argparse.ArgumentParser) -> None:
-    """The words of `diff`."""
-    parser.add_argument("source", nargs="+", metavar="BEFORE [AFTER]", help="sources, as of"
-                        " explain; with --set a source of many hosts too")
-    table.add(parser, "diff")
-
-
-DETAILS = (
-    "A change is GROUP.KEY=VALUE, with KEY one of weight, max, burst, period, demand, tasks. `*`"
-    " in GROUP stands for any letters. Groups that are the same in both plans are counted alone.",
-    "Of pods, KEY may also be request or limit: the weights and limits of the container, its pod,"
-    " its class and kubepods follow by the formulas of kubelet and the runtime. Of units, also of"
-    " those in a tree of cgroup v2, it may be CPUWeight or CPUQuota, of containers of docker cpus"
-    " or cpu-shares. These changes are made first.",
-    "Both plans are of one host: that of --cpus, else the one that AFTER names, else that of"
-    " BEFORE. `.cpus=8`, `.period=1s` and `.slice=5ms` change the host of the plan after. Two"
-    " sources that each name a host keep theirs.",
-    "The JSON of pods and that of their node, side by side, are one source. Of many hosts the"
-    " change is made on each.",
-)
-EXAMPLES = (
-    ("a greater weight on a host with more CPUs",
-     "arbiterctl diff host.toml --set web.weight=400 --set .cpus=32"),
-    ("another request on a Kubernetes node",
-     "arbiterctl diff pods.json node.json --set prod/web-7c9f/nginx.request=500m"),
-    ("the same as a page, with the pods of one namespace",
-     "arbiterctl diff pods.json node.json --set prod/web-7c9f/nginx.request=500m -n prod"
-     " -o html=change.html"),
-    ("two sources, as JSON", "arbiterctl diff before.script after.script -o json"),
-    ("a greater weight on every host that has the group",
-     "arbiterctl diff hosts --set web.weight=400"),
-)
-DIFF = Subcommand("diff",
-                  "Says what changes from BEFORE to AFTER. Without AFTER it is BEFORE with the"
-                  " changes of --set.", add_words, run, DETAILS, EXAMPLES)
+DIFF = Subcommand.of_texts("diff", run)

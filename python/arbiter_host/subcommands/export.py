@@ -19,7 +19,6 @@ WRITERS: Mapping[str, Callable[[Model, Library], str]] = {
 
 
 def run(options: argparse.Namespace) -> None:
-    """Writes what a source holds as a script or a host file."""
     outputs, by = table.outputs(options), found_engine(options)
     model = load.load(options, options.source, by)
     if options.set:
@@ -33,25 +32,4 @@ def run(options: argparse.Namespace) -> None:
     say(f"groups: {len(model.groups)}{warned}")
 
 
-def add_words(parser: argparse.ArgumentParser) -> None:
-    """The words of `export`."""
-    parser.add_argument("source", nargs="+", metavar="SOURCE", help="a source, as of explain")
-    table.add(parser, "export")
-
-
-DETAILS = (
-    "It only reads. What the script or host file cannot hold stands in it in lines that begin with"
-    " `# !`; for JSON it is printed as warnings. The first line of a script is the host, so that"
-    " the other subcommands need no options for it.",
-)
-EXAMPLES = (
-    ("this machine, by what it used in ten seconds",
-     "arbiterctl export /sys/fs/cgroup --read 2x10s -o script=host.script"),
-    ("a Kubernetes node as a host file",
-     "arbiterctl export pods.json node.json -o toml=node.toml"),
-    ("units of systemd, all of them busy",
-     "systemctl show '*.slice' '*.service' '*.scope' |"
-     " arbiterctl export - --want busy -o script=host.script"),
-)
-EXPORT = Subcommand("export", "Writes what a source holds as a script or a host file.", add_words,
-                    run, DETAILS, EXAMPLES)
+EXPORT = Subcommand.of_texts("export", run)

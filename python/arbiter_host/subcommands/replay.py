@@ -2,6 +2,7 @@
 from __future__ import annotations
 
 import argparse
+
 from arbiter_host import choosing, load, options as table, output, progress, series
 from arbiter_host.faults import HostFault, UsageFault
 from arbiter_host.fleet import questions
@@ -11,6 +12,7 @@ from arbiter_host.series import Series
 from arbiter_host.sources import by_options, used
 from arbiter_host.sources.usage import some
 from arbiter_host.subcommands.base import Subcommand, found_engine, source_name
+
 
 def periods_of(options: argparse.Namespace, model: Model) -> int:
     """The periods of one sample: 1, those of `--step`, or of a server's."""
@@ -30,7 +32,6 @@ def shown_groups(options: argparse.Namespace, model: Model) -> list[str]:
 
 
 def replayed(options: argparse.Namespace, by: Engine) -> Series:
-    """One host over all samples."""
     files = load.opened(options, options.source)
     kind = options.kind or load.kind_of(*files[0])
     model = load.model_of(used.without(options, kind), files, by)
@@ -50,7 +51,6 @@ def replayed(options: argparse.Namespace, by: Engine) -> Series:
 
 
 def run(options: argparse.Namespace) -> None:
-    """Plans each sample, and writes the answers."""
     if not options.used:
         raise UsageFault("--used: a file of demands over time, or a server's address")
     outputs = table.outputs(options)
@@ -65,30 +65,4 @@ def run(options: argparse.Namespace) -> None:
                                  "svg": lambda: series.picture(series_)})
 
 
-def add_words(parser: argparse.ArgumentParser) -> None:
-    """The words of `replay`."""
-    parser.add_argument("source", nargs="+", metavar="SOURCE", help="a source, as of explain, or"
-                        " many hosts: a folder of their files, a list of these, a cluster's JSON")
-    table.add(parser, "replay")
-
-
-DETAILS = (
-    "The samples of --used are planned one after another, with what was saved up. A sample lasts"
-    " one period, or as long as --step says: then its period is repeated, so that a burst lasts as"
-    " long as it would on a host.",
-    "A file is CSV with groups in the first row and a time in the first column, lines GROUP NUMBER"
-    " GROUP NUMBER .., or what was used at one time as `kubectl top pods` prints it. An empty cell"
-    " of CSV asks for nothing. For many hosts it is a folder with HOST.csv, or one CSV with the"
-    " columns time, host, group and demand.",
-    "The text has sums, and csv and json each sample. `wanted` and `got` are means.",
-)
-EXAMPLES = (
-    ("samples of half an hour each", "arbiterctl replay host.toml --used day.csv --step 30m"),
-    ("two days", "arbiterctl replay host.toml --used monday.csv --used tuesday.csv --step 30m"),
-    ("a picture of some groups",
-     "arbiterctl replay host.toml --used day.csv --step 30m -g web -o svg=day.svg"),
-    ("a day of each host", "arbiterctl replay hosts --used demands --step 30m"),
-)
-REPLAY = Subcommand("replay",
-                    "Plans the groups of SOURCE for each sample of what was used.",
-                    add_words, run, DETAILS, EXAMPLES)
+REPLAY = Subcommand.of_texts("replay", run)

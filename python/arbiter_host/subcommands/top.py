@@ -174,39 +174,4 @@ def run(asked: argparse.Namespace) -> None:
         raise Alerted(watch.state.held)
 
 
-def add_words(parser: argparse.ArgumentParser) -> None:
-    """The words of `top`."""
-    parser.add_argument("source", nargs="*", metavar="SOURCE", help="a tree of cgroups, which is"
-                        f" measured (default {looks.HOST_TREE}), or files as of explain, which are"
-                        " read again in each round")
-    options.add(parser, "top")
-
-
-DETAILS = (
-    "At a terminal it is a live table. Keys: q ends, s goes to the next order, f to the next"
-    " filter, - and + fold and unfold the tree by a level, a shows groups that ask for nothing."
-    " The bars before a group are what the plan gave it in the last ten rounds, as parts of its own"
-    " most. Behind a pipe each round is a line of JSON.",
-    "Of a tree a round has what each group used since the last reading, and how many of its periods"
-    " were throttled. Its demands are taken by --want (default psi), and planned. Of files there is"
-    " the plan alone.",
-    "GROUP of an alert is a path, its end, a title or a pattern with `*`. Groups with children are"
-    " compared where GROUP names them without `*`, and by throttled. A GROUP that is not there is"
-    " told. An alert ends the command with status 5. With --command, --listen or -o openmetrics it"
-    " goes on, and status 5 stands at the end. A command is run when an alert begins, and again"
-    " after it was away for a round. It has 60 seconds.",
-    "The metrics are arbiter_plan_gets_cpus, arbiter_plan_wants_cpus, arbiter_got_cpus,"
-    " arbiter_off_cpus, arbiter_throttled_ratio and arbiter_starved by group, arbiter_alert, and"
-    " arbiter_round_timestamp_seconds. share/arbiter/grafana.json is a dashboard of Grafana for"
-    " them. Every user of the machine can read the port.",
-)
-EXAMPLES = (
-    ("this machine, live", "arbiterctl top"),
-    ("one look, for a script",
-     "arbiterctl top /sys/fs/cgroup --read 2x5s --alert 'starved,throttled>5%'"),
-    ("metrics for Prometheus", "arbiterctl top --listen 127.0.0.1:9101"),
-    ("a command at an alert that holds for four rounds",
-     "arbiterctl top --alert 'web*:lack>250m for 4' --command 'logger -t arbiter'"),
-)
-TOP = Subcommand("top", "Plans a source again and again, compares the plan with what the groups"
-                 " got, and says when it gets bad.", add_words, run, DETAILS, EXAMPLES)
+TOP = Subcommand.of_texts("top", run)

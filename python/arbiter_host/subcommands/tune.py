@@ -5,15 +5,15 @@ import argparse
 from collections.abc import Sequence
 
 from arbiter import Unmet
-from arbiter_host import change, choosing, knobs, load, options as table, text, tune, units
+from arbiter_host import change, choosing, knobs, options as table, text, tune, units
 from arbiter_host.faults import NothingFound, UsageFault
 from arbiter_host.goals import Way
 from arbiter_host.knobs import Knob
 from arbiter_host.model import MAX_PROCESSORS
 from arbiter_host.names import short, shown
 from arbiter_host.output import json_text, write_forms
-from arbiter_host.plan import Plan, plan
-from arbiter_host.subcommands.base import Subcommand, found_engine, source_name
+from arbiter_host.plan import plan
+from arbiter_host.subcommands.base import Subcommand, found_engine, loaded
 from arbiter_host.tune import Tuned
 
 # Demands under which goals are met.
@@ -26,126 +26,123 @@ Lines = list[tuple[str, str]]
 
 
 def run(options: argparse.Namespace) -> None:
-    """Prints settings under which all goals are met."""
     if not options.goal:
         raise UsageFault("tune: the following arguments are required: --goal")
     outputs, by = table.outputs(options), found_engine(options)
-    model = load.load(options, options.source, by)
-    load.warn(model, source_name(options.source))
+    model = loaded(options, by)
     before = plan(by, change.warned(model, change.changed(model, options.set)))
     answer = tune.tune(before, options.goal, options.guaranteed,
                        choosing.chosen(before.model, options))
     if answer.best is not None:
         change.warned(before.model, answer.best.plan.model)
-    write_forms(outputs, {"text": lambda: lines_of(answer, options.unit),
+    write_forms(outputs, {"text": lambda: Told(answer, options.unit).lines(),
                           "json": lambda: json_text(tune.as_data(answer))})
     if answer.is_nothing:
         raise NothingFound("no settings were found that meet the goals")
 
 
 def name(path: str) -> str:
-    """A path as it is shown."""
     return short(shown(path))
 
 
-def lines_of(answer: Tuned, unit: str) -> Lines:
-    """The lines of the answer."""
-    where = f"{MEASURES[answer.asked.is_guaranteed]}, in {text.UNIT_WORDS[unit]}"
-    lines: Lines = [(text.host_words(answer.before), ""), *rounded(answer, unit)]
-    if answer.best is not None:
-        lines += way_lines(answer, answer.best, where, unit)
-    else:
-        assert isinstance(answer.weights, Unmet)
-        lines += clash_lines(answer, answer.weights, where, unit)
-    if isinstance(answer.owned, str):
-        lines.append((answer.owned, "yellow" if answer.best else ""))
-    return lines + alone_lines(answer, unit)
+class Told:
+    """The answer in lines, with amounts in a unit."""
 
+    def __init__(self, answer: Tuned, unit: str) -> None:
+        self.answer, self.before, self.unit = answer, answer.before, unit
+        self.where = f"{MEASURES[answer.asked.is_guaranteed]}, in {text.UNIT_WORDS[unit]}"
 
-def rounded(answer: Tuned, unit: str) -> Lines:
-    """The goals whose amounts are no whole number of slices."""
-    words = {f"{units.decimal(goal.asked)}m is no whole number of slices:"
-             f" {text.amount(answer.before, goal.amount, unit)} is asked for": ""
-             for goal in answer.asked.goals if answer.before.thousandths(goal.amount) != goal.asked}
-    return list(words.items())
+    def amount(self, slices: int) -> str:
+        """Slices in the unit."""
+        return text.amount(self.before, slices, self.unit)
 
+    def lines(self) -> Lines:
+        """All lines."""
+        answer = self.answer
+        lines: Lines = [(text.host_words(self.before), ""), *self.rounded()]
+        if answer.best is not None:
+            lines += self.way(answer.best)
+        else:
+            assert isinstance(answer.weights, Unmet)
+            lines += self.clash(answer.weights)
+        if isinstance(answer.owned, str):
+            lines.append((answer.owned, "yellow" if answer.best else ""))
+        return lines + self.alone()
 
-def paid(before: Plan, losses: Sequence[tuple[str, int]], unit: str) -> str:
-    """Groups and the slices that each loses, the first of them by name, in words."""
-    words = [f"{name(path)} -{text.amount(before, slices, unit)}"
-             for path, slices in losses[:NAMED]]
-    rest = len(losses) - NAMED
-    return ", ".join(words + ([f"{rest} more"] if rest > 0 else [])) or "nobody"
+    def rounded(self) -> Lines:
+        """The goals whose amounts are no whole number of slices."""
+        return list({f"{units.decimal(goal.asked)}m is no whole number of slices:"
+                     f" {self.amount(goal.amount)} is asked for": ""
+                     for goal in self.answer.asked.goals
+                     if self.before.thousandths(goal.amount) != goal.asked}.items())
 
+    def paid(self, losses: Sequence[tuple[str, int]]) -> str:
+        """Groups and the slices that each loses, the first of them by name, in words."""
+        words = [f"{name(path)} -{self.amount(slices)}" for path, slices in losses[:NAMED]]
+        rest = len(losses) - NAMED
+        return ", ".join(words + ([f"{rest} more"] if rest > 0 else [])) or "nobody"
 
-def way_lines(answer: Tuned, way: Way, where: str, unit: str) -> Lines:
-    """The lines of settings that meet all goals."""
-    lines = [(f"all goals are met at once {where}; the proved check accepted the plan", ""),
-             ("", ""), *goal_lines(answer, range(len(answer.asked.goals)), way.amounts, unit),
-             ("", "")]
-    if way.changes:
-        rows = [("setting", "now", "then", "group"),
-                *((each.key, each.now, each.then, name(each.path)) for each in way.changes)]
-        losses = paid(answer.before, tune.losers(answer, way), unit)
-        lines += [*zip(text.table(rows, (0, 3)), ("bold", *("" for _ in way.changes))), ("", ""),
-                  (f"who else pays: {losses}", "")]
-    return lines + [(way.told, "")]
+    def way(self, way: Way) -> Lines:
+        """The lines of settings that meet all goals."""
+        lines = [(f"all goals are met at once {self.where}; the proved check accepted the plan",
+                  ""), ("", ""),
+                 *self.goals(range(len(self.answer.asked.goals)), way.amounts), ("", "")]
+        if way.changes:
+            rows = [("setting", "now", "then", "group"),
+                    *((each.key, each.now, each.then, name(each.path)) for each in way.changes)]
+            losses = self.paid(tune.losers(self.answer, way))
+            lines += [*zip(text.table(rows, (0, 3)), ("bold", *("" for _ in way.changes))),
+                      ("", ""), (f"who else pays: {losses}", "")]
+        return lines + [(way.told, "")]
 
+    def clash(self, clash: Unmet) -> Lines:
+        """The lines of goals that cannot be met together."""
+        goals = [self.answer.asked.goals[place] for place in clash.together]
+        which = ("weights of their groups cannot meet these goals together" if len(goals) > 1 else
+                 "the weight of its group cannot meet this goal")
+        lines = [(f"{which} {self.where}", "yellow"), ("", ""), *self.goals(clash.together),
+                 ("", ""),
+                 (f"asked for in all: {self.amount(sum(goal.amount for goal in goals))}; served in"
+                  f" all: {self.amount(self.before.root.gets)}", "")]
+        if self.answer.is_climbed:
+            lines.append(("nor were weights of the groups above them found that do", ""))
+        lines.append(("nor were limits of other groups found with which they are met", ""))
+        lines += [(f"{name(goal.group.path)} asks for less: no setting gives it more than it asks"
+                   " for", "yellow") for goal in goals if goal.group.want < goal.amount]
+        return lines + [(f"the settings of {name(path)} stay as they are (-g)", "")
+                        for path in self.answer.kept]
 
-def clash_lines(answer: Tuned, clash: Unmet, where: str, unit: str) -> Lines:
-    """The lines of goals that cannot be met together."""
-    goals = [answer.asked.goals[place] for place in clash.together]
-    asked = text.amount(answer.before, sum(goal.amount for goal in goals), unit)
-    served = text.amount(answer.before, answer.before.root.gets, unit)
-    which = ("weights of their groups cannot meet these goals together" if len(goals) > 1 else
-             "the weight of its group cannot meet this goal")
-    lines = [(f"{which} {where}", "yellow"), ("", ""),
-             *goal_lines(answer, clash.together, None, unit), ("", ""),
-             (f"asked for in all: {asked}; served in all: {served}", "")]
-    if answer.is_climbed:
-        lines.append(("nor were weights of the groups above them found that do", ""))
-    lines.append(("nor were limits of other groups found with which they are met", ""))
-    lines += [(f"{name(goal.group.path)} asks for less: no setting gives it more than it asks for",
-               "yellow") for goal in goals if goal.group.want < goal.amount]
-    return lines + [(f"the settings of {name(path)} stay as they are (-g)", "")
-                    for path in answer.kept]
+    def goals(self, places: Sequence[int], then: Sequence[int] = ()) -> Lines:
+        """A line for each goal of some places: what its group gets now, and then where it is
+        known."""
+        rows, styles = [("goal", "now", *(["then"] if then else []), "wants", "group")], ["bold"]
+        for place in places:
+            goal, now = self.answer.asked.goals[place], self.answer.amounts[place]
+            cells = (goal.amount, now, *([then[place]] if then else []), goal.group.want)
+            rows.append((*map(self.amount, cells), name(goal.group.path)))
+            styles.append("" if then or now >= goal.amount else "red")
+        return list(zip(text.table(rows, (len(rows[0]) - 1,)), styles))
 
+    def alone(self) -> Lines:
+        """The lines of each setting of the group of one goal alone."""
+        if not self.answer.alone:
+            return []
+        rows = [("alone", "now", "least", "who pays"), *map(self.knob, self.answer.alone)]
+        styles = ["bold", *("" if knob.plan else "yellow" for knob in self.answer.alone)]
+        return [("", ""), *zip(text.table(rows, (0, 3)), styles)]
 
-def goal_lines(answer: Tuned, places: Sequence[int], then: Sequence[int] | None,
-               unit: str) -> Lines:
-    """A line for each goal of some places: what its group gets now, and then where it is known."""
-    rows, styles = [("goal", "now", *(["then"] if then else []), "wants", "group")], ["bold"]
-    for place in places:
-        goal, now = answer.asked.goals[place], answer.amounts[place]
-        cells = (goal.amount, now, *([then[place]] if then else []), goal.group.want)
-        rows.append((*(text.amount(answer.before, each, unit) for each in cells),
-                     name(goal.group.path)))
-        styles.append("" if then or now >= goal.amount else "red")
-    return list(zip(text.table(rows, (len(rows[0]) - 1,)), styles))
+    def knob(self, knob: Knob) -> tuple[str, str, str, str]:
+        """The row of a setting: a limit in the unit, others as they are."""
+        def value(number: int | str | None) -> str:
+            if knob.name == "limit" and isinstance(number, int):
+                return self.amount(number)
+            return "-" if number is None else str(number)
 
-
-def alone_lines(answer: Tuned, unit: str) -> Lines:
-    """The lines of each setting of the group of one goal alone."""
-    if not answer.alone:
-        return []
-    rows = [("alone", "now", "least", "who pays"),
-            *(knob_row(answer, knob, unit) for knob in answer.alone)]
-    styles = ["bold", *("" if knob.plan else "yellow" for knob in answer.alone)]
-    return [("", ""), *zip(text.table(rows, (0, 3)), styles)]
-
-
-def knob_row(answer: Tuned, knob: Knob, unit: str) -> tuple[str, str, str, str]:
-    """The row of a setting: a limit in the unit, others as they are."""
-    def value(number: int | str | None) -> str:
-        is_amount = knob.name == "limit" and isinstance(number, int)
-        return text.amount(answer.before, int(number or 0), unit) if is_amount else str(
-            "-" if number is None else number)
-
-    words = (paid(answer.before, knobs.losses(answer.asked, knob), unit) if knob.plan
-             else unreached(knob.name, answer.before.model.host.processors))
-    told = f" ({shown(knob.told)})" if knob.told else ""
-    label = LABELS.get(knob.name, knob.name) if knob.is_owned else knob.name
-    return label, value(knob.now), value(knob.least), f"{words}{told}"
+        words = (self.paid(knobs.losses(self.answer.asked, knob)) if knob.plan
+                 else unreached(knob.name, self.before.model.host.processors))
+        told = f" ({shown(knob.told)})" if knob.told else ""
+        label = LABELS.get(knob.name, knob.name) if knob.is_owned else knob.name
+        return label, value(knob.now), value(knob.least), f"{words}{told}"
 
 
 def unreached(setting: str, processors: int) -> str:
@@ -156,45 +153,4 @@ def unreached(setting: str, processors: int) -> str:
     return f"{MAX_PROCESSORS} CPUs do not reach it{more}"
 
 
-def add_words(parser: argparse.ArgumentParser) -> None:
-    """The words of `tune`."""
-    parser.add_argument("source", nargs="+", metavar="SOURCE", help="a source, as of explain")
-    table.add(parser, "tune")
-
-
-DETAILS = (
-    "The C library answers the weights. Those of the goals' groups alone change, and they are"
-    " proved to be the least of all that lower none. Where no such weights meet the goals, some are"
-    " lowered, as few and as little as is found. Where no weights of these groups do, groups above"
-    " them change too. Where none of these is found, limits of other groups are lowered, to one"
-    " level where they can be, and fewer where that costs the others no more. Of these three"
-    " answers none of the changes can be left out. It is not proved that they are the fewest.",
-    "For containers of pods it answers requests, for units CPUWeight, for containers of docker"
-    " cpu-shares. Requests are raised one after another over accepted plans, each to the least"
-    " beside the others. It is not proved that they are the least.",
-    "A goal is rounded up to whole slices, and a line says so. No group with a goal may be above"
-    " another one. Goals that no weights of their groups meet together are named, with what they"
-    " ask for in all and what is served. It is not proved that they are the fewest.",
-    "Of one goal it also prints each setting of the group alone, all else as it is: the least"
-    " weight from 1 to 10000, limit, and number of CPUs from 1 to 64, and the groups that get less"
-    " then. `-` is no value. The plan of each is accepted by the proved check, and no lesser value"
-    " reaches the goal. Of a container of a pod, a unit, or a container of docker these are the"
-    " settings that people own, too.",
-    "With -g only weights, limits and settings of these groups, and of those below them, change."
-    " What follows from a request, such as the weight of its pod, changes with it. At most 64"
-    " limits are lowered, and none of a group with a burst. Where nothing is found, it ends with"
-    " status 6.",
-)
-EXAMPLES = (
-    ("two groups at once", "arbiterctl tune host.toml --goal web=1500m --goal batch=14cpu"),
-    ("what web needs for one and a half CPUs, as JSON",
-     "arbiterctl tune host.toml --goal web=1.5cpu -o json"),
-    ("the same whatever the others ask for, by changes of batch alone",
-     "arbiterctl tune host.toml --goal web=1500m --guaranteed -g batch"),
-    ("requests of containers that are all busy",
-     "arbiterctl tune pods.json node.json --want busy --goal '*/nginx=750m' --goal '*/envoy=1cpu'"),
-)
-TUNE = Subcommand("tune",
-                  "Says with which weights, requests or shares several groups get what they are to"
-                  " get at once, or which goals cannot be met together.",
-                  add_words, run, DETAILS, EXAMPLES)
+TUNE = Subcommand.of_texts("tune", run)
