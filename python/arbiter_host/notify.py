@@ -8,6 +8,7 @@ from __future__ import annotations
 import os
 import socket
 from collections.abc import MutableMapping
+from contextlib import suppress
 from fractions import Fraction
 
 # Parts of the time of the watchdog after which it is told again.
@@ -19,9 +20,8 @@ class Notifier:
 
     def __init__(self, environment: MutableMapping[str, str] = os.environ) -> None:
         # (no child has them)
-        path = environment.pop("NOTIFY_SOCKET", "")
-        usec = environment.pop("WATCHDOG_USEC", "")
-        process = environment.pop("WATCHDOG_PID", "")
+        path, usec, process = (environment.pop(name, "") for name in (
+            "NOTIFY_SOCKET", "WATCHDOG_USEC", "WATCHDOG_PID"))
         self.address = f"\0{path[1:]}" if path.startswith("@") else path
         is_ours = process in ("", str(os.getpid()))
         # Seconds from one sign of life to the next; None without a watchdog.
@@ -31,14 +31,11 @@ class Notifier:
 
     def send(self, *words: str) -> None:
         """Sends lines such as READY=1. A socket that does not take them changes nothing."""
-        if not self.address:
-            return
-        with socket.socket(socket.AF_UNIX, socket.SOCK_DGRAM | socket.SOCK_CLOEXEC) as to:
-            try:
+        if self.address:
+            with (socket.socket(socket.AF_UNIX, socket.SOCK_DGRAM | socket.SOCK_CLOEXEC) as to,
+                  suppress(OSError)):
                 to.settimeout(1)
                 to.sendto("\n".join(words).encode(), self.address)
-            except OSError:
-                pass
 
     def alive(self) -> None:
         """Tells the watchdog."""

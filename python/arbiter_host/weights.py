@@ -15,26 +15,22 @@ from arbiter_host.model import Model
 WHOLE = 101
 
 
-def of_leaf(limit: int, most: int) -> int:
-    """The weight, 1 to 10000, of a leaf that may use `limit` of the `most` slices of its tasks.
-
-    It is 100 d / (1.01 - d) with d = limit / most, to the nearest whole number.
-    """
-    amount = min(limit, most)
-    part, rest = 10000 * amount, WHOLE * most - 100 * amount
-    return bounded((2 * part + rest) // (2 * rest))
-
-
 def bounded(weight: int) -> int:
     """A weight in the kernel's range."""
     return min(max(weight, units.MIN_WEIGHT), units.MAX_WEIGHT)
 
 
-def of_tree(model: Model, leaves: Mapping[str, int]) -> dict[str, int]:
-    """The weights of all groups. One with a leaf of `leaves` below it has the sum of its children.
+def of_leaf(limit: int, most: int) -> int:
+    """The weight of a leaf that may use `limit` of the `most` slices of its tasks: 1 to 10000, the
+    nearest whole number to 100 d / (1.01 - d) with d = limit / most."""
+    amount = min(limit, most)
+    part, rest = 10000 * amount, WHOLE * most - 100 * amount
+    return bounded((2 * part + rest) // (2 * rest))
 
-    All other groups keep their own weights.
-    """
+
+def of_tree(model: Model, leaves: Mapping[str, int]) -> dict[str, int]:
+    """The weights of all groups. One with a leaf of `leaves` below it has the sum of its children;
+    all other groups keep their own weights."""
     below, held = model.children(), set(leaves)
     found: dict[str, int] = {}
     for path in reversed(model.groups):

@@ -17,7 +17,7 @@ from arbiter import Host
 from arbiter_host import apply, hold, hunger, metrics, notify, safe_files, weights
 from arbiter_host.faults import HostFault
 from arbiter_host.model import Group, Model
-from arbiter_host.subcommands.hold import Signals, Waits
+from arbiter_host.subcommands.hold import Service
 from held import FREE, World, content, limit, said, started
 from places import PACKAGE
 
@@ -424,7 +424,7 @@ def test_watchdog_in_a_long_wait(folder):
         told = notify.Notifier(given)
         assert given == {} and told.every == Fraction(3, 100)
         begun = time.monotonic()
-        assert Waits(told, Signals())(0.3) is False
+        assert Service(told).wait(0.3) is False
         assert time.monotonic() - begun >= 0.29
         # (a busy machine wakes it late)
         assert 2 <= len(received(at)) <= 12

@@ -16,7 +16,7 @@ from arbiter_host.fleet.figures import HostAnswer
 from arbiter_host.fleet.hosts import Fleet, HostFile
 from arbiter_host.fleet.job import Job
 from arbiter_host.fleet.work import Item
-from arbiter_host.model import Group, Model
+from arbiter_host.model import Group
 from arbiter_host.output import json_text, warn, write_forms
 from arbiter_host.plan import Engine, engine_of
 from arbiter_host.sources import by_options, used
@@ -56,7 +56,7 @@ def check_sets(words: Sequence[str]) -> None:
             if change.is_owned(word):
                 change.check_value(word)
             else:
-                change.apply(Model(), Group("any"), key, value, False)
+                change.apply(Group("any"), key, value, False)
         except HostFault as fault:
             raise UsageFault(f"--set {names.shown(word)}: {fault.message}") from fault
 
