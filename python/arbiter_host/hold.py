@@ -3,19 +3,23 @@
 The rule is the library's call `arbiter_hold`. Each group is open from its first reading to the
 last writing. What stood is in a synced file before the first writing to it, and is put back at the
 end.
+
+Weights tell Linux how near each task of a group is to a whole CPU. Linux shares weights out on each
+CPU's queue by itself: a task that is to have a part of a CPU meets others that are to have the rest
+there. Weights are no part of the plan: what a group may use is its limit.
 """
 from __future__ import annotations
 
 import os
 import re
 import time
-from collections.abc import Callable, Iterable
+from collections.abc import Callable, Iterable, Mapping
 from dataclasses import dataclass, replace
 from fractions import Fraction
 from typing import Any, NamedTuple
 
 from arbiter import Columns, Host, Row
-from arbiter_host import apply, cgroup2, hunger, looks, output, safe_files, units, weights
+from arbiter_host import apply, cgroup2, hunger, looks, output, safe_files, units
 from arbiter_host.apply import BURST, WEIGHT, Back, By, Change, Settings
 from arbiter_host.demands import rise
 from arbiter_host.faults import HostFault
@@ -41,6 +45,9 @@ SPARE_FILES = 64
 # A quota stands that is up to this part of it above the limit of the rule; half as much is written
 # above it. The kernel gives a new quota at each writing, so a group could use two in a period.
 MOST_ABOVE = 64
+# A weight is as the part d of a CPU that a task is to have, to 1.01 - d, in hundredths: a whole CPU
+# has the greatest weight, half of one about 100.
+WHOLE = 101
 
 
 class Ways(NamedTuple):
@@ -135,6 +142,33 @@ def of_kubelet(folder: str, top: str = "") -> str:
 def own_settings(group: Group, old: Settings) -> None:
     """Sets what the operator has set. An idle group counts with weight 1."""
     group.weight, group.quota, group.period = old.weight or 1, old.quota, old.period
+
+
+def bounded(weight: int) -> int:
+    """A weight in the kernel's range."""
+    return min(max(weight, units.MIN_WEIGHT), units.MAX_WEIGHT)
+
+
+def leaf_weight(limit: int, most: int) -> int:
+    """The weight of a leaf that may use `limit` of the `most` slices of its tasks: 1 to 10000, the
+    nearest whole number to 100 d / (1.01 - d) with d = limit / most."""
+    amount = min(limit, most)
+    part, rest = 10000 * amount, WHOLE * most - 100 * amount
+    return bounded((2 * part + rest) // (2 * rest))
+
+
+def tree_weights(model: Model, leaves: Mapping[str, int]) -> dict[str, int]:
+    """The weights of all groups. One with a leaf of `leaves` below it has the sum of its children;
+    all other groups keep their own weights."""
+    below, held = model.children(), set(leaves)
+    found: dict[str, int] = {}
+    for path in reversed(model.groups):
+        weight = leaves.get(path, model.groups[path].weight)
+        if held.intersection(below[path]):
+            weight = sum(found[child] for child in below[path])
+            held.add(path)
+        found[path] = bounded(weight)
+    return found
 
 
 class Loop:
@@ -331,8 +365,8 @@ class Loop:
     def weights(self, model: Model, told: dict[str, Line]) -> dict[str, int]:
         """The weights of a round, which the line of each leaf gets too."""
         most = self.host.period_us // self.host.slice_us
-        written = weights.of_tree(model, {
-            path: weights.of_leaf(line["limit"], self.tasks[path] * most)
+        written = tree_weights(model, {
+            path: leaf_weight(line["limit"], self.tasks[path] * most)
             for path, line in told.items()})
         for path, line in told.items():
             line["weight"] = written[path]

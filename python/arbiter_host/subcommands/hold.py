@@ -6,17 +6,18 @@ import functools
 import json
 import os
 import signal
+import socket
 import time
-from collections.abc import Iterator
-from contextlib import ExitStack, contextmanager
+from collections.abc import Iterator, MutableMapping
+from contextlib import ExitStack, contextmanager, suppress
 from dataclasses import replace
+from fractions import Fraction
 from typing import TYPE_CHECKING
 
 from arbiter import Host
 from arbiter_host import hold, looks, options, output, record, safe_files
 from arbiter_host.faults import HostFault, UsageFault
 from arbiter_host.model import MAX_CAPACITY, MAX_DEPTH
-from arbiter_host.notify import Notifier
 from arbiter_host.sources import by_options
 from arbiter_host.subcommands.base import Subcommand, found_engine
 
@@ -26,6 +27,37 @@ if TYPE_CHECKING:
 SIGNALS = (signal.SIGTERM, signal.SIGINT, signal.SIGHUP)
 PERIOD, SLICE = 1000000, 1000
 PERIODS = (100000, PERIOD)
+# Parts of the time of the watchdog after which it is told again.
+PARTS = 3
+
+
+class Notifier:
+    """Tells systemd that a service is ready, alive or ending, by the protocol of sd_notify(3) and
+    sd_watchdog_enabled(3). Without NOTIFY_SOCKET nothing is sent."""
+
+    def __init__(self, environment: MutableMapping[str, str] = os.environ) -> None:
+        # (no child has them)
+        path, usec, process = (environment.pop(name, "") for name in (
+            "NOTIFY_SOCKET", "WATCHDOG_USEC", "WATCHDOG_PID"))
+        self.address = f"\0{path[1:]}" if path.startswith("@") else path
+        is_ours = process in ("", str(os.getpid()))
+        # Seconds from one sign of life to the next; None without a watchdog.
+        self.every: Fraction | None = None
+        if is_ours and usec.isascii() and usec.isdigit() and int(usec):
+            self.every = Fraction(int(usec), PARTS * 10**6)
+
+    def send(self, *words: str) -> None:
+        """Sends lines such as READY=1. A socket that does not take them changes nothing."""
+        if self.address:
+            with (socket.socket(socket.AF_UNIX, socket.SOCK_DGRAM | socket.SOCK_CLOEXEC) as to,
+                  suppress(OSError)):
+                to.settimeout(1)
+                to.sendto("\n".join(words).encode(), self.address)
+
+    def alive(self) -> None:
+        """Tells the watchdog."""
+        if self.every is not None:
+            self.send("WATCHDOG=1")
 
 
 class Service:
