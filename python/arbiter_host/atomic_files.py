@@ -52,7 +52,8 @@ def check_way(path: str, descriptor: int) -> None:
 
 
 def link_text(path: str, descriptor: int) -> str:
-    """What a link holds, which has to be this user's or root's; empty for what is no link."""
+    """What a link holds; empty for what is none. Anybody makes links in a sticky folder, so a link
+    has to be this user's or root's."""
     status = os.fstat(descriptor)
     if not stat.S_ISLNK(status.st_mode):
         return ""
@@ -103,8 +104,8 @@ def own_folder(path: str) -> int:
     above, name = os.path.split(os.path.abspath(path))
     with faults(path), ExitStack() as opened:
         place = descended(above, opened)
-        with suppress(FileExistsError):
-            if name:
+        if name:
+            with suppress(FileExistsError):
                 os.mkdir(name, 0o700, dir_fd=place)
         descriptor = os.open(name or "/", FOLDERS, dir_fd=place)
     return checked_own(path, descriptor)

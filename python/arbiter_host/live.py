@@ -3,6 +3,7 @@ from __future__ import annotations
 
 import os
 import select
+import shutil
 import signal
 import sys
 import termios
@@ -27,14 +28,6 @@ SORTS = ("", *explain.SORTS)
 FILTERS = ("", *explain.ONLY)
 ENDS = "qQ\x04"
 HELP = "q quit  s sort  f filter  - fold  + unfold  a all"
-
-
-def height() -> int:
-    """Rows of the terminal, 24 where there is none."""
-    try:
-        return os.get_terminal_size(sys.stdout.fileno()).lines
-    except (OSError, ValueError, AttributeError):
-        return 24
 
 
 def folded(plan: Plan, view: View, rows: int,
@@ -177,7 +170,7 @@ class Screen:
 
     def draw(self, letters: str = "") -> None:
         """Takes keys, and shows the plan."""
-        rows, table = max(height() - 2, 5), self.history.table
+        rows, table = max(shutil.get_terminal_size().lines - 2, 5), self.history.table
         depth = 0
         if letters and self.plan is not None:
             depth, _ = folded(self.plan, self.keys.view(self.view(self.plan)), rows, table)

@@ -104,16 +104,9 @@ class Held(Collector):
             yield GaugeMetricFamily(f"arbiter_hold_{name}", words, value=self.line[key])
 
 
-def registry_of(collector: Collector) -> CollectorRegistry:
-    """A registry of these metrics alone."""
-    registry = CollectorRegistry(auto_describe=False)
-    registry.register(collector)
-    return registry
-
-
 def text_of(collector: Collector) -> bytes:
     """The metrics as OpenMetrics."""
-    text: bytes = generate_latest(registry_of(collector))  # type: ignore[no-untyped-call]
+    text: bytes = generate_latest(collector)  # type: ignore[no-untyped-call]
     return text
 
 
@@ -222,7 +215,9 @@ def address_of(text: str) -> tuple[str, int]:
 
 def guarded(collector: Collector) -> Callable[..., Any]:
     """Answers `GET /metrics` of a loopback name alone, so that no page of a browser reaches it."""
-    app = make_wsgi_app(registry_of(collector))
+    registry = CollectorRegistry(auto_describe=False)
+    registry.register(collector)
+    app = make_wsgi_app(registry)
 
     def answer(environ: dict[str, Any], start: Callable[..., Any]) -> Any:
         host = str(environ.get("HTTP_HOST", "")).lower()
