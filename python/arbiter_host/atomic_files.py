@@ -7,6 +7,7 @@ another program is replaced.
 from __future__ import annotations
 
 import errno
+import functools
 import os
 import secrets
 import stat
@@ -15,7 +16,8 @@ from contextlib import ExitStack, closing, contextmanager, suppress
 from dataclasses import dataclass, field
 from typing import NamedTuple
 
-from arbiter_host.faults import HostFault, strerror
+from arbiter_host import safe_files
+from arbiter_host.faults import HostFault
 from arbiter_host.names import shown
 from arbiter_host.safe_files import check_path, is_of_others
 
@@ -27,15 +29,7 @@ MOST_LINKS = 40
 HEAD = 200
 # Ends of a line that tells a fault.
 CHANGED, WRITTEN = "; nothing is changed", "; nothing is written"
-
-
-@contextmanager
-def faults(path: str, end: str = CHANGED, kind: str = "") -> Iterator[None]:
-    """Errors of the system as faults that name a file, in one line."""
-    try:
-        yield
-    except OSError as error:
-        raise HostFault(f"{kind}{shown(path)}: {strerror(error)}{end}") from error
+faults = functools.partial(safe_files.faults, end=CHANGED)
 
 
 def open_to_others(path: str) -> HostFault:
@@ -210,11 +204,11 @@ def put_all(documents: Sequence[Document], mark: str, by: str) -> None:
         places = []
         for path, text in documents:
             places.append(place := opened.enter_context(closing(place_of(path))))
-            with faults(path, WRITTEN):
+            with faults(path, end=WRITTEN):
                 place.check_ours(path, mark, f"was not written by {by}{WRITTEN}")
                 opened.enter_context(place.waiting(text.encode("utf-8", "surrogateescape")))
         for (path, _), place in zip(documents, places):
-            with faults(path, WRITTEN):
+            with faults(path, end=WRITTEN):
                 place.give_name()
                 os.fsync(place.folder)
 
@@ -242,7 +236,7 @@ def put_file(path: str, data: bytes) -> None:
     mask = os.umask(0o077)
     os.umask(mask)
     mode = 0o666 & ~mask
-    with faults(path, ""):
+    with safe_files.faults(path):
         with suppress(FileNotFoundError):
             status = os.stat(path)
             if not stat.S_ISREG(status.st_mode):

@@ -123,10 +123,9 @@ def own_folder() -> str:
 def own_group() -> Identity | None:
     """The group in which this process runs, by whatever path it is reached."""
     try:
-        status = os.stat(own_folder())
+        return safe_files.identity_of(own_folder())
     except OSError:
         return None
-    return status.st_dev, status.st_ino
 
 
 def of_kubelet(folder: str, top: str = "") -> str:
@@ -412,7 +411,7 @@ class Loop:
             return 0
         try:
             text = self.undo_text()
-            if changed or self.record.is_there and self.record.text != text:
+            if changed or self.record.text not in ("", text):
                 self.record.put(text)
             for kept in changed:
                 self.set(kept)

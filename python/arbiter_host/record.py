@@ -78,10 +78,9 @@ class Record:
 
     def __init__(self, path: str) -> None:
         place = place_of(path)
-        self.path, self.is_there = os.path.abspath(path), False
+        # The text that was put last; empty where there is no file.
+        self.path, self.text = os.path.abspath(path), ""
         self.place = replace(place, part=f"{place.name}.part")
-        # The text that was put last.
-        self.text = ""
         # The name may be taken by a link that leads nowhere, too.
         with ExitStack() as stack:
             stack.callback(self.close)
@@ -95,15 +94,15 @@ class Record:
     def put(self, text: str) -> None:
         """Puts a text in place of the last."""
         with faults(self.path):
-            self.place.put(text.encode(), is_new=not self.is_there)
-            self.is_there, self.text = True, text
+            self.place.put(text.encode(), is_new=not self.text)
+            self.text = text
             os.fsync(self.place.folder)
 
     def remove(self) -> None:
-        if self.is_there:
+        if self.text:
             with faults(self.path):
                 os.unlink(self.place.name, dir_fd=self.place.folder)
-            self.is_there = False
+            self.text = ""
 
     def close(self) -> None:
         self.place.close()

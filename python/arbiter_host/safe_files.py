@@ -30,9 +30,19 @@ class Gone(HostFault):
     """A file that is not there, or whose group was removed while it was open."""
 
 
-def identity_of(descriptor: int) -> Identity:
-    """The identity of what a descriptor is open at."""
-    status = os.fstat(descriptor)
+@contextmanager
+def faults(path: str, end: str = "", kind: str = "") -> Iterator[None]:
+    """Errors of the system as faults that name a file, in one line."""
+    try:
+        yield
+    except OSError as error:
+        fault = Gone if error.errno in REMOVED else HostFault
+        raise fault(f"{kind}{shown(path)}: {strerror(error)}{end}") from error
+
+
+def identity_of(place: int | str) -> Identity:
+    """The identity of what a path leads to, or a descriptor is open at."""
+    status = os.stat(place)
     return status.st_dev, status.st_ino
 
 
@@ -62,16 +72,6 @@ class Root:
     def name(self, folder: str, file: str) -> str:
         return os.path.join(self.path, folder, file)
 
-    @contextmanager
-    def faults(self, folder: str, file: str = "") -> Iterator[None]:
-        """Errors of the system as faults that name the file."""
-        try:
-            yield
-        except OSError as error:
-            kind = Gone if error.errno in REMOVED else HostFault
-            name = self.name(folder, file).rstrip("/")
-            raise kind(f"{shown(name)}: {strerror(error)}") from error
-
     def descend(self, folder: str) -> int:
         """Opens a folder, part by part from the top, which stays open."""
         parts = parts_of(folder)
@@ -92,7 +92,7 @@ class Root:
             raise HostFault(f"{shown(folder)}: named twice")
         if not self.kept:
             most_files()
-        with self.faults(folder):
+        with faults(os.path.join(self.path, folder)):
             self.kept[folder] = self.descend(folder)
         if identity is not None and identity_of(self.kept[folder]) != identity:
             raise HostFault(f"{shown(folder)}: is another group than the one that was read")
@@ -117,7 +117,7 @@ class Root:
     @contextmanager
     def opened(self, folder: str, file: str, flags: int) -> Iterator[int]:
         """A plain file below the root."""
-        with self.faults(folder, file), self.at(folder) as above:
+        with faults(self.name(folder, file)), self.at(folder) as above:
             descriptor = os.open(file, FILE | flags, dir_fd=above)
             try:
                 status = os.fstat(descriptor)

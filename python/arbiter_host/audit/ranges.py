@@ -52,8 +52,7 @@ class Prometheus:
     selector: str
     range: prometheus.QueryRange
 
-    def check(self) -> None:
-        """A fault where words of it are refused."""
+    def __post_init__(self) -> None:
         if not prometheus.is_address(self.url):
             raise UsageFault(f"--used {shown(self.url)}: audit reads a Prometheus: not http:// or"
                              " https://")
@@ -169,7 +168,6 @@ class Found:
 
 def fetched(server: Prometheus, model: Model) -> tuple[Found, list[str]]:
     """All series, and what is told of those of no group."""
-    server.check()
     usage = server.series(METRICS["usage"])
     if not any(usage.values()):
         raise HostFault(f"{shown(server.url)}: no {USAGE} from {shown(server.range.start)} to"

@@ -29,8 +29,7 @@ def of_range(asked: argparse.Namespace) -> tuple[list[Look], list[str], set[int]
     if not asked.source:
         raise UsageFault("--used: it belongs to a SOURCE whose groups were measured")
     server = ranges.Prometheus(asked.used[0], asked.query or "",
-                           prometheus.range_of(asked.range, asked.step))
-    server.check()
+                               prometheus.range_of(asked.range, asked.step))
     files = load.opened(asked, asked.source)
     kind = asked.kind or load.kind_of(*files[0])
     model = load.model_of(used.without(asked, kind), files, found_engine(asked))
