@@ -213,12 +213,11 @@ def put_all(documents: Sequence[Document], mark: str, by: str) -> None:
                 os.fsync(place.folder)
 
 
-def place_of(path: str, opens: Callable[[str], int] = own_folder, mode: int = 0o600,
-             is_synced: bool = True) -> Place:
+def place_of(path: str, opens: Callable[[str], int] = own_folder) -> Place:
     """The place of a path, whose folder is opened."""
     check_path(path)
     above, name = os.path.split(os.path.abspath(path))
-    return Place(opens(above), name, mode, is_synced)
+    return Place(opens(above), name)
 
 
 def any_place(path: str, mode: int = 0o600) -> Place:

@@ -122,9 +122,10 @@ class File:
     @contextmanager
     def opened(self) -> Iterator[Place]:
         """Where it is written."""
-        place = place_of(self.path, collected_folder, mode=0o644, is_synced=False)
+        place = place_of(self.path, collected_folder)
         # (what a kill leaves under the one other name is replaced)
-        with closing(replace(place, part=f".{place.name}.part")) as place:
+        part = f".{place.name}.part"
+        with closing(replace(place, part=part, mode=0o644, is_synced=False)) as place:
             with faults(self.path):
                 place.check_ours(self.path, MARK, f"has no metrics of arbiterctl{CHANGED}")
                 yield place

@@ -91,7 +91,6 @@ class Interval:
     """What was between two looks: the leaves measured at both, and why others were not."""
 
     name: str
-    at: Fraction
     seconds: Fraction
     model: Model
     cells: dict[str, Cell]
@@ -166,7 +165,7 @@ def interval_of(engine: Engine, one: Look, two: Look, want: str | None,
     if found is not None:
         cells |= {each.path: replace(cells[each.path], planned=found.thousandths(each.gets))
                   for each in found.groups if each.path in cells}
-    return Interval(one.name, one.at, two.at - one.at, model, cells, holes,
+    return Interval(one.name, two.at - one.at, model, cells, holes,
                     unplanned_of(one, two, cells)), found
 
 

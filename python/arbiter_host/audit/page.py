@@ -16,8 +16,7 @@ MOST_DRAWN = 12
 # A picture fits a window of 500 pixels as it is.
 WIDTH, HEIGHT, LEFT, RIGHT, TOP, BOTTOM = 440, 170, 52, 12, 12, 24
 # Colours of the page, which has others in the dark.
-TEXT, FAINT, LINE, USED, PLANNED = (f"var(--{each})" for each in ("text", "faint", "line", "get",
-                                                                 "bad"))
+FAINT, LINE, USED, PLANNED = (f"var(--{each})" for each in ("faint", "line", "get", "bad"))
 
 
 def picture(row: AuditRow, intervals: Sequence[Interval]) -> str:
