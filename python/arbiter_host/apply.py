@@ -10,7 +10,7 @@ import json
 import os
 import shlex
 import subprocess
-from collections.abc import Container, Iterator, Sequence
+from collections.abc import Container, Iterable, Iterator, Sequence
 from contextlib import closing
 from dataclasses import asdict, dataclass, field, replace
 from enum import Enum
@@ -28,6 +28,9 @@ from arbiter_host.sources.systemd import UNIT
 
 SECONDS = 60
 VERSION = 1
+WEIGHT, MAXIMUM, BURST = "cpu.weight", "cpu.max", "cpu.max.burst"
+# The settings that each file holds.
+FIELDS = {WEIGHT: ("weight",), MAXIMUM: ("quota", "period"), BURST: ("burst",)}
 
 
 class By(Enum):
@@ -53,6 +56,15 @@ class Settings:
         """The text of `cpu.max`."""
         return f"{'max' if self.quota is None else self.quota} {self.period}"
 
+    @property
+    def files(self) -> dict[str, str]:
+        """The text of each file."""
+        return {WEIGHT: str(self.weight), MAXIMUM: self.maximum, BURST: str(self.burst)}
+
+    def taking(self, file: str, other: Settings) -> Settings:
+        """The same but for a file, which holds what it does in other settings."""
+        return replace(self, **{key: getattr(other, key) for key in FIELDS[file]})
+
 
 @dataclass(frozen=True)
 class Change:
@@ -63,6 +75,8 @@ class Change:
     after: Settings
     # The folder that BEFORE was read from, if it was read from a tree.
     identity: Identity | None = None
+    # What a loop may have left in the group besides.
+    earlier: tuple[Settings, ...] = ()
 
 
 @dataclass(frozen=True)
@@ -109,25 +123,21 @@ def folder_of(group: Group, root: Root) -> str:
     return place
 
 
-def change_of(one: Group, two: Group, root: Root) -> Change:
-    """The change of one group, which both sources found at one place if both say it."""
-    check_settings(two)
-    if None not in (one.identity, two.identity) and one.identity != two.identity:
-        raise HostFault(f"{shown(one.path)}: BEFORE and AFTER were read from two groups")
-    return Change(folder_of(one, root), settings_of(one), settings_of(two),
-                  one.identity or two.identity)
-
-
 def changes(before: Model, after: Model, root: Root) -> tuple[list[Change], list[str]]:
     """The groups whose settings differ, and what is left alone, in words."""
     by_folder: dict[str, Change] = {}
     for path, one in before.groups.items():
         two = after.groups.get(path)
-        if two is not None and settings_of(one) != settings_of(two):
-            change = change_of(one, two, root)
-            if change.folder in by_folder:
-                raise HostFault(f"{shown(path)}: another group has the place {change.folder}")
-            by_folder[change.folder] = change
+        if two is None or settings_of(one) == settings_of(two):
+            continue
+        check_settings(two)
+        if None not in (one.identity, two.identity) and one.identity != two.identity:
+            raise HostFault(f"{shown(path)}: BEFORE and AFTER were read from two groups")
+        folder = folder_of(one, root)
+        if folder in by_folder:
+            raise HostFault(f"{shown(path)}: another group has the place {folder}")
+        by_folder[folder] = Change(folder, settings_of(one), settings_of(two),
+                                   one.identity or two.identity)
     return list(by_folder.values()), only_in_one(before, after)
 
 
@@ -145,13 +155,10 @@ def number(text: str) -> int:
     return int(text)
 
 
-def current(root: Root, folder: str, takes_idle: bool = False) -> Settings:
-    """Contents of the files of a group now. A fault for an idle group, or with `takes_idle` weight
-    0."""
-    weight, words = root.read(folder, "cpu.weight"), root.read(folder, "cpu.max").split()
-    burst = root.read(folder, "cpu.max.burst")
-    if weight == "0" and not takes_idle:
-        raise HostFault(f"{shown(folder)}: idle (cpu.idle): its weight cannot be set")
+def current(root: Root, folder: str) -> Settings:
+    """Contents of the files of a group now; weight 0 for an idle one."""
+    weight, words = root.read(folder, WEIGHT), root.read(folder, MAXIMUM).split()
+    burst = root.read(folder, BURST)
     if len(words) != 2:
         raise HostFault(f"{shown(folder)}: cpu.max is {shown(' '.join(words)[:40])!r}")
     quota = None if words[0] == "max" else number(words[0])
@@ -161,12 +168,12 @@ def current(root: Root, folder: str, takes_idle: bool = False) -> Settings:
 def standing(root: Root, folder: str) -> Settings | None:
     """Contents of the files of a group now, weight 0 for an idle one; None if the group is gone."""
     try:
-        return current(root, folder, takes_idle=True)
+        return current(root, folder)
     except Gone:
         return None
 
 
-def unlike(root: Root, wanted: Sequence[tuple[str, Settings]]) -> list[str]:
+def unlike(root: Root, wanted: Iterable[tuple[str, Settings]]) -> list[str]:
     """The groups that do not hold these settings, in words."""
     words = []
     for folder, settings in wanted:
@@ -178,8 +185,9 @@ def unlike(root: Root, wanted: Sequence[tuple[str, Settings]]) -> list[str]:
     return words
 
 
-def keep(root: Root, changes_: Sequence[Change]) -> list[str]:
-    """Opens the groups that change, to be kept. Returns those that are not there, in words."""
+def check_host(root: Root, changes_: Sequence[Change]) -> None:
+    """Opens the groups, to be kept. A fault names each that is not there, else each whose files do
+    not hold what they held before."""
     wrong = []
     for change in changes_:
         try:
@@ -188,16 +196,17 @@ def keep(root: Root, changes_: Sequence[Change]) -> list[str]:
             wrong.append(f"{shown(change.folder)}: is gone")
         except HostFault as fault:
             wrong.append(fault.message)
-    return wrong
-
-
-def check_host(root: Root, changes_: Sequence[Change]) -> None:
-    """Keeps the groups; a fault that names each whose files do not hold what they held before."""
-    wrong = (keep(root, changes_)
-             or unlike(root, [(change.folder, change.before) for change in changes_]))
+    wrong = wrong or unlike(root, ((change.folder, change.before) for change in changes_))
     if wrong:
         raise HostFault("\n".join(["the host is not what BEFORE says, so nothing is changed:",
                                    *wrong]))
+
+
+def check_after(root: Root, changes_: Sequence[Change]) -> None:
+    """A fault where a file does not hold what was written."""
+    wrong = unlike(root, ((change.folder, change.after) for change in changes_))
+    if wrong:
+        raise HostFault("\n".join(["read back, the host is not what was written:", *wrong]))
 
 
 def in_words(settings: Settings) -> str:
@@ -214,34 +223,40 @@ def percent(settings: Settings) -> str | None:
     return f"{units.decimal(exact, 2)}%" if (exact * 100).denominator == 1 else None
 
 
-def unit_of(folder: str, by: By) -> str:
-    """The unit whose group a folder is; empty where it is none."""
-    names = folder.split("/")
-    if by is not By.FILES and all(UNIT.fullmatch(name) for name in names):
-        return names[-1]
-    return ""
-
-
-def max_step(change: Change, one: Settings, two: Settings, unit: str, by: By) -> Step:
-    """The step that sets a quota and its period."""
-    written = percent(two)
-    if not unit or written is None:
-        return Step(change.folder, "cpu.max", one.maximum, two.maximum)
-    new = f"CPUQuota={written} CPUQuotaPeriodSec={two.period}us"
-    return Step(change.folder, "cpu.max", one.maximum, new, unit, by)
+def properties(folder: str, settings: Settings, by: By) -> tuple[str, dict[str, str]]:
+    """The unit whose group a folder is, and what sets its settings, by file. Empty where it is no
+    unit, or where files alone are written."""
+    names, part = folder.split("/"), percent(settings)
+    if by is By.FILES or not all(UNIT.fullmatch(name) for name in names):
+        return "", {}
+    limit = {MAXIMUM: f"CPUQuota={part} CPUQuotaPeriodSec={settings.period}us"}
+    return names[-1], {WEIGHT: f"CPUWeight={settings.weight}", **({} if part is None else limit)}
 
 
 def steps_of(change: Change, one: Settings, by: By) -> Iterator[Step]:
     """The steps from settings that stand to those wanted, in an order that the kernel takes."""
-    two, unit = change.after, unit_of(change.folder, by)
-    if one.weight != two.weight:
-        new = f"CPUWeight={two.weight}" if unit else str(two.weight)
-        yield Step(change.folder, "cpu.weight", str(one.weight), new, unit, by)
-    limit = [max_step(change, one, two, unit, by)] if one.maximum != two.maximum else []
-    burst = ([Step(change.folder, "cpu.max.burst", str(one.burst), str(two.burst))]
-             if one.burst != two.burst else [])
+    two = change.after
+    unit, set_by = properties(change.folder, two, by)
     # A lower burst fits the old quota; a greater one may need the new quota.
-    yield from [*burst, *limit] if two.burst < one.burst else [*limit, *burst]
+    limit = (BURST, MAXIMUM) if two.burst < one.burst else (MAXIMUM, BURST)
+    for file in (WEIGHT, *limit):
+        old, new = one.files[file], two.files[file]
+        if old != new and file in set_by:
+            yield Step(change.folder, file, old, set_by[file], unit, by)
+        elif old != new:
+            yield Step(change.folder, file, old, new)
+
+
+def planned_steps(changes_: Sequence[Change], by: By, by_files: Container[str] = ()) -> list[Step]:
+    """All steps. `by_files` are folders that are written without their unit."""
+    return [step for change in changes_ for step in
+            steps_of(change, change.before, By.FILES if change.folder in by_files else by)]
+
+
+def passing(steps: Sequence[Step]) -> list[str]:
+    """The steps that no boot keeps, although the others are kept, in words."""
+    return [f"{step.folder}: {step.file} is set by its file, which is not kept at the next boot"
+            for step in steps if not step.unit]
 
 
 def command_of(step: Step) -> list[str]:
@@ -262,63 +277,51 @@ def check_stands(step: Step, root: Root) -> None:
                         " meanwhile")
 
 
-def of_units(steps: Sequence[Step]) -> set[str]:
-    """The folders of units: systemd writes all files of one when it sets a property."""
-    return {step.folder for step in steps if step.unit}
-
-
-def after_step(stands: Settings, wanted: Settings, step: Step) -> Settings:
-    """The settings of a group after one step to the wanted ones."""
-    if step.file == "cpu.max":
-        return replace(stands, quota=wanted.quota, period=wanted.period)
-    if step.file == "cpu.weight":
-        return replace(stands, weight=wanted.weight)
-    return replace(stands, burst=wanted.burst)
-
-
 def do(step: Step, root: Root) -> None:
     """Makes one change."""
-    if not step.unit:
+    if step.unit:
+        systemctl(command_of(step)[1:])
+    else:
         root.write(step.folder, step.file, step.new)
-        return
-    systemctl(command_of(step)[1:])
+
+
+def all_done(root: Root, steps: Sequence[Step],
+             done: list[Step]) -> Iterator[tuple[Step, HostFault]]:
+    """Makes changes, which `done` gets; gives those that failed, and why. Systemd writes all files
+    of a unit when it sets a property, so these are not looked at in between."""
+    of_units = {step.folder for step in steps if step.unit}
+    for step in steps:
+        try:
+            if step.folder not in of_units:
+                check_stands(step, root)
+            do(step, root)
+            done.append(step)
+        except HostFault as fault:
+            yield step, fault
 
 
 def undo_text(root: Root, changes_: Sequence[Change], by: By) -> str:
-    """The old settings of all groups that change, and the new ones."""
-    groups = [{"folder": change.folder, **asdict(change.before), "after": asdict(change.after)}
-              for change in changes_]
+    """The old settings of all groups that change, and the new ones. No weight in it is 0."""
+    def entry(settings: Settings) -> dict[str, Any]:
+        return asdict(replace(settings, weight=settings.weight or 1))
+
+    groups: list[dict[str, Any]] = []
+    for change in changes_:
+        groups.append({"folder": change.folder, **entry(change.before),
+                       "after": entry(change.after)})
+        if change.earlier:
+            groups[-1]["earlier"] = [entry(each) for each in change.earlier]
     return json.dumps({"arbiter_undo": VERSION, "root": root.path,
                        "systemd": by is not By.FILES, "persistent": by is By.PERSISTENT,
                        "groups": groups}, indent=1) + "\n"
 
 
 def write_synced(path: str, text: str) -> None:
-    """Writes a new undo file, and returns when it and its name are on the disk.
-
-    A fault or a kill leaves no file of this name that is cut.
-    """
+    """Writes a new undo file, and returns when it and its name are on the disk. A fault or a kill
+    leaves no file of this name that is cut."""
     with faults(path, kind="the undo file "), closing(any_place(path)) as place:
         place.put(text.encode(), is_new=True)
         os.fsync(place.folder)
-
-
-def check_after(root: Root, changes_: Sequence[Change]) -> None:
-    """A fault where a file does not hold what was written."""
-    wrong = unlike(root, [(change.folder, change.after) for change in changes_])
-    if wrong:
-        raise HostFault("\n".join(["read back, the host is not what was written:", *wrong]))
-
-
-def planned_steps(changes_: Sequence[Change], by: By) -> list[Step]:
-    """All steps."""
-    return [step for change in changes_ for step in steps_of(change, change.before, by)]
-
-
-def passing(steps: Sequence[Step]) -> list[str]:
-    """The steps that no boot keeps, although the others are kept, in words."""
-    return [f"{step.folder}: {step.file} is set by its file, which is not kept at the next boot"
-            for step in steps if not step.unit]
 
 
 def systemctl(words: Sequence[str]) -> str:
@@ -347,29 +350,18 @@ def false_units(steps: Sequence[Step]) -> dict[str, str]:
     return wrong
 
 
-def check_units(steps: Sequence[Step]) -> None:
-    """A fault where the group of a unit is not the folder that changes."""
+def make(root: Root, changes_: Sequence[Change], by: By, undo: str, done: list[Step]) -> None:
+    """Makes the changes: the host is looked at, the undo file written, the result read back. `done`
+    gets the steps that were made."""
+    steps = planned_steps(changes_, by)
+    check_host(root, changes_)
     wrong = false_units(steps)
     if wrong:
         raise HostFault("\n".join([*wrong.values(), "so nothing is changed"]))
-
-
-def make(root: Root, changes_: Sequence[Change], by: By, undo: str, done: list[Step]) -> None:
-    """Makes the changes: the host is looked at, the undo file written, the result read back.
-
-    `done` gets the steps that were made.
-    """
-    steps = planned_steps(changes_, by)
-    check_host(root, changes_)
-    check_units(steps)
     write_synced(undo, undo_text(root, changes_, by))
-    systemds = of_units(steps)
     try:
-        for step in steps:
-            if step.folder not in systemds:
-                check_stands(step, root)
-            do(step, root)
-            done.append(step)
+        for _, fault in all_done(root, steps, done):
+            raise fault
         check_after(root, changes_)
     except HostFault as fault:
         raise HostFault(f"{fault.message}\nto undo: arbiterctl undo {shlex.quote(undo)} --yes"
@@ -386,37 +378,15 @@ class Back:
     # Parts that are left alone, in words: groups that are gone, and values that somebody else set.
     left: list[str] = field(default_factory=list)
 
-    def steps(self, by_files: Container[str] = ()) -> list[Step]:
-        """All steps. `by_files` are folders that are written without their unit."""
-        return [step for change in self.changes for step in
-                steps_of(change, change.before,
-                         By.FILES if change.folder in by_files else self.by)]
-
 
 def settings_from(entry: dict[str, Any]) -> Settings:
     """The settings of an entry of an undo file."""
-    quota = entry.get("quota")
     if not isinstance(entry.get("burst"), int):
         raise HostFault("an entry of the undo file has no burst")
-    group = Group("x", data.number(entry, "weight"), None if quota is None else
-                  data.number(entry, "quota"), data.number(entry, "period"),
-                  data.number(entry, "burst"))
-    check_settings(group)
-    return settings_of(group)
-
-
-def wanted_back(now: Settings, old: Settings, written: Sequence[Settings]) -> Settings:
-    """The old settings, but what is neither old nor written stays: somebody else set it.
-
-    A limit is one setting with its burst, since one bounds the other.
-    """
-    wanted, ours = old, [old, *written]
-    if now.weight not in [each.weight for each in ours]:
-        wanted = replace(wanted, weight=now.weight)
-    if (now.maximum not in [each.maximum for each in ours]
-            or now.burst not in [each.burst for each in ours]):
-        wanted = replace(wanted, quota=now.quota, period=now.period, burst=now.burst)
-    return wanted
+    quota = None if entry.get("quota") is None else data.number(entry, "quota")
+    weight, period, burst = (data.number(entry, key) for key in ("weight", "period", "burst"))
+    check_settings(Group("x", weight, quota, period, burst))
+    return Settings(weight, quota, period, burst)
 
 
 def with_burst(settings: Settings, burst: int) -> Settings:
@@ -426,14 +396,13 @@ def with_burst(settings: Settings, burst: int) -> Settings:
 
 
 def restored(now: Settings, old: Settings, written: Sequence[Settings]) -> Settings:
-    """What is to stand in a group again that a loop has held: the operator's own settings, but each
-    that somebody set since. A limit that was set has the group's own burst, and the other way
-    round."""
-    ours = [old, *written]
-    weight = old.weight if now.weight in [each.weight for each in ours] else now.weight
-    limit = old if now.maximum in [each.maximum for each in ours] else now
-    burst = old.burst if now.burst in [each.burst for each in ours] else now.burst
-    return with_burst(replace(limit, weight=weight), burst)
+    """The old settings, but what a file holds that is neither old nor written stays: somebody else
+    set it. The burst is that as far as the quota lets it be."""
+    wanted = old
+    for file, text in now.files.items():
+        if all(text != each.files[file] for each in (old, *written)):
+            wanted = wanted.taking(file, now)
+    return with_burst(wanted, wanted.burst)
 
 
 def take_back(back: Back, entry: dict[str, Any], is_forced: bool) -> bool:
@@ -444,14 +413,11 @@ def take_back(back: Back, entry: dict[str, Any], is_forced: bool) -> bool:
                for each in [*([after] if after else []), *data.tables(entry, "earlier")]]
     try:
         back.root.keep(folder)
-        now = current(back.root, folder, takes_idle=True)
+        now = current(back.root, folder)
     except Gone:
         back.left.append(f"{folder}: the group is gone, nothing of it is undone")
         return False
-    wanted = old
-    if not is_forced:
-        # (each setting of a loop stands for itself, since it takes bursts away)
-        wanted = (restored if "earlier" in entry else wanted_back)(now, old, written)
+    wanted = old if is_forced else restored(now, old, written)
     if wanted != old:
         back.left.append(f"{folder}: holds {in_words(now)}, which is neither what `apply` found"
                          f" ({in_words(old)}) nor what it wrote: what differs is left (--force)")
@@ -460,20 +426,14 @@ def take_back(back: Back, entry: dict[str, Any], is_forced: bool) -> bool:
     return True
 
 
-def by_of(record: dict[str, Any]) -> By:
-    """By what the changes of an undo file were made."""
-    if record.get("systemd") is not True:
-        return By.FILES
-    return By.PERSISTENT if record.get("persistent") is True else By.RUNTIME
-
-
 def read_undo(content: bytes, name: str, is_forced: bool = False) -> Back:
     """The way back of an undo file. `is_forced`: also over what somebody set since."""
     record = data.loads(content, name)
     if data.number(record, "arbiter_undo") != VERSION or not data.text(record, "root"):
         raise HostFault(f"{name}: no undo file of `arbiterctl apply`")
-    back = Back(Root(record["root"]), by_of(record))
-    entries = data.tables(record, "groups")
+    by = (By.FILES if record.get("systemd") is not True else
+          By.PERSISTENT if record.get("persistent") is True else By.RUNTIME)
+    back, entries = Back(Root(record["root"]), by), data.tables(record, "groups")
     are_there = [take_back(back, entry, is_forced) for entry in entries]
     # Groups that a loop holds come and go.
     is_loops = all("earlier" in entry for entry in entries) and cgroup2.is_tree(back.root.path)
@@ -483,27 +443,19 @@ def read_undo(content: bytes, name: str, is_forced: bool = False) -> Back:
 
 
 def undo(back: Back, done: list[Step]) -> None:
-    """Brings the old settings back, and reads them. `done` gets the steps that were made.
-
-    A group that goes meanwhile, and a file that somebody sets meanwhile, are told in `back.left`. A
-    fault of one group is raised after the others were undone.
-    """
-    steps, wrong, skipped = back.steps(false_units(back.steps())), [], set()
-    systemds = of_units(steps)
-    for step in steps:
-        try:
-            if step.folder not in systemds:
-                check_stands(step, back.root)
-            do(step, back.root)
-            done.append(step)
-        except Gone:
+    """Brings the old settings back, and reads them. `done` gets the steps that were made. A group
+    that goes meanwhile, and a file that somebody sets meanwhile, are told in `back.left`. A fault
+    of one group is raised after the others were undone."""
+    by_files = false_units(planned_steps(back.changes, back.by))
+    wrong, skipped = [], set()
+    for step, fault in all_done(back.root, planned_steps(back.changes, back.by, by_files), done):
+        if isinstance(fault, Gone):
             continue
-        except Meanwhile as fault:
+        skipped.add(step.folder)
+        if isinstance(fault, Meanwhile):
             back.left.append(f"{fault.message}: it is left (undo once more, or --force)")
-            skipped.add(step.folder)
-        except HostFault as fault:
+        else:
             wrong.append(fault.message)
-            skipped.add(step.folder)
     there = [change for change in back.changes if standing(back.root, change.folder)]
     back.left += [f"{change.folder}: the group is gone, nothing of it is undone"
                   for change in back.changes if change not in there]

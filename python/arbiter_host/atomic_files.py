@@ -7,6 +7,7 @@ another program is replaced.
 from __future__ import annotations
 
 import errno
+import functools
 import os
 import secrets
 import stat
@@ -15,7 +16,8 @@ from contextlib import ExitStack, closing, contextmanager, suppress
 from dataclasses import dataclass, field
 from typing import NamedTuple
 
-from arbiter_host.faults import HostFault, strerror
+from arbiter_host import safe_files
+from arbiter_host.faults import HostFault
 from arbiter_host.names import shown
 from arbiter_host.safe_files import check_path, is_of_others
 
@@ -27,32 +29,20 @@ MOST_LINKS = 40
 HEAD = 200
 # Ends of a line that tells a fault.
 CHANGED, WRITTEN = "; nothing is changed", "; nothing is written"
+faults = functools.partial(safe_files.faults, end=CHANGED)
 
 
-@contextmanager
-def faults(path: str, end: str = CHANGED, kind: str = "") -> Iterator[None]:
-    """Errors of the system as faults that name a file, in one line."""
-    try:
-        yield
-    except OSError as error:
-        raise HostFault(f"{kind}{shown(path)}: {strerror(error)}{end}") from error
+def open_to_others(path: str) -> HostFault:
+    """The fault of a folder that other users may change."""
+    return HostFault(f"{shown(path)}: other users may change this folder{CHANGED}")
 
 
 def check_way(path: str, descriptor: int) -> None:
-    """A fault where another user may change which file a name of a folder stands for.
-
-    In a sticky folder users change names of their own files alone.
-    """
+    """A fault where another user may change which file a name of a folder stands for. In a sticky
+    folder users change names of their own files alone."""
     status = os.fstat(descriptor)
     if is_of_others(status, 0 if status.st_mode & stat.S_ISVTX else 0o022):
-        raise HostFault(f"{shown(path)}: other users may change this folder{CHANGED}")
-
-
-def check_own(path: str, descriptor: int) -> None:
-    """A fault where a folder is not this user's alone to change."""
-    status = os.fstat(descriptor)
-    if status.st_uid != os.geteuid() or status.st_mode & 0o022:
-        raise HostFault(f"{shown(path)}: other users may change this folder{CHANGED}")
+        raise open_to_others(path)
 
 
 def link_text(path: str, descriptor: int) -> str:
@@ -67,8 +57,7 @@ def link_text(path: str, descriptor: int) -> str:
 
 
 def descended(path: str, opened: ExitStack) -> int:
-    """Opens a folder, part by part from the root on, as a place. A fault where another user may
-    change a folder or a link on the way."""
+    """Opens a folder from the root on. A fault where others may change a folder or a link of it."""
     def step(name: str, above: int = -1) -> int:
         descriptor = os.open(name, PLACE, dir_fd=above)
         opened.callback(os.close, descriptor)
@@ -95,19 +84,11 @@ def descended(path: str, opened: ExitStack) -> int:
 
 def checked_own(path: str, descriptor: int) -> int:
     """A folder that was opened, if it is this user's alone to change; else it is closed."""
-    try:
-        check_own(path, descriptor)
-    except HostFault:
-        os.close(descriptor)
-        raise
-    return descriptor
-
-
-def folder_in(above: int, name: str) -> int:
-    """Opens a folder of another one. It is made where there is none."""
-    with suppress(FileExistsError):
-        os.mkdir(name, 0o700, dir_fd=above)
-    return os.open(name, FOLDERS, dir_fd=above)
+    status = os.fstat(descriptor)
+    if status.st_uid == os.geteuid() and not status.st_mode & 0o022:
+        return descriptor
+    os.close(descriptor)
+    raise open_to_others(path)
 
 
 def own_folder(path: str) -> int:
@@ -117,7 +98,10 @@ def own_folder(path: str) -> int:
     above, name = os.path.split(os.path.abspath(path))
     with faults(path), ExitStack() as opened:
         place = descended(above, opened)
-        descriptor = folder_in(place, name) if name else os.open("/", FOLDERS)
+        if name:
+            with suppress(FileExistsError):
+                os.mkdir(name, 0o700, dir_fd=place)
+        descriptor = os.open(name or "/", FOLDERS, dir_fd=place)
     return checked_own(path, descriptor)
 
 
@@ -130,24 +114,6 @@ def collected_folder(path: str) -> int:
     return checked_own(path, descriptor)
 
 
-def is_ours(folder: int, name: str, mark: str) -> bool:
-    """Whether a name is free, or that of a plain file that has a mark at its beginning."""
-    try:
-        descriptor = os.open(name, os.O_RDONLY | os.O_NONBLOCK | FLAGS, dir_fd=folder)
-    except FileNotFoundError:
-        return True
-    try:
-        is_plain = stat.S_ISREG(os.fstat(descriptor).st_mode)
-        return is_plain and mark.encode() in os.read(descriptor, HEAD)
-    finally:
-        os.close(descriptor)
-
-
-def unread_name() -> str:
-    """A name that nobody reads, and no other writer takes."""
-    return f".{secrets.token_hex(8)}.part"
-
-
 @dataclass(frozen=True)
 class Place:
     """Where a file is written: a folder that is open, and the file's name there."""
@@ -157,29 +123,41 @@ class Place:
     mode: int = 0o600
     # Whether the file is on the disk before it gets its name.
     is_synced: bool = True
-    # The name that it has until it is whole. A loop has one: what a kill leaves is then replaced.
-    part: str = field(default_factory=unread_name)
+    # The name that it has until it is whole: one that nobody reads, and no other writer takes. A
+    # loop has one name: what a kill leaves is then replaced.
+    part: str = field(default_factory=lambda: f".{secrets.token_hex(8)}.part")
 
     def check_ours(self, path: str, mark: str, words: str) -> None:
-        """A fault where the name is that of a file without a mark."""
-        if not is_ours(self.folder, self.name, mark):
-            raise HostFault(f"{shown(path)}: is there, and {words}")
+        """A fault where the name is taken, but by a plain file with a mark at its beginning."""
+        try:
+            descriptor = os.open(self.name, os.O_RDONLY | os.O_NONBLOCK | FLAGS,
+                                 dir_fd=self.folder)
+        except FileNotFoundError:
+            return
+        try:
+            is_plain = stat.S_ISREG(os.fstat(descriptor).st_mode)
+            if not is_plain or mark.encode() not in os.read(descriptor, HEAD):
+                raise HostFault(f"{shown(path)}: is there, and {words}")
+        finally:
+            os.close(descriptor)
 
     def open_new(self) -> int:
         """Opens a new file to be written. A plain one of its name was left by a kill."""
-        flags = os.O_WRONLY | os.O_CREAT | os.O_EXCL | FLAGS
+        def made() -> int:
+            return os.open(self.part, os.O_WRONLY | os.O_CREAT | os.O_EXCL | FLAGS, self.mode,
+                           dir_fd=self.folder)
+
         try:
-            return os.open(self.part, flags, self.mode, dir_fd=self.folder)
+            return made()
         except FileExistsError:
             if not stat.S_ISREG(os.lstat(self.part, dir_fd=self.folder).st_mode):
                 raise
         os.unlink(self.part, dir_fd=self.folder)
-        return os.open(self.part, flags, self.mode, dir_fd=self.folder)
+        return made()
 
     @contextmanager
     def waiting(self, data: bytes) -> Iterator[None]:
-        """Writes the file under the name that nobody reads. After a fault, as on a full disk, it is
-        not there."""
+        """Writes the file under the name that nobody reads. After a fault it is not there."""
         descriptor = self.open_new()
         try:
             with os.fdopen(descriptor, "wb") as file:
@@ -209,7 +187,6 @@ class Place:
             self.give_name(is_new)
 
     def close(self) -> None:
-        """Closes the folder."""
         os.close(self.folder)
 
 
@@ -221,30 +198,26 @@ class Document(NamedTuple):
 
 
 def put_all(documents: Sequence[Document], mark: str, by: str) -> None:
-    """Writes files, all whole or none. They get their names when each is on the disk.
-
-    A file that is there has to have a mark at its beginning, as all have that `by` writes.
-    """
+    """Writes files, all whole or none: they get their names when each is on the disk. A file that
+    is there has to have a mark at its beginning, as all have that `by` writes."""
     with ExitStack() as opened:
         places = []
         for path, text in documents:
-            place = opened.enter_context(closing(place_of(path)))
-            with faults(path, WRITTEN):
+            places.append(place := opened.enter_context(closing(place_of(path))))
+            with faults(path, end=WRITTEN):
                 place.check_ours(path, mark, f"was not written by {by}{WRITTEN}")
                 opened.enter_context(place.waiting(text.encode("utf-8", "surrogateescape")))
-            places.append(place)
         for (path, _), place in zip(documents, places):
-            with faults(path, WRITTEN):
+            with faults(path, end=WRITTEN):
                 place.give_name()
                 os.fsync(place.folder)
 
 
-def place_of(path: str, opens: Callable[[str], int] = own_folder, mode: int = 0o600,
-             is_synced: bool = True) -> Place:
+def place_of(path: str, opens: Callable[[str], int] = own_folder) -> Place:
     """The place of a path, whose folder is opened."""
     check_path(path)
     above, name = os.path.split(os.path.abspath(path))
-    return Place(opens(above), name, mode, is_synced)
+    return Place(opens(above), name)
 
 
 def any_place(path: str, mode: int = 0o600) -> Place:
@@ -255,19 +228,14 @@ def any_place(path: str, mode: int = 0o600) -> Place:
     return Place(os.open(above or ".", os.O_RDONLY | os.O_DIRECTORY | os.O_CLOEXEC), name, mode)
 
 
-def new_mode() -> int:
-    """The mode of a new file that the user lets others read."""
-    mask = os.umask(0o077)
-    os.umask(mask)
-    return 0o666 & ~mask
-
-
 def put_file(path: str, data: bytes) -> None:
     """Writes a plain file whole or not at all, in any folder. A link at its name is replaced, and
     not followed. What is no plain file, such as a pipe, is written to as it is."""
     check_path(path)
-    mode = new_mode()
-    with faults(path, ""):
+    mask = os.umask(0o077)
+    os.umask(mask)
+    mode = 0o666 & ~mask
+    with safe_files.faults(path):
         with suppress(FileNotFoundError):
             status = os.stat(path)
             if not stat.S_ISREG(status.st_mode):

@@ -175,7 +175,6 @@ class Run:
                 task.rate = task.group.time[cpu] / task.group.runs[cpu]
 
     def moved(self, task: Task, cpu: int) -> None:
-        """Moves a task."""
         task.cpu, self.is_stale = cpu, True
 
     def pull_idle(self, cpu: int) -> None:
@@ -272,7 +271,6 @@ class Run:
             self.look()
 
     def step(self, end: float) -> None:
-        """Goes on to the next event."""
         self.events()
         until = min(end, *self.next)
         if not self.is_steady:
@@ -311,7 +309,6 @@ class Run:
                 for node, had in zip(self.shape.nodes, before)]
 
     def go_on(self, end: float) -> None:
-        """Runs up to a time."""
         while self.now < end:
             self.step(end)
             if self.work > self.most:

@@ -17,8 +17,7 @@ MARK = "cpu.weight"
 
 
 def file_text(folder: str | int, name: str) -> str | None:
-    """The text of a plain file of a folder, given by its path or a descriptor; None where there is
-    none or it cannot be read."""
+    """The text of a plain file of a folder (path or descriptor); None where it cannot be read."""
     above = folder if isinstance(folder, int) else None
     try:
         descriptor = os.open(name if isinstance(folder, int) else os.path.join(folder, name),
@@ -39,13 +38,9 @@ def number_in(text: str | None) -> int | None:
 
 def keyed(text: str | None) -> dict[str, int]:
     """The numbers of a text with a key and a number in each line."""
-    pairs = {}
-    for line in (text or "").split("\n"):
-        words = line.split()
-        number = number_in(words[1]) if len(words) == 2 else None
-        if number is not None:
-            pairs[words[0]] = number
-    return pairs
+    pairs = (line.split() for line in (text or "").split("\n"))
+    return {words[0]: number for words in pairs
+            if len(words) == 2 and (number := number_in(words[1])) is not None}
 
 
 def counters(stat_text: str | None, pressure_text: str | None) -> Reading:
@@ -68,53 +63,39 @@ def task_count(folder: str | int) -> int | None:
     return None if text is None else len(text.split())
 
 
-def set_number(group: Group, key: str, value: int | None, bounds: tuple[int, int], file: str,
-               notes: list[str]) -> None:
-    """Sets a number within its range; notes where the file held another."""
-    if value is None:
-        notes.append(f"{group.path}: {file} cannot be read as a number: the default is taken")
-        return
-    taken = min(max(value, bounds[0]), bounds[1])
-    if taken != value:
-        notes.append(f"{group.path}: {file} is {value}: {taken} is taken")
-    setattr(group, key, taken)
+def read_settings(group: Group, folder: int, notes: list[str]) -> None:
+    """Reads cpu.weight, cpu.max and cpu.max.burst; notes what is missing or out of range."""
+    def take(key: str, text: str, least: int, most: int, file: str) -> None:
+        value = number_in(text)
+        if value is None:
+            notes.append(f"{group.path}: {file} cannot be read as a number: the default is taken")
+            return
+        taken = min(max(value, least), most)
+        if taken != value:
+            notes.append(f"{group.path}: {file} is {value}: {taken} is taken")
+        setattr(group, key, taken)
 
-
-def set_weight(group: Group, text: str | None, notes: list[str]) -> None:
-    """Sets the weight of a cpu.weight."""
-    if text is None:
+    weight, maximum, burst = (file_text(folder, f"cpu.{each}")
+                              for each in ("weight", "max", "max.burst"))
+    words = (maximum or "").split()
+    if weight is None:
         notes.append(f"{group.path}: no cpu.weight: 100 is taken")
-    elif text.strip() == "0":
+    elif weight.strip() == "0":
         notes.append(f"{group.path}: idle (cpu.weight 0): 1 is taken")
         group.weight = 1
     else:
-        bounds = (units.MIN_WEIGHT, units.MAX_WEIGHT)
-        set_number(group, "weight", number_in(text), bounds, "cpu.weight", notes)
-
-
-def set_maximum(group: Group, text: str | None, notes: list[str]) -> None:
-    """Sets quota and period of a cpu.max."""
-    words = (text or "").split()
-    if text is None:
+        take("weight", weight, units.MIN_WEIGHT, units.MAX_WEIGHT, "cpu.weight")
+    if maximum is None:
         notes.append(f"{group.path}: no cpu.max: no limit is taken")
     elif len(words) != 2 or words[0] != "max" and number_in(words[0]) is None:
-        notes.append(f"{group.path}: cpu.max is {text.strip()[:40]!r}: no limit is taken")
+        notes.append(f"{group.path}: cpu.max is {maximum.strip()[:40]!r}: no limit is taken")
     else:
-        bounds = (units.MIN_PERIOD, units.MAX_PERIOD)
-        set_number(group, "period", number_in(words[1]), bounds, "the period of cpu.max", notes)
+        take("period", words[1], units.MIN_PERIOD, units.MAX_PERIOD, "the period of cpu.max")
         if words[0] != "max":
-            limits = (units.MIN_QUOTA, units.MAX_QUOTA)
-            set_number(group, "quota", number_in(words[0]), limits, "cpu.max", notes)
-
-
-def read_settings(group: Group, folder: int, notes: list[str]) -> None:
-    """Reads cpu.weight, cpu.max and cpu.max.burst; notes what is missing or out of range."""
-    burst = file_text(folder, "cpu.max.burst")
-    set_weight(group, file_text(folder, MARK), notes)
-    set_maximum(group, file_text(folder, "cpu.max"), notes)
+            take("quota", words[0], units.MIN_QUOTA, units.MAX_QUOTA, "cpu.max")
     if burst is not None:
         most = units.MAX_QUOTA if group.quota is None else group.quota
-        set_number(group, "burst", number_in(burst), (0, most), "cpu.max.burst", notes)
+        take("burst", burst, 0, most, "cpu.max.burst")
 
 
 def is_bound(folder: int) -> bool:

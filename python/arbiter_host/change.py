@@ -1,7 +1,8 @@
 """Changes of a model by words such as `web.weight=200`, `prod/web/app.request=500m`, `.cpus=8`."""
 from __future__ import annotations
 
-from collections.abc import Sequence
+from collections.abc import Iterator, Sequence
+from contextlib import contextmanager
 from dataclasses import replace
 
 from arbiter_host import demands, names, output, owned, units
@@ -11,6 +12,15 @@ from arbiter_host.owned import Owned, Setting
 from arbiter_host.sources import hostfile
 
 KEYS = ("weight", "max", "burst", "period", "demand", "tasks")
+
+
+@contextmanager
+def naming(word: str) -> Iterator[None]:
+    """Faults as those of a word of --set."""
+    try:
+        yield
+    except HostFault as fault:
+        raise UsageFault(f"--set {names.shown(word)}: {fault.message}") from fault
 
 
 def split(word: str) -> tuple[str, str, str]:
@@ -41,7 +51,7 @@ def taken(key: str, value: str) -> object:
     return int(value) if key in ("weight", "tasks", "cpus") and is_number else value
 
 
-def apply(model: Model, group: Group, key: str, value: str, has_children: bool) -> None:
+def apply(group: Group, key: str, value: str, has_children: bool) -> None:
     """Sets one key of a group."""
     if key == "demand" and has_children:
         raise HostFault("a group with children has no demand")
@@ -81,13 +91,11 @@ def made_again(model: Model, words: Sequence[str]) -> Model:
     """The model that its source makes with other settings of those that people own."""
     settings: list[Setting] = []
     for word in words:
-        try:
+        with naming(word):
             if model.owned is None:
                 raise HostFault(f"{split(word)[1]} is a setting of {owned.KEYS[split(word)[1]]},"
                                 " which this source has none of")
             settings += settings_of(model, model.owned, word)
-        except HostFault as fault:
-            raise UsageFault(f"--set {names.shown(word)}: {fault.message}") from fault
     assert model.owned is not None
     try:
         after = model.owned.changed(settings).model()
@@ -101,18 +109,15 @@ def on_host(model: Model, words: Sequence[str]) -> Model:
     host = model.host
     for word in words:
         key, _, value = word[1:].partition("=")
-        try:
+        with naming(word):
             host = replace(host, **{hostfile.HOST_KEYS[key]: hostfile.whole(taken(key, value))
                                     if key == "cpus" else units.parse_time(value)})
-        except HostFault as fault:
-            raise UsageFault(f"--set {names.shown(word)}: {fault.message}") from fault
     host = checked(host)
     return model.with_host(host) if model.owned is None else model.owned.on_host(host).model()
 
 
 def changed(model: Model, words: Sequence[str]) -> Model:
-    """A copy of a model with the changes: first those of the host, then those of settings that
-    people own, then others."""
+    """A copy of a model with the changes: of the host, then of what people own, then others."""
     of_host = [word for word in words if is_host(word)]
     model = on_host(model, of_host) if of_host else model
     words = [word for word in words if not is_host(word)]
@@ -123,10 +128,8 @@ def changed(model: Model, words: Sequence[str]) -> Model:
     for word in rest:
         pattern, key, value = split(word)
         for group in demands.matching(after, pattern):
-            try:
-                apply(after, group, key, value, bool(children[group.path]))
-            except HostFault as fault:
-                raise UsageFault(f"--set {names.shown(word)}: {fault.message}") from fault
+            with naming(word):
+                apply(group, key, value, bool(children[group.path]))
     # What the source makes again does not have the other changes.
     after.owned = None if rest else after.owned
     return after

@@ -2,21 +2,24 @@
 
 The rule is the library's call `arbiter_hold`. Each group is open from its first reading to the
 last writing. Its old settings are fsynced before the first write, and restored at the end.
+
+Weights tell Linux how near each task of a group is to a whole CPU. Linux shares weights out on each
+CPU's queue by itself: a task that is to have a part of a CPU meets others that are to have the rest
+there. Weights are no part of the plan: what a group may use is its limit.
 """
 from __future__ import annotations
 
-import json
 import os
 import re
 import time
-from collections.abc import Callable, Iterable
-from dataclasses import asdict, dataclass, replace
+from collections.abc import Callable, Iterable, Mapping
+from dataclasses import dataclass, replace
 from fractions import Fraction
 from typing import Any, NamedTuple
 
 from arbiter import Columns, Host, Row
-from arbiter_host import apply, cgroup2, hunger, looks, output, safe_files, units, weights
-from arbiter_host.apply import Back, By, Change, Settings
+from arbiter_host import apply, cgroup2, hunger, looks, output, safe_files, units
+from arbiter_host.apply import BURST, WEIGHT, Back, By, Change, Settings
 from arbiter_host.demands import rise
 from arbiter_host.faults import HostFault
 from arbiter_host.looks import Counted, Times
@@ -41,6 +44,9 @@ SPARE_FILES = 64
 # A quota stands that is up to this part of it above the limit of the rule; half as much is written
 # above it. The kernel gives a new quota at each writing, so a group could use two in a period.
 MOST_ABOVE = 64
+# A weight is as the part d of a CPU that a task is to have, to 1.01 - d, in hundredths: a whole CPU
+# has the greatest weight, half of one about 100.
+WHOLE = 101
 
 
 class Ways(NamedTuple):
@@ -55,10 +61,8 @@ class Ways(NamedTuple):
 
 @dataclass
 class Kept:
-    """A group that is open: what stood in it, what was written last, and its last reading.
-
-    Groups with children are open only where weights are written.
-    """
+    """A group that is open: what stood in it, what was written last, and its last reading. Groups
+    with children are open only where weights are written."""
 
     folder: str
     identity: Identity
@@ -74,16 +78,6 @@ class Kept:
     is_left: bool = False
     # Slices that the plan of the last round gave it; None before its first round.
     planned: int | None = None
-
-    @property
-    def written(self) -> list[Settings]:
-        """What it may hold by this loop."""
-        return [self.stands, self.target]
-
-    @property
-    def is_changed(self) -> bool:
-        """Whether it may hold anything but the operator's own settings."""
-        return {self.stands, self.target} != {self.old}
 
 
 class LeafUse(NamedTuple):
@@ -105,11 +99,10 @@ class LeafUse(NamedTuple):
 
 
 class Written(NamedTuple):
-    """What a round writes: limits in slices and weights, by path; and the groups of its line."""
+    """What a round writes: the line of each leaf, which has its limit, and all weights, by path."""
 
-    limits: dict[str, int]
+    told: dict[str, Line]
     weights: dict[str, int]
-    told: dict[str, dict[str, Any]]
 
 
 class Stopped(Exception):
@@ -118,20 +111,6 @@ class Stopped(Exception):
 
 class WriteFault(HostFault):
     """A fault of a writing, which ends the loop. One of a reading may pass."""
-
-
-def used_between(leaf: Kept, now: Counted) -> LeafUse:
-    """What a leaf used since its last reading, and whether it would have used more.
-
-    It would if it was throttled, or if a task of it waited and hardly slept.
-    """
-    span, has_limit = looks.risen(leaf.counted, now, Fraction(0)), leaf.stands.quota is not None
-    if span.risen.usage is None or span.seconds <= 0:
-        raise HostFault(f"{shown(leaf.folder)}: its reading is older than the last: nothing is"
-                        " written")
-    if not span.is_hungry(has_limit):
-        return LeafUse(span.used, False)
-    return LeafUse(span.used, True, span.most_wanted(has_limit))
 
 
 def own_folder() -> str:
@@ -143,37 +122,51 @@ def own_folder() -> str:
 def own_group() -> Identity | None:
     """The group in which this process runs, by whatever path it is reached."""
     try:
-        status = os.stat(own_folder())
+        return safe_files.identity_of(own_folder())
     except OSError:
         return None
-    return status.st_dev, status.st_ino
 
 
-def is_trusted(folder: str) -> bool:
-    """Whether a group is root's or this user's. Others may give theirs any name."""
+def of_kubelet(folder: str, top: str = "") -> str:
+    """The part of a path below a top up to a group of kubelet, which is root's or this user's:
+    others may give theirs any name. Empty where there is none."""
+    above = kubelets(folder[len(top):])
     try:
-        return not safe_files.is_of_others(os.lstat(folder))
+        return above if above and not safe_files.is_of_others(os.lstat(top + above)) else ""
     except OSError:
-        return False
-
-
-def check_owner(top: str, model: Model) -> None:
-    """A fault where kubelet owns a group: it writes limits itself, and would undo these."""
-    for folder in [top, *(group.place for group in model.groups.values())]:
-        above = kubelets(folder)
-        if above and is_trusted(above):
-            raise HostFault(f"{shown(folder)}: kubelet owns the limits there, and would write over"
-                            " these (--force)")
-
-
-def entry(held: Settings) -> dict[str, Any]:
-    """Settings in an undo file, which has no weight 0."""
-    return asdict(replace(held, weight=held.weight or 1))
+        return ""
 
 
 def own_settings(group: Group, old: Settings) -> None:
     """Sets what the operator has set. An idle group counts with weight 1."""
     group.weight, group.quota, group.period = old.weight or 1, old.quota, old.period
+
+
+def bounded(weight: int) -> int:
+    """A weight in the kernel's range."""
+    return min(max(weight, units.MIN_WEIGHT), units.MAX_WEIGHT)
+
+
+def leaf_weight(limit: int, most: int) -> int:
+    """The weight of a leaf that may use `limit` of the `most` slices of its tasks: 1 to 10000, the
+    nearest whole number to 100 d / (1.01 - d) with d = limit / most."""
+    amount = min(limit, most)
+    part, rest = 10000 * amount, WHOLE * most - 100 * amount
+    return bounded((2 * part + rest) // (2 * rest))
+
+
+def tree_weights(model: Model, leaves: Mapping[str, int]) -> dict[str, int]:
+    """The weights of all groups. One with a leaf of `leaves` below it has the sum of its children;
+    all other groups keep their own weights."""
+    below, held = model.children(), set(leaves)
+    found: dict[str, int] = {}
+    for path in reversed(model.groups):
+        weight = leaves.get(path, model.groups[path].weight)
+        if held.intersection(below[path]):
+            weight = sum(found[child] for child in below[path])
+            held.add(path)
+        found[path] = bounded(weight)
+    return found
 
 
 class Loop:
@@ -197,23 +190,19 @@ class Loop:
         self.rounds = 0
 
     def counted(self, folder: str, is_leaf: bool, before: Counted | None = None) -> Counted:
-        """What is counted of a group that is open. What its tasks did is read at the first reading,
-        and where tasks waited since the last."""
-        stat = self.root.read(folder, "cpu.stat")
-        try:
-            pressure = self.root.read(folder, "cpu.pressure")
-        except HostFault:
-            pressure = ""
-        reading, at = cgroup2.counters(stat, pressure), Fraction(self.clock(), SECOND)
-        has_waited = before is None or rise(before.reading.pressure, reading.pressure)
-        return Counted(reading, self.threads(folder) if is_leaf and has_waited else {}, at)
+        """What is counted of a group, and what its tasks did if some waited since the last time."""
+        def text(file: str, most: int = safe_files.MAX_TEXT) -> str:
+            try:
+                return self.root.read(folder, file, most)
+            except HostFault:
+                return ""
 
-    def threads(self, folder: str) -> hunger.Tasks:
-        """What the tasks of a group did."""
-        try:
-            return hunger.tasks(self.root.read(folder, "cgroup.threads", hunger.MOST_TEXT))
-        except HostFault:
-            return {}
+        stat = self.root.read(folder, "cpu.stat")
+        reading = cgroup2.counters(stat, text("cpu.pressure"))
+        at = Fraction(self.clock(), SECOND)
+        has_waited = before is None or rise(before.reading.pressure, reading.pressure)
+        list_ = text("cgroup.threads", hunger.MOST_TEXT) if is_leaf and has_waited else ""
+        return Counted(reading, hunger.tasks(list_), at)
 
     def take_up(self, group: Group, is_leaf: bool) -> None:
         """Opens a group that is new, and reads what stands in it."""
@@ -224,11 +213,10 @@ class Loop:
             return
         try:
             self.root.keep(folder, group.identity)
-            stands = apply.current(self.root, folder, takes_idle=True)
+            stands = apply.current(self.root, folder)
             counted = self.counted(folder, is_leaf)
         except HostFault as fault:
-            if folder in self.root.kept:
-                self.root.let_go(folder)
+            self.root.let_go(folder)
             self.tell([f"{path}: left alone: {fault.message}"])
             return
         self.groups[path] = Kept(folder, group.identity or (0, 0), is_leaf, stands, stands, stands,
@@ -253,13 +241,12 @@ class Loop:
         """Reads what stands in a group. A weight or a burst that somebody set is the operator's. A
         limit that somebody set is left alone from then on. One that is as before the loop is
         written again: systemd gives its units their own limits back at a daemon-reload."""
-        now = apply.current(self.root, kept.folder, takes_idle=True)
+        now = apply.current(self.root, kept.folder)
         if now.weight != kept.stands.weight:
-            kept.old = replace(kept.old, weight=now.weight)
-            kept.stands = replace(kept.stands, weight=now.weight)
+            kept.old, kept.stands = (each.taking(WEIGHT, now) for each in (kept.old, kept.stands))
         if now.maximum == kept.stands.maximum and now.burst != kept.stands.burst:
             kept.old = apply.with_burst(kept.old, now.burst)
-            kept.stands = replace(kept.stands, burst=now.burst)
+            kept.stands = kept.stands.taking(BURST, now)
         is_back = (now.maximum == kept.old.maximum != kept.stands.maximum
                    and now.burst in (kept.old.burst, kept.stands.burst))
         if is_back and not kept.is_left:
@@ -268,17 +255,15 @@ class Loop:
         elif now != kept.stands:
             if kept.is_leaf and not kept.is_left:
                 self.tell([f"{path}: somebody set {apply.in_words(now)}: its limit is left alone"])
-            back = apply.restored(now, kept.old, [kept.stands])
-            kept.old, kept.stands = replace(back, weight=kept.old.weight), now
+            kept.old, kept.stands = apply.restored(now, kept.old, [kept.stands]), now
             kept.is_left = kept.is_leaf
         kept.target = kept.stands
 
     def is_held(self, group: Group, is_leaf: bool) -> bool:
         """Whether a group may be written. The loop's own is not: it would stop itself. Kubelet's
         are not that came since the loop began."""
-        top = self.tree.top
-        above = "" if self.ways.is_forced else kubelets(group.place[len(top):])
-        if above and is_trusted(top + above):
+        above = "" if self.ways.is_forced else of_kubelet(group.place, self.tree.top)
+        if above:
             self.tell([f"{above[1:]}: kubelet owns the limits there: it is left alone (--force)"])
             return False
         if is_leaf and group.identity == self.own:
@@ -286,17 +271,26 @@ class Loop:
             return False
         return self.ways.has_weights or is_leaf
 
+    def check_owner(self, model: Model) -> None:
+        """A fault where kubelet owns a group when the loop begins: it would undo these limits."""
+        for folder in [self.tree.top, *(group.place for group in model.groups.values())]:
+            if of_kubelet(folder):
+                raise HostFault(f"{shown(folder)}: kubelet owns the limits there, and would write"
+                                " over these (--force)")
+        self.is_checked = True
+
     def read(self) -> tuple[Model, dict[str, LeafUse]]:
-        """The groups as they stand, and what each leaf used since the last reading of it."""
+        """The groups as they stand, and what each leaf used since the last reading of it. New
+        groups are opened, those that went are closed."""
         look = self.tree.look()
         model = look.model
         if not model.groups:
             model.notes.append("no groups with the cpu controller are below this folder")
         if not self.is_checked:
-            check_owner(self.tree.top, model)
-            self.is_checked = True
+            self.check_owner(model)
         self.tell(model.notes)
         below = model.children()
+        # Whether each group that is held is a leaf.
         there = {path: not below[path] for path, group in model.groups.items()
                  if self.is_held(group, not below[path])}
         self.tasks = {path: look.tasks.get(path) or 1 for path in there}
@@ -304,37 +298,34 @@ class Loop:
             is_same = path in there and model.groups[path].identity == kept.identity
             if not is_same or kept.is_leaf != there[path]:
                 self.drop(path, model)
-        return model, self.read_all(there, model)
-
-    def read_all(self, there: dict[str, bool], model: Model) -> dict[str, LeafUse]:
-        """What each leaf used. New groups are opened, those that went are closed. `there` tells of
-        each whether it is a leaf."""
-        used, faults = {}, []
+        used, faults = dict[str, LeafUse](), list[HostFault]()
         for path, is_leaf in there.items():
             if path not in self.groups:
                 self.take_up(model.groups[path], is_leaf)
                 continue
             try:
                 found = self.read_group(path)
-                if is_leaf:
-                    used[path] = found
+                used |= {path: found} if is_leaf else {}
             except Gone:
                 self.drop(path, model)
             except HostFault as fault:
                 faults.append(fault)
         if faults:
             raise faults[0]
-        return used
+        return model, used
 
     def read_group(self, path: str) -> LeafUse:
-        """What a group used since its last reading."""
+        """What a group used since its last reading, and whether it would have used more."""
         kept = self.groups[path]
         self.look(kept, path)
-        now = self.counted(kept.folder, kept.is_leaf, kept.counted)
-        try:
-            return used_between(kept, now)
-        finally:
-            kept.counted = now
+        before, kept.counted = kept.counted, self.counted(kept.folder, kept.is_leaf, kept.counted)
+        span, has_limit = looks.risen(before, kept.counted), kept.stands.quota is not None
+        if span.risen.usage is None or span.seconds <= 0:
+            raise HostFault(f"{shown(kept.folder)}: its reading is older than the last: nothing is"
+                            " written")
+        if not span.is_hungry(has_limit):
+            return LeafUse(span.used, False)
+        return LeafUse(span.used, True, span.most_wanted(has_limit))
 
     def rows(self, model: Model, amounts: dict[str, Fraction]) -> list[Row]:
         """The rows of the operator's own settings and of amounts in thousandths of a CPU."""
@@ -357,28 +348,24 @@ class Loop:
         asked = [row._replace(demand=demand) for row, demand in zip(rows, held.demands)]
         with asking("the check refused the plan"):
             self.engine.library.check(host, Columns.of(asked), held.amounts, held.certificate)
-        limits, told = {}, {}
+        told = {}
         for row, path in enumerate(model.groups, 1):
             limit = held.limits[row]
             if path in used and limit is not None:
-                limits[path], kept = limit, self.groups[path]
-                hungry = used[path].hungry
+                kept, hungry = self.groups[path], used[path].hungry
                 lacks = (kept.planned or 0) - rows[row].demand if hungry else 0
                 kept.planned = held.amounts[row]
                 told[path] = {"want": held.demands[row], "plan": held.amounts[row],
                               "used": rows[row].demand, "limit": limit, "hungry": hungry,
                               "unserved": max(lacks, 0)}
-        return Written(limits, self.weights(model, limits, told), told)
+        return Written(told, self.weights(model, told) if self.ways.has_weights else {})
 
-    def weights(self, model: Model, limits: dict[str, int],
-                told: dict[str, dict[str, Any]]) -> dict[str, int]:
-        """The weights of a round, which the line of each leaf gets too; none without --weights."""
-        if not self.ways.has_weights:
-            return {}
+    def weights(self, model: Model, told: dict[str, Line]) -> dict[str, int]:
+        """The weights of a round, which the line of each leaf gets too."""
         most = self.host.period_us // self.host.slice_us
-        parts = {path: weights.of_leaf(limit, self.tasks[path] * most)
-                 for path, limit in limits.items()}
-        written = weights.of_tree(model, parts)
+        written = tree_weights(model, {
+            path: leaf_weight(line["limit"], self.tasks[path] * most)
+            for path, line in told.items()})
         for path, line in told.items():
             line["weight"] = written[path]
         return written
@@ -403,31 +390,27 @@ class Loop:
             return stands
         return replace(old, quota=most, period=period, burst=0)
 
-    def target_of(self, path: str, kept: Kept, written: Written) -> Settings:
+    def target_of(self, path: str, kept: Kept, found: Written) -> Settings:
         """What a group is to hold. A leaf without a limit of the rule holds what it holds."""
         if kept.is_left:
             return kept.old
-        if path in written.limits:
-            target = self.limited(path, kept, written.limits[path])
-        elif kept.is_leaf:
+        if kept.is_leaf and path not in found.told:
             return kept.stands
-        else:
-            target = kept.old
-        if not kept.stands.weight:
-            return target
-        return replace(target, weight=written.weights.get(path, target.weight))
+        target = self.limited(path, kept, found.told[path]["limit"]) if kept.is_leaf else kept.old
+        # An idle group has no weight to be set.
+        weight = found.weights.get(path, target.weight) if kept.stands.weight else target.weight
+        return replace(target, weight=weight)
 
-    def write(self, written: Written) -> int:
+    def write(self, found: Written) -> int:
         """Writes a round, after what stood is on the disk. Returns how many groups changed."""
-        changed = []
         for path, kept in self.groups.items():
-            kept.target = self.target_of(path, kept, written)
-            changed += [kept] if kept.target != kept.stands else []
+            kept.target = self.target_of(path, kept, found)
+        changed = [kept for kept in self.groups.values() if kept.target != kept.stands]
         if self.record is None:
             return 0
         try:
             text = self.undo_text()
-            if changed or self.record.is_there and self.record.text != text:
+            if changed or self.record.text not in ("", text):
                 self.record.put(text)
             for kept in changed:
                 self.set(kept)
@@ -443,28 +426,25 @@ class Loop:
             for step in apply.steps_of(change, kept.stands, By.FILES):
                 apply.check_stands(step, self.root)
                 apply.do(step, self.root)
-                kept.stands = apply.after_step(kept.stands, kept.target, step)
-        except (Gone, apply.Meanwhile):
-            kept.target = kept.stands
+                kept.stands = kept.stands.taking(step.file, kept.target)
         except HostFault as fault:
             kept.target = kept.stands
+            if isinstance(fault, (Gone, apply.Meanwhile)):
+                return
             if not self.is_of_others(kept):
                 raise
             self.tell([f"{fault.message}: its owner may have set it meanwhile"])
 
     def is_of_others(self, kept: Kept) -> bool:
-        """Whether users that are not trusted may set the limit of a group. What they set there must
-        end no loop."""
+        """Whether users that are not trusted may set its limit. What they set must end no loop."""
         status = self.root.status(kept.folder, "cpu.max")
         return status is None or safe_files.is_of_others(status, 0o022)
 
     def undo_text(self) -> str:
         """What stood in each group, and what it may hold by this loop."""
-        groups = [{"folder": kept.folder, **entry(kept.old), "after": entry(kept.target),
-                   "earlier": [entry(kept.stands)]}
-                  for kept in self.groups.values() if kept.is_changed]
-        return json.dumps({"arbiter_undo": apply.VERSION, "root": self.root.path, "systemd": False,
-                           "groups": groups}, indent=1) + "\n"
+        return apply.undo_text(self.root, [
+            Change(kept.folder, kept.old, kept.target, earlier=(kept.stands,))
+            for kept in self.groups.values() if {kept.stands, kept.target} != {kept.old}], By.FILES)
 
     def put_back(self, groups: Iterable[Kept]) -> None:
         """Puts back what stood; what somebody else set stays, and is told. A fault of one group is
@@ -489,7 +469,7 @@ class Loop:
         now = apply.standing(self.root, kept.folder)
         if now is None:
             return
-        wanted = apply.restored(now, kept.old, kept.written)
+        wanted = apply.restored(now, kept.old, [kept.stands, kept.target])
         if wanted != kept.old:
             self.tell([f"{kept.folder}: somebody set {apply.in_words(now)}: it is left alone"])
         if wanted != now:
@@ -503,8 +483,7 @@ class Loop:
                             " or the time of --read is too short")
         found = self.planned(model, used)
         self.rounds += 1
-        changed = self.write(found)
-        return {"round": self.rounds, "missed": missed, "written": changed,
+        return {"round": self.rounds, "missed": missed, "written": self.write(found),
                 "unserved": sum(line["unserved"] for line in found.told.values()),
                 "groups": found.told}
 
@@ -519,32 +498,11 @@ class Loop:
             raise HostFault(f"{fault.message}\nto undo: arbiterctl undo {name} --yes") from fault
 
 
-def is_jump(missed: int, interval: int) -> bool:
-    """Whether so many missed rounds, of so many nanoseconds each, are a jump of the clock."""
-    return missed > MOST_MISSED and missed * interval > LONGEST_MISSED
-
-
-def tried(loop: Loop, interval: int, failed: int, missed: int,
-          emit: Callable[[Line], None]) -> int:
-    """One round, whose line is told. Returns the failed readings in a row."""
-    try:
-        line = loop.round(missed, is_jump(missed, interval))
-    except HostFault as fault:
-        if failed + 1 >= MOST_FAILED or isinstance(fault, WriteFault):
-            raise
-        output.warn(fault.message)
-        return failed + 1
-    emit(line)
-    return 0
-
-
 def run(loop: Loop, times: Times, wait: Callable[[float], bool],
         emit: Callable[[Line], None], begin: Callable[[], object] = lambda: None) -> None:
     """Rounds until the last reading, or until `wait` tells a signal. What stood is put back at each
-    end. The limits of the last round stand for an interval.
-
-    `begin` is called after the first reading.
-    """
+    end. The limits of the last round stand for an interval. `begin` is called after the first
+    reading."""
     try:
         loop.read()
         begin()
@@ -556,7 +514,16 @@ def run(loop: Loop, times: Times, wait: Callable[[float], bool],
                 output.warn(f"{missed} rounds missed")
             if readings == times.number:
                 return
-            failed = tried(loop, interval, failed, missed, emit)
+            try:
+                line = loop.round(missed, missed > max(MOST_MISSED, LONGEST_MISSED // interval))
+            except HostFault as fault:
+                failed += 1
+                if failed >= MOST_FAILED or isinstance(fault, WriteFault):
+                    raise
+                output.warn(fault.message)
+            else:
+                failed = 0
+                emit(line)
             readings += 1
             if loop.record is None and readings == times.number:
                 return

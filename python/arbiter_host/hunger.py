@@ -46,12 +46,9 @@ def task(number: int) -> TaskTimes | None:
 
 def tasks(text: str) -> Tasks:
     """What the tasks of a list did. Of a longer list the first ones are read."""
-    found = {}
-    for number in (number_in(word) for word in text.split()[:MOST_TASKS]):
-        each = task(number) if number else None
-        if number and each is not None:
-            found[number] = each
-    return found
+    numbers = (number_in(word) for word in text.split()[:MOST_TASKS])
+    found = ((number, task(number)) for number in numbers if number)
+    return {number: each for number, each in found if each is not None}
 
 
 def rises(before: Tasks, now: Tasks) -> Iterator[TaskTimes]:
@@ -70,31 +67,23 @@ def is_starved(each: TaskTimes, passed: int) -> bool:
 
 
 def is_hungry(before: Tasks, now: Tasks, found: RoundTimes) -> bool:
-    """Whether a group would have used more in a round. It would if it was throttled.
-
-    Else not if its tasks waited for less than a hundredth of the round. Else if a task would have
-    run longer. Where tasks that were there at both readings used less than half of what was used,
-    it is a guess: whether tasks waited for half of the round.
-    """
-    passed = found.passed
-    if found.is_throttled:
-        return True
-    if 100 * 1000 * found.waited < passed:
-        return False
+    """Whether a group would have used more in a round. It would if it was throttled. Else not if
+    its tasks waited for less than a hundredth of the round. Else if a task would have run longer.
+    Where tasks that were there at both readings used less than half of what was used, it is a
+    guess: whether tasks waited for half of the round."""
+    if found.is_throttled or 100 * 1000 * found.waited < found.passed:
+        return found.is_throttled
     seen = list(rises(before, now))
     if 2 * sum(each.ran for each in seen) >= 1000 * found.used > 0:
-        return any(is_starved(each, passed) for each in seen)
-    return 2 * 1000 * found.waited >= passed
+        return any(is_starved(each, found.passed) for each in seen)
+    return 2 * 1000 * found.waited >= found.passed
 
 
 def most_wanted(before: Tasks, now: Tasks, found: RoundTimes) -> int | None:
     """The most nanoseconds that a hungry group could have used in a round; None if its tasks do not
-    tell.
-
-    That is the whole round for a task that would have run longer or that came in it, and for each
-    task of a group that was throttled. Another used all that it wanted. Tasks that used less than
-    19 of 20 parts of what was used do not tell.
-    """
+    tell. That is the whole round for a task that would have run longer or that came in it, and for
+    each task of a group that was throttled. Another used all that it wanted. Tasks that used less
+    than 19 of 20 parts of what was used do not tell."""
     passed, seen = found.passed, list(rises(before, now))
     if not 20 * sum(each.ran for each in seen) >= 19 * 1000 * found.used > 0:
         return None

@@ -2,17 +2,16 @@
 from __future__ import annotations
 
 import os
-import queue
 import select
+import shutil
 import signal
 import sys
 import termios
-import threading
 import time
 import tty
 from collections import deque
 from collections.abc import Callable, Iterator
-from contextlib import contextmanager
+from contextlib import contextmanager, suppress
 from dataclasses import dataclass, field
 
 from arbiter_host import explain, names
@@ -29,22 +28,11 @@ SORTS = ("", *explain.SORTS)
 FILTERS = ("", *explain.ONLY)
 ENDS = "qQ\x04"
 HELP = "q quit  s sort  f filter  - fold  + unfold  a all"
-# Seconds after which keys are looked for again.
-PATIENCE = 0.1
-
-
-def height() -> int:
-    """Rows of the terminal, 24 where there is none."""
-    try:
-        return os.get_terminal_size(sys.stdout.fileno()).lines
-    except (OSError, ValueError, AttributeError):
-        return 24
 
 
 def folded(plan: Plan, view: View, rows: int,
            table: Callable[[Plan, View], Lines]) -> tuple[int, Lines]:
-    """The table as deep as it has room, behind that depth; else the top of the tree, the greatest
-    lack first."""
+    """The depth to which there is room, and the table; else the top, the greatest lack first."""
     lines = table(plan, view)
     depth = max((group.depth for group, _ in explain.shown_groups(plan, view)), default=0)
     while len(lines) > rows and depth > 1 and not view.is_flat:
@@ -73,7 +61,6 @@ class Recent:
     pictures: deque[dict[str, int]] = field(default_factory=lambda: deque(maxlen=HISTORY))
 
     def take(self, plan: Plan) -> None:
-        """Remembers a picture."""
         self.pictures.append({group.path: group.gets for group in plan.groups})
 
     def line(self, path: str) -> str:
@@ -121,20 +108,14 @@ class Keys:
             self.depth = max(now + (1 if letter == "+" else -1), 0)
 
     def view(self, view: View) -> View:
-        """The view with what keys have changed."""
-        if self.sort:
-            view = view._replace(sort=SORTS[self.sort])
-        if self.only:
-            view = view._replace(only=(FILTERS[self.only],))
-        if self.depth is not None:
-            view = view._replace(depth=min(self.depth, view.depth))
-        return view._replace(everything=view.everything or self.is_all)
+        return view._replace(
+            sort=SORTS[self.sort] or view.sort, everything=view.everything or self.is_all,
+            only=(FILTERS[self.only],) if self.only else view.only,
+            depth=view.depth if self.depth is None else min(self.depth, view.depth))
 
     def words(self) -> str:
-        """The line of the keys, with what they chose."""
-        chosen = [f"{name}: {value}" for name, value in (
-            ("sort", SORTS[self.sort]), ("only", FILTERS[self.only])) if value]
-        return "  ".join([HELP, *chosen])
+        chosen = (("sort", SORTS[self.sort]), ("only", FILTERS[self.only]))
+        return "  ".join([HELP, *(f"{name}: {value}" for name, value in chosen if value)])
 
 
 @contextmanager
@@ -174,92 +155,64 @@ def key_by_key() -> Iterator[int | None]:
         termios.tcsetattr(descriptor, termios.TCSADRAIN, before)
 
 
-def pressed(descriptor: int | None) -> str:
-    """The keys that were pressed, after a moment."""
-    if descriptor is None:
-        time.sleep(PATIENCE)
-        return ""
-    if not select.select([descriptor], [], [], PATIENCE)[0]:
-        return ""
-    return os.read(descriptor, 100).decode("ascii", "ignore")
-
-
-class Reader:
-    """Reads round after round beside the view, so that keys are taken while it waits."""
-
-    def __init__(self, rounds: Iterator[PlannedRound]) -> None:
-        self.rounds: Iterator[PlannedRound] = rounds
-        self.read: queue.Queue[PlannedRound | BaseException | None] = queue.Queue(1)
-        threading.Thread(target=self.run, daemon=True).start()
-
-    def run(self) -> None:
-        """Reads until the end. A fault is handed on."""
-        try:
-            for each in self.rounds:
-                self.read.put(each)
-            self.read.put(None)
-        except BaseException as error:  # (raised again where it is taken)
-            self.read.put(error)
-
-    def newest(self) -> PlannedRound | None:
-        """A round that was read since; None at the end. `queue.Empty` where there is none yet."""
-        newest = self.read.get_nowait()
-        if isinstance(newest, BaseException):
-            raise newest
-        return newest
+class Ended(Exception):
+    """A key that ends the view."""
 
 
 class Screen:
     """What is shown: the last plan, what keys have changed, and the history."""
 
-    def __init__(self, view: Callable[[Plan], View]) -> None:
-        self.view, self.keys, self.history = view, Keys(), Recent()
+    def __init__(self, view: Callable[[Plan], View], put: Callable[[Lines], None],
+                 keyboard: int | None) -> None:
+        self.view, self.put, self.keyboard = view, put, keyboard
+        self.keys, self.history = Keys(), Recent()
         self.plan: Plan | None = None
 
-    def take(self, plan: Plan) -> None:
-        """Takes a new plan."""
-        self.plan = plan
-        self.history.take(plan)
-
-    def press(self, letters: str, rows: int) -> None:
-        """Takes keys."""
+    def draw(self, letters: str = "") -> None:
+        """Takes keys, and shows the plan."""
+        rows, table = max(shutil.get_terminal_size().lines - 2, 5), self.history.table
         depth = 0
-        if self.plan is not None:
-            view = self.keys.view(self.view(self.plan))
-            depth, _ = folded(self.plan, view, rows, self.history.table)
+        if letters and self.plan is not None:
+            depth, _ = folded(self.plan, self.keys.view(self.view(self.plan)), rows, table)
         for letter in letters:
             self.keys.take(letter, depth)
+        if self.plan is not None:
+            view = self.keys.view(self.view(self.plan))
+            self.put([*screen(self.plan, view, rows, table), (self.keys.words(), "reverse")])
 
-    def lines(self, rows: int) -> Lines:
-        """The lines of the screen."""
-        if self.plan is None:
-            return []
-        view = self.keys.view(self.view(self.plan))
-        return [*screen(self.plan, view, rows, self.history.table), (self.keys.words(), "reverse")]
+    def wait(self, seconds: float) -> None:
+        """Waits, and takes keys meanwhile."""
+        until, left = time.monotonic() + seconds, seconds
+        while True:
+            if self.keyboard is None:
+                time.sleep(left)
+            elif (select.select([self.keyboard], [], [], left)[0]
+                  and (data := os.read(self.keyboard, 100))):
+                self.draw(data.decode("ascii", "ignore"))
+            if self.keys.is_ended:
+                raise Ended
+            if not left:
+                return
+            left = max(until - time.monotonic(), 0)
 
 
-def show(rounds: Iterator[PlannedRound], view: Callable[[Plan], View],
-         take: Callable[[PlannedRound], None]) -> None:
+def show(rounds: Callable[[Callable[[float], None]], Iterator[PlannedRound]],
+         view: Callable[[Plan], View], take: Callable[[PlannedRound], None]) -> None:
     """Shows picture after picture on a terminal, until a key, Ctrl-C or the last round. Each round
-    is given to `take` first."""
+    is given to `take` first. `rounds` waits by what it is given, which takes keys meanwhile."""
     from rich.console import Console, Group
     from rich.live import Live
     from rich.text import Text
-    console, reader, seen = Console(highlight=False), Reader(rounds), Screen(view)
-    with (ended_by_signals(), key_by_key() as descriptor,
+    console = Console(highlight=False)
+    with (ended_by_signals(), key_by_key() as keyboard, suppress(Ended),
           Live(console=console, screen=True, auto_refresh=False) as live):
-        while not seen.keys.is_ended:
-            letters, rows = pressed(descriptor), max(height() - 2, 5)
-            try:
-                newest = reader.newest()
-                if newest is None:
-                    return
-                take(newest)
-                seen.take(newest.plan)
-            except queue.Empty:
-                if not letters:
-                    continue
-            seen.press(letters, rows)
-            texts = [Text(names.cut(line, console.width), style)
-                     for line, style in seen.lines(rows)]
+        def put(lines: Lines) -> None:
+            texts = (Text(names.cut(line, console.width), style) for line, style in lines)
             live.update(Group(*texts), refresh=True)
+
+        shown = Screen(view, put, keyboard)
+        for each in rounds(shown.wait):
+            take(each)
+            shown.plan = each.plan
+            shown.history.take(each.plan)
+            shown.draw()

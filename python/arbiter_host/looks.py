@@ -30,8 +30,7 @@ CAME, FELL, STILL = ("groups that came or went", "groups whose counters fell",
 
 
 class Times(NamedTuple):
-    """How often a source is read: the seconds from one reading to the next, and their number; None
-    for no end."""
+    """How often a source is read: seconds between readings, and their number; None for no end."""
 
     interval: Fraction = Fraction(1)
     number: int | None = 2
@@ -73,11 +72,8 @@ class Counted(NamedTuple):
 
 @dataclass
 class Look:
-    """All groups at one time, which is in seconds.
-
-    What is counted is kept by the group's path and by what tells a group from another one that has
-    its path later.
-    """
+    """All groups at one time, which is in seconds. What is counted is kept by the group's path and
+    by what tells a group from another one that has its path later."""
 
     at: Fraction
     model: Model
@@ -108,7 +104,6 @@ class Span(NamedTuple):
                             self.risen.pressure or 0, has_limit and bool(self.risen.throttled))
 
     def is_hungry(self, has_limit: bool) -> bool:
-        """Whether it would have used more."""
         return hunger.is_hungry(self.before, self.after, self.round(has_limit))
 
     def most_wanted(self, has_limit: bool) -> Fraction | None:
@@ -124,7 +119,7 @@ class Span(NamedTuple):
         return Measured([first, self.risen], tasks=tasks)
 
 
-def risen(one: Counted, two: Counted, seconds: Fraction) -> Span:
+def risen(one: Counted, two: Counted, seconds: Fraction = Fraction(0)) -> Span:
     """What was counted from one look to the next, which are so many seconds apart unless both have
     times of their own."""
     if one.at is not None and two.at is not None:
@@ -165,10 +160,8 @@ def between(one: Look, two: Look, path: str) -> Span | str:
 
 
 class Tree:
-    """A tree of cgroups that is read again and again, or with no clock a copy of one.
-
-    With `has_threads` each look has what the tasks of this host did, too.
-    """
+    """A tree of cgroups that is read again and again, or with no clock a copy of one. With
+    `has_threads` each look has what the tasks of this host did, too."""
 
     def __init__(self, folder: str, host: Host, clock: Clock | None = None,
                  depth: int = MAX_DEPTH, has_threads: bool = False) -> None:
@@ -191,8 +184,7 @@ class Tree:
         return look
 
     def count(self, look: Look, group: Group, reading: Reading) -> None:
-        """Takes the counters of a group. Of two copies nothing but the path tells whether a group
-        is the same."""
+        """Takes the counters of a group. In copies its path alone tells whether it is the same."""
         if reading.usage is not None:
             key = None if self.clock is None else group.identity
             look.counted[group.path] = {key: Counted(reading, {}, self.now())}
@@ -268,22 +260,17 @@ def is_folder(entry: os.DirEntry[str]) -> bool:
         return False
 
 
-def check_order(one: Look, two: Look, folder: str) -> None:
-    """A fault where the later of two copies, which is in a folder, was made before the other."""
-    spans = [between(one, two, path) for path in one.counted if path in two.counted]
-    if spans and all(each == FELL for each in spans):
-        raise HostFault(f"{shown(folder)}: all its counters are below those of the copy before it:"
-                        " name copies in the order in which they were made")
-
-
 def looks_at_copies(folders: Sequence[str], host: Host, interval: Fraction) -> Iterator[Look]:
     """Looks at copies of a tree, each of which was made an interval after the one before."""
     last: Look | None = None
     for place, folder in enumerate(folders):
         look = Tree(folder, host).look()
         look.at = place * interval
-        if last is not None:
-            check_order(last, look, folder)
+        spans = [between(last, look, path) for path in last.counted
+                 if path in look.counted] if last else []
+        if spans and all(each == FELL for each in spans):
+            raise HostFault(f"{shown(folder)}: all its counters are below those of the copy before"
+                            " it: name copies in the order in which they were made")
         last = look
         yield look
 
@@ -340,11 +327,8 @@ def series_of(folders: Sequence[str], host: Host, times: Times) -> OverTime:
 def measured_at(folders: Sequence[str], times: Times, places: Mapping[Place, Sequence[str]]
                 ) -> tuple[dict[Place, Measured], Fraction]:
     """What a tree, or its copies, have of groups that a source has no counters of; and the seconds
-    from one look to the next.
-
-    Each has the folders below the top at which it may be. It is measured at the first that is
-    there.
-    """
+    from one look to the next. Each has the folders below the top at which it may be. It is measured
+    at the first that is there."""
     series = series_of(folders, Host(), times)
     top = os.path.realpath(folders[0])
     paths = {os.path.relpath(group.place, top): path

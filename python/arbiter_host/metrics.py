@@ -31,21 +31,19 @@ MARK = "# HELP arbiter_"
 SECONDS = 5
 # The key of a request's environment that has the time of its reader.
 TIME = "arbiter.time"
-# The names of the metrics of groups, their values, and what they say.
-GROUPS: tuple[tuple[str, Callable[[GroupFigures], Any], str], ...] = (
-    ("arbiter_plan_gets_cpus", lambda each: each.plan / 1000, "CPUs that the plan gives a group."),
-    ("arbiter_plan_wants_cpus", lambda each: each.want / 1000, "CPUs that a group wants."),
-    ("arbiter_got_cpus", lambda each: None if each.got is None else each.got / 1000,
-     "CPUs that a group used."),
-    ("arbiter_off_cpus", lambda each: None if each.off is None else each.off / 1000,
-     "CPUs that a group used above what the plan gives it."),
-    ("arbiter_throttled_ratio", lambda each: each.throttled,
+# The names of the metrics of groups, the figures that they are, parts of one, and what they say.
+GROUPS = (
+    ("arbiter_plan_gets_cpus", "plan", 1000, "CPUs that the plan gives a group."),
+    ("arbiter_plan_wants_cpus", "want", 1000, "CPUs that a group wants."),
+    ("arbiter_got_cpus", "got", 1000, "CPUs that a group used."),
+    ("arbiter_off_cpus", "off", 1000, "CPUs that a group used above what the plan gives it."),
+    ("arbiter_throttled_ratio", "throttled", 1,
      "Part of the periods in which a group was throttled, 0 to 1."),
-    ("arbiter_starved", lambda each: int(each.is_starved),
+    ("arbiter_starved", "is_starved", 1,
      "1 if a group wants something and the plan gives it nothing."),
 )
 OTHERS = ("arbiter_alert", "arbiter_round_timestamp_seconds")
-NAMES = (*(name for name, _, _ in GROUPS), *OTHERS)
+NAMES = (*(name for name, *_ in GROUPS), *OTHERS)
 # Keys of a group in the line of a round of a loop, and what the gauge is.
 HELD = {
     "want": "CPUs that a group asked for in the last round; +Inf for a hungry one.",
@@ -56,12 +54,13 @@ HELD = {
 }
 
 
-def of_groups(name: str, words: str, values: Iterable[tuple[str, Any]]) -> GaugeMetricFamily:
-    """A gauge of groups. Their names have no control character."""
-    family = GaugeMetricFamily(name, words, labels=["group"])
-    for path, value in values:
+def gauge(name: str, words: str, values: Iterable[tuple[Sequence[str], Any]],
+          labels: Sequence[str] = ("group",)) -> GaugeMetricFamily:
+    """A gauge with labels, whose values have no control character; no sample for None."""
+    family = GaugeMetricFamily(name, words, labels=labels)
+    for texts, value in values:
         if value is not None:
-            family.add_metric([shown(path)], float(value))
+            family.add_metric([shown(each) for each in texts], float(value))
     return family
 
 
@@ -72,19 +71,16 @@ class Figured(Collector):
         self.last: tuple[Sequence[GroupFigures], Sequence[Alert], float] = ((), (), 0.0)
 
     def put(self, figures: Sequence[GroupFigures], alerts: Sequence[Alert]) -> None:
-        """Takes the figures of a round."""
         self.last = (figures, alerts, time.time())
 
     def collect(self) -> Iterable[GaugeMetricFamily]:
-        """The metrics."""
         figures, alerts, at = self.last
-        for name, value, words in GROUPS:
-            yield of_groups(name, words, ((each.path, value(each)) for each in figures))
-        family = GaugeMetricFamily(OTHERS[0], "1 for each alert that holds.",
-                                   labels=["alert", "group"])
-        for alert in alerts:
-            family.add_metric([shown(alert.condition), shown(alert.group)], 1)
-        yield family
+        for name, key, parts, words in GROUPS:
+            values = [((each.path,), getattr(each, key)) for each in figures]
+            yield gauge(name, words, ((path, None if value is None else value / parts)
+                                      for path, value in values))
+        yield gauge(OTHERS[0], "1 for each alert that holds.", ((each, 1) for each in alerts),
+                    ("alert", "group"))
         if at:
             yield GaugeMetricFamily(OTHERS[1], "When the last round was.", value=at)
 
@@ -96,39 +92,27 @@ class Held(Collector):
         self.line, self.one = line, Fraction(host.slice_us, host.period_us)
 
     def collect(self) -> Iterable[GaugeMetricFamily]:
-        """The metrics."""
         groups: dict[str, dict[str, Any]] = self.line["groups"]
         for key, words in HELD.items():
-            yield of_groups(f"arbiter_hold_{key}_cpus", words, (
-                (path, float("inf") if key == "want" and each["hungry"] else each[key] * self.one)
-                for path, each in groups.items()))
-        yield of_groups("arbiter_hold_hungry",
-                        "1 if a group would have used more in the last round.",
-                        ((path, each["hungry"]) for path, each in groups.items()))
+            yield gauge(f"arbiter_hold_{key}_cpus", words, (
+                ((path,), float("inf") if key == "want" and each["hungry"] else
+                 each[key] * self.one) for path, each in groups.items()))
+        yield gauge("arbiter_hold_hungry", "1 if a group would have used more in the last round.",
+                    (((path,), each["hungry"]) for path, each in groups.items()))
         for key, name, words in (("round", "rounds", "Rounds since the loop began."),
                                  ("missed", "missed_rounds", "Rounds missed before the last one.")):
             yield GaugeMetricFamily(f"arbiter_hold_{name}", words, value=self.line[key])
 
 
-def registry_of(collector: Collector) -> CollectorRegistry:
-    """A registry of these metrics alone."""
-    registry = CollectorRegistry(auto_describe=False)
-    registry.register(collector)
-    return registry
-
-
 def text_of(collector: Collector) -> bytes:
     """The metrics as OpenMetrics."""
-    text: bytes = generate_latest(registry_of(collector))  # type: ignore[no-untyped-call]
+    text: bytes = generate_latest(collector)  # type: ignore[no-untyped-call]
     return text
 
 
 class File:
-    """A file of a textfile collector that has the last round, whole or not at all.
-
-    Everybody may read it. It is in a folder that no other user changes, and replaces no file that
-    is not ours.
-    """
+    """A file of a textfile collector that has the last round, whole or not at all. Everybody may
+    read it. It is in a folder that no other user changes, and replaces no file that is not ours."""
 
     def __init__(self, path: str) -> None:
         self.path = os.path.abspath(path)
@@ -138,9 +122,10 @@ class File:
     @contextmanager
     def opened(self) -> Iterator[Place]:
         """Where it is written."""
-        place = place_of(self.path, collected_folder, mode=0o644, is_synced=False)
+        place = place_of(self.path, collected_folder)
         # (what a kill leaves under the one other name is replaced)
-        with closing(replace(place, part=f".{place.name}.part")) as place:
+        part = f".{place.name}.part"
+        with closing(replace(place, part=part, mode=0o644, is_synced=False)) as place:
             with faults(self.path):
                 place.check_ours(self.path, MARK, f"has no metrics of arbiterctl{CHANGED}")
                 yield place
@@ -151,7 +136,6 @@ class File:
             place.put(text_of(collector))
 
     def remove(self) -> None:
-        """Removes the file."""
         with self.opened() as place, suppress(FileNotFoundError):
             os.unlink(place.name, dir_fd=place.folder)
 
@@ -160,11 +144,7 @@ class Handler(WSGIRequestHandler):
     """Answers one request, and logs none."""
 
     def log_message(self, format: str, *words: Any) -> None:
-        """Logs nothing."""
-
-    def get_environ(self) -> dict[str, Any]:
-        """The environment of a request, with the time of the reader."""
-        return {**super().get_environ(), TIME: self.server.time}  # type: ignore[attr-defined]
+        pass
 
 
 class Patience:
@@ -179,13 +159,11 @@ class Patience:
             self.request.shutdown(socket.SHUT_RDWR)
 
     def begin(self) -> None:
-        """The time begins."""
         self.timer = threading.Timer(SECONDS, self.cut_off)
         self.timer.daemon = True
         self.timer.start()
 
     def end(self) -> None:
-        """The time ends."""
         self.timer.cancel()
 
 
@@ -200,12 +178,12 @@ class Server(WSGIServer):
 
     def process_request(self, request: Any, client_address: Any) -> None:
         """Answers one request, of a reader that has some time."""
-        self.time = Patience(request)
-        self.time.begin()
+        time_ = self.base_environ[TIME] = Patience(request)
+        time_.begin()
         try:
             super().process_request(request, client_address)
         finally:
-            self.time.end()
+            time_.end()
 
     def handle_error(self, request: Any, client_address: Any) -> None:
         """A reader that went away is no fault of the server."""
@@ -237,9 +215,10 @@ def address_of(text: str) -> tuple[str, int]:
 
 
 def guarded(collector: Collector) -> Callable[..., Any]:
-    """Answers `GET /metrics` of a loopback name alone: no page of a browser reaches it by another
-    name."""
-    app = make_wsgi_app(registry_of(collector))
+    """Answers `GET /metrics` of a loopback name alone, so that no page of a browser reaches it."""
+    registry = CollectorRegistry(auto_describe=False)
+    registry.register(collector)
+    app = make_wsgi_app(registry)
 
     def answer(environ: dict[str, Any], start: Callable[..., Any]) -> Any:
         host = str(environ.get("HTTP_HOST", "")).lower()

@@ -137,7 +137,7 @@ class Lowering:
             return owned.remade(before, before.owned, settings)
         after = before.copy()
         for each in settings:
-            change.apply(after, after.groups[each.path], each.key, each.value, False)
+            change.apply(after.groups[each.path], each.key, each.value, False)
         return after
 
     def limited(self, limits: Limits) -> Goals:

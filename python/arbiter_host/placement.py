@@ -5,7 +5,6 @@ The library has no rule of this. The runs are those of a model of Linux's balanc
 from __future__ import annotations
 
 import math
-from collections.abc import Iterator
 from typing import NamedTuple
 
 from arbiter_host.balancer import Branch, Run, Shape, Task, TooMuchWork, chain, limit_of
@@ -33,19 +32,12 @@ class Bounds(NamedTuple):
 
 
 class Outlook(NamedTuple):
-    """The ranges by group, or why there are none.
-
-    `grain` is the greatest planned share of one task over the mean load of a CPU.
-    """
+    """The ranges by group, or why there are none. `grain` is the greatest planned share of one task
+    over the mean load of a CPU."""
 
     ranges: dict[str, Bounds]
     why_not: str = ""
     grain: float = 0.0
-
-    @property
-    def are_firm(self) -> bool:
-        """Whether all groups are firm."""
-        return all(each.is_firm for each in self.ranges.values())
 
 
 def unknown_of(model: Model) -> str:
@@ -64,29 +56,28 @@ def unknown_of(model: Model) -> str:
     return ""
 
 
-def leaves(model: Model) -> Iterator[Group]:
+def leaves(model: Model) -> list[Group]:
     """The groups without children."""
-    parents = {parent_path(path) for path in model.groups}
-    return (group for path, group in model.groups.items() if path not in parents)
+    below = model.children()
+    return [group for path, group in model.groups.items() if not below[path]]
 
 
 def shape_of(model: Model) -> Shape:
     """The shape of a host of which all is known."""
-    period = model.host.period_us / 1e6
-    nodes = {".": Branch(".")}
+    period, nodes = model.host.period_us / 1e6, {".": Branch(".")}
     for path, group in model.groups.items():
         quota = math.inf if group.quota is None else group.quota / 1e6
         nodes[path] = Branch(path, float(group.weight), nodes[parent_path(path)], quota,
-                           group.period / 1e6, group.burst / 1e6)
+                             group.period / 1e6, group.burst / 1e6)
     for group in leaves(model):
         count, node = group.tasks or 0, nodes[group.path]
         if group.usable > 0:
             work = min(float(group.usable) / 1000 / count, 1.0) * period
             node.tasks = [Task(node, work) for _ in range(count)]
     tasks = [task for node in nodes.values() for task in node.tasks]
-    busy = {id(node) for task in tasks for node in chain(task.group)}
-    kept = [node for node in nodes.values() if id(node) in busy]
-    for node in kept[1:]:
+    busy = {node for task in tasks for node in chain(task.group)}
+    kept = [node for node in nodes.values() if node in busy]
+    for node in kept:
         if node.above is not None:
             node.above.children.append(node)
     return Shape(model.host.processors, period, kept, tasks)
@@ -94,11 +85,11 @@ def shape_of(model: Model) -> Shape:
 
 def grain(shape: Shape) -> float:
     """The greatest planned share of one task over the mean load of a CPU."""
-    part = {id(shape.nodes[0]): 1.0}
+    part = {shape.nodes[0]: 1.0}
     for node in shape.nodes:
         whole = sum(child.weight for child in node.children)
-        part |= {id(child): part[id(node)] * child.weight / whole for child in node.children}
-    return max((part[id(task.group)] / len(task.group.tasks) for task in shape.tasks),
+        part |= {child: part[node] * child.weight / whole for child in node.children}
+    return max((part[task.group] / len(task.group.tasks) for task in shape.tasks),
                default=0.0) * shape.processors
 
 
@@ -130,10 +121,8 @@ def ranges(shape: Shape) -> dict[str, Bounds] | None:
 
 def range_of(node: Branch, spans: dict[str, tuple[float, float]], most: float,
              are_alike: bool) -> Bounds:
-    """A group's range, from the least and the greatest that each group had in the runs.
-
-    Some runs rarely show the ends. A limit that binds is not always reached.
-    """
+    """A group's range, from the least and the greatest that each group had in the runs. Some runs
+    rarely show the ends. A limit that binds is not always reached."""
     low, high = spans[node.path]
     more = (high - low) / 4 + SLACK
     binds = any(spans[each.path][1] > limit_of(each) * (1 - UNREACHED) for each in chain(node))

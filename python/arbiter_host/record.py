@@ -9,7 +9,7 @@ import fcntl
 import os
 import shlex
 import time
-from contextlib import suppress
+from contextlib import ExitStack, suppress
 from dataclasses import replace
 
 from arbiter_host.atomic_files import FLAGS, faults, own_folder, place_of
@@ -45,19 +45,18 @@ def locked_soon(file: int) -> bool:
 def lock(path: str, top: str = "") -> list[int]:
     """Locks a folder against a second loop. The lock stands while the descriptors are open. Its
     file has the top of the tree that is held."""
-    folder = own_folder(path)
     name = os.path.join(path, LOCK)
-    try:
+    with ExitStack() as opened:
+        folder = own_folder(path)
+        opened.callback(os.close, folder)
         with faults(name):
             file = os.open(LOCK, os.O_RDWR | os.O_CREAT | FLAGS, 0o600, dir_fd=folder)
+            opened.callback(os.close, file)
             if not locked_soon(file):
-                os.close(file)
                 raise HostFault(f"{shown(name)}: another loop holds this host; nothing is changed")
             os.ftruncate(file, 0)
             os.write(file, os.fsencode(top))
-    except HostFault:
-        os.close(folder)
-        raise
+        opened.pop_all()
     return [folder, file]
 
 
@@ -79,38 +78,31 @@ class Record:
 
     def __init__(self, path: str) -> None:
         place = place_of(path)
-        self.path, self.is_there = os.path.abspath(path), False
+        # The text that was put last; empty where there is no file.
+        self.path, self.text = os.path.abspath(path), ""
         self.place = replace(place, part=f"{place.name}.part")
-        # The text that was put last.
-        self.text = ""
-        try:
-            self.check_new()
-        except HostFault:
-            self.close()
-            raise
-
-    def check_new(self) -> None:
-        """A fault where the name is taken, be it by a link that leads nowhere."""
-        with faults(self.path), suppress(FileNotFoundError):
-            os.lstat(self.place.name, dir_fd=self.place.folder)
-            raise HostFault(f"the undo file {shown(self.path)}: File exists; nothing is changed."
-                            " If a loop was killed: arbiterctl undo"
-                            f" {shlex.quote(self.path)} --yes, and remove it then")
+        # The name may be taken by a link that leads nowhere, too.
+        with ExitStack() as stack:
+            stack.callback(self.close)
+            with faults(self.path), suppress(FileNotFoundError):
+                os.lstat(place.name, dir_fd=place.folder)
+                raise HostFault(f"the undo file {shown(self.path)}: File exists; nothing is"
+                                " changed. If a loop was killed: arbiterctl undo"
+                                f" {shlex.quote(self.path)} --yes, and remove it then")
+            stack.pop_all()
 
     def put(self, text: str) -> None:
         """Puts a text in place of the last."""
         with faults(self.path):
-            self.place.put(text.encode(), is_new=not self.is_there)
-            self.is_there, self.text = True, text
+            self.place.put(text.encode(), is_new=not self.text)
+            self.text = text
             os.fsync(self.place.folder)
 
     def remove(self) -> None:
-        """Removes the file, if one was written."""
-        if self.is_there:
+        if self.text:
             with faults(self.path):
                 os.unlink(self.place.name, dir_fd=self.place.folder)
-            self.is_there = False
+            self.text = ""
 
     def close(self) -> None:
-        """Closes the folder."""
         self.place.close()

@@ -30,22 +30,27 @@ class Gone(HostFault):
     """A file that is not there, or whose group was removed while it was open."""
 
 
-def identity_of(descriptor: int) -> Identity:
-    """The identity of what a descriptor is open at."""
-    status = os.fstat(descriptor)
+@contextmanager
+def faults(path: str, end: str = "", kind: str = "") -> Iterator[None]:
+    """Errors of the system as faults that name a file, in one line."""
+    try:
+        yield
+    except OSError as error:
+        fault = Gone if error.errno in REMOVED else HostFault
+        raise fault(f"{kind}{shown(path)}: {strerror(error)}{end}") from error
+
+
+def identity_of(place: int | str) -> Identity:
+    """The identity of what a path leads to, or a descriptor is open at."""
+    status = os.stat(place)
     return status.st_dev, status.st_ino
 
 
-def open_more_files() -> None:
-    """Lets this process have as many files open as it may."""
-    with suppress(OSError, ValueError):
-        _, most = resource.getrlimit(resource.RLIMIT_NOFILE)
-        resource.setrlimit(resource.RLIMIT_NOFILE, (most, most))
-
-
 def most_files() -> int:
-    """The most files that this process may have open."""
+    """The most files that this process may have open, which it may from then on."""
     _, most = resource.getrlimit(resource.RLIMIT_NOFILE)
+    with suppress(OSError, ValueError):
+        resource.setrlimit(resource.RLIMIT_NOFILE, (most, most))
     return sys.maxsize if most == resource.RLIM_INFINITY else most
 
 
@@ -60,54 +65,42 @@ class Root:
         self.kept: dict[str, int] = {}
 
     def close(self) -> None:
-        """Closes all folders that are kept."""
         for each in [*self.kept.values(), *([] if self.top is None else [self.top])]:
             os.close(each)
         self.kept, self.top = {}, None
 
     def name(self, folder: str, file: str) -> str:
-        """The whole path of a file."""
         return os.path.join(self.path, folder, file)
-
-    @contextmanager
-    def faults(self, folder: str, file: str = "") -> Iterator[None]:
-        """Errors of the system as faults that name the file."""
-        try:
-            yield
-        except OSError as error:
-            kind = Gone if error.errno in REMOVED else HostFault
-            name = self.name(folder, file).rstrip("/")
-            raise kind(f"{shown(name)}: {strerror(error)}") from error
 
     def descend(self, folder: str) -> int:
         """Opens a folder, part by part from the top, which stays open."""
+        parts = parts_of(folder)
         if self.top is None:
             self.top = os.open(self.path, os.O_PATH | os.O_DIRECTORY | os.O_CLOEXEC)
-        folder_ = os.dup(self.top)
-        for part in parts_of(folder):
-            above = folder_
+        below = os.dup(self.top)
+        for part in parts:
+            above = below
             try:
-                folder_ = os.open(part, FOLDER, dir_fd=above)
+                below = os.open(part, FOLDER, dir_fd=above)
             finally:
                 os.close(above)
-        return folder_
+        return below
 
     def keep(self, folder: str, identity: Identity | None = None) -> None:
         """Opens a folder that stays open. A fault where it is another one than was read."""
         if folder in self.kept:
             raise HostFault(f"{shown(folder)}: named twice")
-        parts_of(folder)
         if not self.kept:
-            open_more_files()
-        with self.faults(folder):
-            descriptor = self.descend(folder)
-        self.kept[folder] = descriptor
-        if identity is not None and identity_of(descriptor) != identity:
+            most_files()
+        with faults(os.path.join(self.path, folder)):
+            self.kept[folder] = self.descend(folder)
+        if identity is not None and identity_of(self.kept[folder]) != identity:
             raise HostFault(f"{shown(folder)}: is another group than the one that was read")
 
     def let_go(self, folder: str) -> None:
-        """Closes a folder that is kept."""
-        os.close(self.kept.pop(folder))
+        """Closes a folder, if it is kept."""
+        if folder in self.kept:
+            os.close(self.kept.pop(folder))
 
     @contextmanager
     def at(self, folder: str) -> Iterator[int]:
@@ -124,8 +117,7 @@ class Root:
     @contextmanager
     def opened(self, folder: str, file: str, flags: int) -> Iterator[int]:
         """A plain file below the root."""
-        parts_of(folder)
-        with self.faults(folder, file), self.at(folder) as above:
+        with faults(self.name(folder, file)), self.at(folder) as above:
             descriptor = os.open(file, FILE | flags, dir_fd=above)
             try:
                 status = os.fstat(descriptor)
@@ -150,11 +142,9 @@ class Root:
         return data.decode(errors="replace").strip()
 
     def write(self, folder: str, file: str, text: str) -> None:
-        """Replaces the text of a file that is there, in one write.
-
-        A plain file has a size: newlines cover a longer text before the file is cut. So a process
-        that is killed leaves the old text or the new one. Files of the kernel have size 0.
-        """
+        """Replaces the text of a file that is there, in one write. A plain file has a size:
+        newlines cover a longer text before the file is cut. So a process that is killed leaves the
+        old text or the new one. Files of the kernel have size 0."""
         line = f"{text}\n".encode()
         with self.opened(folder, file, os.O_WRONLY) as descriptor:
             size = os.fstat(descriptor).st_size
@@ -164,8 +154,7 @@ class Root:
 
 
 def is_of_others(status: os.stat_result, bits: int = 0) -> bool:
-    """Whether a file is another user's than root's or this one's, or its mode has bits that let
-    others change it."""
+    """Whether a file is not root's or this user's, or its mode has bits that let others in."""
     return status.st_uid not in (0, os.geteuid()) or bool(status.st_mode & bits)
 
 

@@ -2,6 +2,7 @@
 from __future__ import annotations
 
 import re
+import time
 from collections.abc import Callable, Iterator, Mapping, Sequence
 from dataclasses import dataclass, field
 from fractions import Fraction
@@ -12,7 +13,7 @@ from arbiter_host.demands import Measured
 from arbiter_host.faults import HostFault, UsageFault
 from arbiter_host.looks import Times
 from arbiter_host.names import shown
-from arbiter_host.plan import Engine, Plan, Planned, plan
+from arbiter_host.plan import Engine, Plan, plan
 
 CONDITION = re.compile(r"(starved|throttled|lack|off)(?:>(.+?))?(?: +for +([0-9]{1,6}))?")
 # Failed rounds in a row that end the command.
@@ -63,14 +64,12 @@ class Condition(NamedTuple):
     rounds: int = 1
 
     def is_of(self, figures: GroupFigures) -> bool:
-        """Whether it speaks of a group."""
         shape = names.pattern(self.group)
         return (self.group in ("", figures.path, figures.title)
                 or figures.path.endswith(f"/{self.group}")
                 or any(shape.fullmatch(each) for each in (figures.path, figures.title)))
 
     def holds(self, figures: GroupFigures) -> bool:
-        """Whether there is an alert of a group."""
         value = figures.value(self.key, bool(self.group) and "*" not in self.group)
         return value is not None and value > self.least and self.is_of(figures)
 
@@ -125,14 +124,11 @@ class PlannedRound:
 
     def figures(self) -> list[GroupFigures]:
         """The figures of each group, the root first."""
-        return [self.figures_of(each) for each in self.plan.groups]
-
-    def figures_of(self, group: Planned) -> GroupFigures:
-        """The figures of one group."""
-        return GroupFigures(group.path, group.group.title if group.group else "",
-                       self.plan.thousandths(group.gets), self.plan.thousandths(group.want),
-                       self.got.get(group.path), self.throttled.get(group.path),
-                       group.is_starved, not group.children)
+        cpu = self.plan.thousandths
+        return [GroupFigures(each.path, each.group.title if each.group else "", cpu(each.gets),
+                             cpu(each.want), self.got.get(each.path),
+                             self.throttled.get(each.path), each.is_starved, not each.children)
+                for each in self.plan.groups]
 
 
 def alerts(figures: Sequence[GroupFigures], wanted: Sequence[Condition]) -> list[Alert]:
@@ -157,18 +153,18 @@ class Watched:
         """Reads the tree, and plans it. Groups that came since the last look want nothing."""
         last, now = self.last, self.tree.look()
         self.last, seconds = now, max(now.at - last.at, Fraction(1, 10**6))
-        spans = {path: looks.between(last, now, path) for path in now.counted}
-        measured = {path: Measured(tasks=now.tasks.get(path)) if isinstance(span, str) else
-                    span.measured(now.tasks.get(path)) for path, span in spans.items()}
-        demands.set_demands(now.model, measured, self.want, seconds)
-        got, throttled = {}, {}
-        for path, span in spans.items():
+        measured, got, throttled = {}, {}, {}
+        for path in now.counted:
+            span, tasks = looks.between(last, now, path), now.tasks.get(path)
             if isinstance(span, str):
+                measured[path] = Measured(tasks=tasks)
                 continue
+            measured[path] = span.measured(tasks)
             got[path] = units.thousandths_of_usage(span.risen.usage or 0, seconds)
             periods, stopped = span.risen.periods, span.risen.throttled
             if periods is not None and stopped is not None:
                 throttled[path] = Fraction(min(stopped, periods), max(periods, 1))
+        demands.set_demands(now.model, measured, self.want, seconds)
         return PlannedRound(plan(self.engine, now.model), got, throttled)
 
 
@@ -178,23 +174,20 @@ class State:
     def __init__(self, wanted: Sequence[Condition]) -> None:
         self.wanted, self.rounds = wanted, 0
         self.needed = {each.words: each.rounds for each in wanted}
-        # The rounds in a row in which each alert held.
+        # The rounds in a row in which each alert held, and those that were raised and hold: they
+        # have held for as many as they need.
         self.standing: dict[Alert, int] = {}
+        self.held: list[Alert] = []
 
     def take(self, figures: Sequence[GroupFigures]) -> list[Alert]:
-        """Takes a round. Returns the alerts that it raises: they have held for as many rounds in a
-        row as they need."""
+        """Takes a round. Returns the alerts that it raises."""
         self.rounds += 1
         self.standing = {each: self.standing.get(each, 0) + 1
                          for each in alerts(figures, self.wanted)}
-        return [each for each, count in self.standing.items()
-                if count == self.needed[each.condition]]
-
-    @property
-    def held(self) -> list[Alert]:
-        """The alerts that were raised and hold."""
-        return [each for each, count in self.standing.items()
-                if count >= self.needed[each.condition]]
+        self.held = [each for each, count in self.standing.items()
+                     if count >= self.needed[each.condition]]
+        return [each for each in self.held
+                if self.standing[each] == self.needed[each.condition]]
 
 
 def line_of(state: State, round_: PlannedRound) -> dict[str, Any]:
@@ -206,11 +199,11 @@ def line_of(state: State, round_: PlannedRound) -> dict[str, Any]:
 
 
 def rounds_of(read: Callable[[], PlannedRound], times: Times, first: int,
-              warn: Callable[[str], None]) -> Iterator[PlannedRound]:
-    """Rounds until the end: readings from the one of a number on. One that fails may pass, unless
-    it is the only one."""
+              warn: Callable[[str], None], sleep: looks.Sleep = time.sleep
+              ) -> Iterator[PlannedRound]:
+    """Rounds from a reading on. One that fails may pass, unless it is the only one."""
     failed = 0
-    for _ in looks.turns(times, first=first):
+    for _ in looks.turns(times, sleep=sleep, first=first):
         try:
             found = read()
         except HostFault as fault:

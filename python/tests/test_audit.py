@@ -301,7 +301,7 @@ def interval(host=ONE, seconds=1, groups=(), **cells):
     model = Model(host)
     for path, quota in groups or [(path, None) for path in cells]:
         model.add(Group(path, quota=quota))
-    return Interval("", Fraction(0), Fraction(seconds), model,
+    return Interval("", Fraction(seconds), model,
                     {path.replace("_", "/"): each for path, each in cells.items()}, {}, None)
 
 
@@ -628,7 +628,7 @@ def told_of(names, cells=2):
     model = Model(TWO)
     for name in names:
         model.add(Group(name))
-    found = [Interval(f"{at} s", Fraction(at), Fraction(1), model,
+    found = [Interval(f"{at} s", Fraction(1), model,
                       {name: cell(600 + at, 500) for name in names}, {}, None)
              for at in range(cells)]
     return found

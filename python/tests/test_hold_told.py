@@ -14,10 +14,10 @@ from pathlib import Path
 import killed_loop
 import pytest
 from arbiter import Host
-from arbiter_host import apply, hold, hunger, metrics, notify, safe_files, weights
+from arbiter_host import apply, hold, hunger, metrics, safe_files
 from arbiter_host.faults import HostFault
 from arbiter_host.model import Group, Model
-from arbiter_host.subcommands.hold import Signals, Waits
+from arbiter_host.subcommands.hold import Notifier, Service
 from held import FREE, World, content, limit, said, started
 from places import PACKAGE
 
@@ -38,7 +38,7 @@ WEIGHTS = hold.Ways(has_weights=True)
 ])
 def test_weights_by_hand(limit, most, weight):
     """100 d / (1.01 - d), to the nearest whole number, 1 to 10000."""
-    assert weights.of_leaf(limit, most) == weight
+    assert hold.leaf_weight(limit, most) == weight
 
 
 def test_weights_of_a_tree():
@@ -46,9 +46,9 @@ def test_weights_of_a_tree():
     model = Model(Host(2, 100000, 1000))
     for path, weight in (("p", 7), ("p/x", 5), ("p/y", 6), ("q", 8), ("q/z", 9), ("r", 3)):
         model.add(Group(path, weight))
-    assert weights.of_tree(model, {"p/x": 90, "r": 40}) == {
+    assert hold.tree_weights(model, {"p/x": 90, "r": 40}) == {
         "p": 96, "p/x": 90, "p/y": 6, "q": 8, "q/z": 9, "r": 40}
-    assert weights.of_tree(model, {"p/x": 9000, "p/y": 9000})["p"] == 10000
+    assert hold.tree_weights(model, {"p/x": 9000, "p/y": 9000})["p"] == 10000
 
 
 def busy(world, *paths):
@@ -421,14 +421,14 @@ def test_watchdog_in_a_long_wait(folder):
         at.bind(str(folder / "n"))
         given = {"NOTIFY_SOCKET": str(folder / "n"), "WATCHDOG_USEC": "90000",
                  "WATCHDOG_PID": str(os.getpid())}
-        told = notify.Notifier(given)
+        told = Notifier(given)
         assert given == {} and told.every == Fraction(3, 100)
         begun = time.monotonic()
-        assert Waits(told, Signals())(0.3) is False
+        assert Service(told).wait(0.3) is False
         assert time.monotonic() - begun >= 0.29
         # (a busy machine wakes it late)
         assert 2 <= len(received(at)) <= 12
-    other = notify.Notifier({"NOTIFY_SOCKET": "/nowhere", "WATCHDOG_USEC": "90000",
+    other = Notifier({"NOTIFY_SOCKET": "/nowhere", "WATCHDOG_USEC": "90000",
                              "WATCHDOG_PID": "1"})
     assert other.every is None
     other.send("READY=1")

@@ -405,15 +405,18 @@ def test_undo_leaves_what_somebody_set_since(ctl, folder, tree):
     assert weights(tree, "box") == [100]
 
 
-def test_undo_leaves_a_limit_with_its_burst(ctl, folder, tree):
-    """A burst that somebody set keeps its quota, since one bounds the other."""
+@pytest.mark.parametrize("quota, maximum, burst", [
+    (None, "max 100000", 40000), (45000, "45000 100000", 40000), (30000, "30000 100000", 30000)])
+def test_undo_leaves_a_burst_as_far_as_it_fits(ctl, folder, tree, quota, maximum, burst):
+    """One that somebody set since stays, and the limit comes back, which bounds it."""
     (folder / "u").write_text(undo_file(
-        tree, after={"weight": 300, "quota": 50000, "period": 100000, "burst": 0}))
+        tree, quota=quota, after={"weight": 300, "quota": 50000, "period": 100000, "burst": 0}))
     for file, text in (("weight", "300"), ("max", "50000 100000"), ("max.burst", "40000")):
         (tree / f"box/cpu.{file}").write_text(f"{text}\n")
-    out, err = ctl.run("undo", folder / "u", "--yes")
-    assert out == f"echo 100 > {tree}/box/cpu.weight  # was 300\n" and "burst 40000" in err
-    assert (tree / "box/cpu.max").read_text() == "50000 100000\n"
+    _, err = ctl.run("undo", folder / "u", "--yes")
+    assert weights(tree, "box") == [100] and "burst 40000" in err
+    assert (tree / "box/cpu.max").read_text() == f"{maximum}\n"
+    assert (tree / "box/cpu.max.burst").read_text() == f"{burst}\n"
 
 
 def test_an_undo_file_without_what_was_written(ctl, folder, tree):

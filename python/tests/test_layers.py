@@ -18,7 +18,6 @@ LAYERS = {
 # The modules of a feature beside the one of its name. No feature leans on another.
 PARTS = {
     "tune": "goals knobs tune_weights tune_settings other_limits",
-    "hold": "weights notify",
     "top": "live metrics",
 }
 ORDER = list(LAYERS)

@@ -121,12 +121,17 @@ def test_rates_follow_the_proved_law():
     assert placement.grain(shape) == pytest.approx(float(3 * max(shares.values())))
 
 
+def is_firm(found):
+    """Whether all groups are firm."""
+    return all(each.is_firm for each in found.ranges.values())
+
+
 def test_firm_and_ranged():
     """Two tasks each on two CPUs are firm. Three tasks on two CPUs are not."""
     even = placement.outlook(host(2, ("a", 100, 2000, 2), ("b", 300, 2000, 2)))
-    assert even.are_firm and even.ranges["a"].low <= 0.5 <= even.ranges["a"].high
+    assert is_firm(even) and even.ranges["a"].low <= 0.5 <= even.ranges["a"].high
     ranged = placement.outlook(host(2, *((each, 100, 1000, 1) for each in "abc")))
-    assert not ranged.are_firm and ranged.ranges["a"].low < 0.6 and ranged.ranges["a"].high > 0.7
+    assert not is_firm(ranged) and ranged.ranges["a"].low < 0.6 and ranged.ranges["a"].high > 0.7
 
 
 def test_a_limit_that_binds_is_not_firm():
@@ -138,7 +143,7 @@ def test_a_limit_that_binds_is_not_firm():
                                    ("b", 100, 2000, 2))).ranges
     assert below["a/x"].high == 0.5 and not below["a/x"].is_firm and below["b"].is_firm
     far = placement.outlook(host(2, ("a", 100, 2000, 2, 190000), ("b", 300, 2000, 2)))
-    assert far.are_firm
+    assert is_firm(far)
 
 
 @pytest.mark.parametrize("model, why", [

@@ -486,7 +486,7 @@ def test_no_change_can_be_left_out(engine, model, goals, is_guaranteed, chosen):
         after = model.copy()
         for place, each in enumerate(changes_):
             if place != left:
-                change.apply(after, after.groups[each.path], each.key, each.then, False)
+                change.apply(after.groups[each.path], each.key, each.then, False)
         is_met = meets(plan(engine, after), found.asked.goals, is_guaranteed, engine.library)
         assert is_met == (left is None), (changes_, left)
 

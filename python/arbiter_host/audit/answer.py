@@ -2,7 +2,7 @@
 from __future__ import annotations
 
 from collections.abc import Iterator, Sequence
-from dataclasses import dataclass
+from dataclasses import dataclass, replace
 from fractions import Fraction
 from typing import Any
 
@@ -15,6 +15,9 @@ from arbiter_host.names import short, shown
 
 HEADS = ("used", "plan", "mean off", "of plan", "worst off", "of plan then", "intervals",
          "likely cause", "group")
+# Keys of the cells of a group as data, and what they hold.
+COLUMNS = {"used_millicpu": "used", "demand_millicpu": "demand", "plan_millicpu": "planned",
+           "periods": "periods", "throttled": "throttled", "hungry": "hungry", "tasks": "tasks"}
 # Thousandths of a CPU of a hundredth.
 HUNDREDTH = 10
 
@@ -26,27 +29,14 @@ class AuditRow:
     path: str
     group: Group
     cells: Sequence[Cell | None]
-    # The place of the interval in which it was most off, and the likely cause there.
+    # The place of the interval in which it was most off, and the cell there.
     worst: int
-    cause: str
-
-    @property
-    def seen(self) -> list[Cell]:
-        """The cells that were measured."""
-        return [cell for cell in self.cells if cell]
-
-    @property
-    def average(self) -> Off:
-        """What it used and the plan, as means."""
-        seen = self.seen
-        return Off(mean([cell.used for cell in seen]), mean([cell.planned for cell in seen]))
-
-    @property
-    def most(self) -> Cell:
-        """The cell in which it was most off."""
-        found = self.cells[self.worst]
-        assert found
-        return found
+    most: Cell
+    # The number of its cells, what it used and the plan, as means.
+    count: int
+    average: Off
+    # The likely cause in the worst interval.
+    cause: str = ""
 
 
 @dataclass(frozen=True)
@@ -57,23 +47,30 @@ class Ranked:
     rows: list[AuditRow]
     why_not: list[str]
 
+    @property
+    def busy(self) -> list[AuditRow]:
+        """The rows of groups that used something, or were planned something."""
+        return [row for row in self.rows if row.average.used or row.average.planned]
 
-def worst_of(cells: Sequence[Cell | None]) -> int:
-    """The place of the cell that is most off; the first of several."""
-    return -max((abs(cell.off), -place) for place, cell in enumerate(cells) if cell)[1]
+
+def row_of(path: str, intervals: Sequence[Interval]) -> AuditRow:
+    """The row of a group without a cause. Of several worst intervals the first is taken."""
+    cells = [interval.cells.get(path) for interval in intervals]
+    seen = {place: cell for place, cell in enumerate(cells) if cell}
+    worst = max(seen, key=lambda place: abs(seen[place].off))
+    average = Off(*(mean([getattr(cell, key) for cell in seen.values()])
+                    for key in ("used", "planned")))
+    return AuditRow(path, intervals[max(seen)].model.groups[path], cells, worst, seen[worst],
+                    len(seen), average)
 
 
 def ranked(audit: Audit) -> Ranked:
     """The rows of all groups that were measured, by how far off they were at worst."""
-    intervals = audit.intervals
-    groups = {path: interval.model.groups[path] for interval in intervals
-              for path in interval.cells}
-    cells = {path: [interval.cells.get(path) for interval in intervals] for path in groups}
-    worst = {path: worst_of(each) for path, each in cells.items()}
-    order = sorted(groups, key=lambda path: (-abs(intervals[worst[path]].cells[path].off), path))
-    outlooks = Outlooks(intervals)
-    rows = [AuditRow(path, groups[path], cells[path], worst[path],
-                cause_of(intervals, worst[path], path, outlooks)) for path in order]
+    intervals, outlooks = audit.intervals, Outlooks(audit.intervals)
+    paths = {path for interval in intervals for path in interval.cells}
+    rows = [replace(row, cause=cause_of(intervals, row.worst, row.path, outlooks))
+            for row in sorted((row_of(path, intervals) for path in paths),
+                              key=lambda row: (-abs(row.most.off), row.path))]
     return Ranked(audit, rows, list(outlooks.why_not))
 
 
@@ -96,20 +93,14 @@ def percent(part: Fraction | None) -> str:
     return f"{whole:+}%" if whole else "0%"
 
 
-def length_words(intervals: Sequence[Interval]) -> str:
-    """The number of intervals, and how long they are."""
-    lengths = [units.decimal(each.seconds) for each in sorted(intervals, key=lambda one:
-                                                              one.seconds)]
-    span = lengths[0] if lengths[0] == lengths[-1] else f"{lengths[0]} to {lengths[-1]}"
-    return f"intervals: {len(intervals)}, each of {span} s"
-
-
 def head(ranked: Ranked) -> Iterator[str]:
     """The lines above the table."""
     intervals = ranked.audit.intervals
+    lengths = [each.seconds for each in intervals]
+    span = " to ".join(dict.fromkeys(map(units.decimal, (min(lengths), max(lengths)))))
     yield text.host_words(ranked.audit.plan)
-    yield f"{length_words(intervals)}; the proved check accepted each plan"
-    yield ("off: what a group used less its plan, in hundredths of a CPU and in parts of the plan")
+    yield f"intervals: {len(intervals)}, each of {span} s; the proved check accepted each plan"
+    yield "off: what a group used less its plan, in hundredths of a CPU and in parts of the plan"
     unplanned = [each.unplanned for each in intervals if each.unplanned is not None]
     if unplanned:
         yield f"used outside these groups, as a mean: {cpus(mean(unplanned))} CPUs"
@@ -119,27 +110,22 @@ def cells_of(row: AuditRow) -> list[str]:
     """The cells of a row."""
     average, most = row.average, row.most
     return [cpus(average.used), cpus(average.planned), points(average.off), percent(average.part),
-            points(most.off), percent(most.part), str(len(row.seen)), row.cause,
+            points(most.off), percent(most.part), str(row.count), row.cause,
             short(shown(row.path))]
-
-
-def busy(ranked: Ranked) -> list[AuditRow]:
-    """The rows of groups that used something, or were planned something."""
-    return [row for row in ranked.rows if row.average.used or row.average.planned]
 
 
 def foot(ranked: Ranked) -> Iterator[str]:
     """The lines below the table."""
-    idle = len(ranked.rows) - len(busy(ranked))
+    idle = len(ranked.rows) - len(ranked.busy)
     if idle:
         yield f"groups that used nothing: {idle}"
     for why in ranked.why_not:
         yield f"placement is not known: {why}"
 
 
-def number(value: Fraction | None) -> float | None:
-    """A number as JSON has it."""
-    return None if value is None else round(float(value), 6)
+def number(value: Any) -> Any:
+    """A value as JSON has it: fractions are rounded."""
+    return round(float(value), 6) if isinstance(value, Fraction) else value
 
 
 def off_data(off: Off) -> dict[str, Any]:
@@ -148,44 +134,27 @@ def off_data(off: Off) -> dict[str, Any]:
             "off_hundredths": number(off.off / HUNDREDTH), "off_part": number(off.part)}
 
 
-def column(cells: Sequence[Cell | None], key: str) -> list[Any]:
-    """A value of each interval; None where nothing was measured."""
-    values = [None if cell is None else getattr(cell, key) for cell in cells]
-    return [number(each) if isinstance(each, Fraction) else each for each in values]
-
-
-def cells_data(cells: Sequence[Cell | None]) -> dict[str, Any]:
-    """The cells of a group by interval."""
-    return {"used_millicpu": column(cells, "used"), "demand_millicpu": column(cells, "demand"),
-            "plan_millicpu": column(cells, "planned"), "periods": column(cells, "periods"),
-            "throttled": column(cells, "throttled"), "hungry": column(cells, "hungry"),
-            "tasks": column(cells, "tasks")}
-
-
 def row_data(row: AuditRow, intervals: Sequence[Interval]) -> dict[str, Any]:
     """A row as data."""
-    holes = {place: interval.holes[row.path] for place, interval in enumerate(intervals)
-             if row.path in interval.holes}
     return {"group": row.path, "title": row.group.title, "weight": row.group.weight,
             "quota_usec": row.group.quota, "period_usec": row.group.period,
-            "intervals": len(row.seen), "holes": {str(key): why for key, why in holes.items()},
+            "intervals": row.count,
+            "holes": {str(place): interval.holes[row.path]
+                      for place, interval in enumerate(intervals) if row.path in interval.holes},
             "mean": off_data(row.average), "worst": {"interval": row.worst, **off_data(row.most)},
-            "cause": row.cause, **cells_data(row.cells)}
-
-
-def host_data(ranked: Ranked) -> dict[str, int]:
-    """The host of the plans."""
-    host = ranked.audit.plan.model.host
-    return {"processors": host.processors, "period_usec": host.period_us,
-            "slice_usec": host.slice_us}
+            "cause": row.cause,
+            **{name: [None if cell is None else number(getattr(cell, key)) for cell in row.cells]
+               for name, key in COLUMNS.items()}}
 
 
 def as_data(ranked: Ranked) -> dict[str, Any]:
     """An audit as data."""
-    audit = ranked.audit
-    intervals = [{"from": each.name, "seconds": number(each.seconds),
-                  "unplanned_millicpu": number(each.unplanned)} for each in audit.intervals]
-    return {"host": host_data(ranked), "check": "accepted", "engine": audit.plan.by,
-            "intervals": intervals, "notes": audit.notes,
-            "placement": {"not_known": ranked.why_not or None},
+    audit, host = ranked.audit, ranked.audit.plan.model.host
+    return {"host": {"processors": host.processors, "period_usec": host.period_us,
+                     "slice_usec": host.slice_us},
+            "check": "accepted", "engine": audit.plan.by,
+            "intervals": [{"from": each.name, "seconds": number(each.seconds),
+                           "unplanned_millicpu": number(each.unplanned)}
+                          for each in audit.intervals],
+            "notes": audit.notes, "placement": {"not_known": ranked.why_not or None},
             "groups": [row_data(row, audit.intervals) for row in ranked.rows]}

@@ -14,8 +14,8 @@ from fractions import Fraction
 
 from arbiter import Host
 from arbiter_host import placement
-from arbiter_host.audit.intervals import Interval, model_of
-from arbiter_host.model import Group, Model
+from arbiter_host.audit.intervals import Interval, with_demands
+from arbiter_host.model import Model
 from arbiter_host.names import parent_path
 from arbiter_host.placement import Outlook
 
@@ -35,19 +35,18 @@ class Outlooks:
         self.why_not: dict[str, None] = {}
 
     def of(self, place: int) -> Outlook:
-        """The outlook of an interval."""
-        if self.intervals[place].model.host.processors == 1:
+        interval = self.intervals[place]
+        if interval.model.host.processors == 1:
             return Outlook({})
         if place not in self.found:
             if len(self.found) >= MOST_TRIED:
                 self.why_not[f"tried for {MOST_TRIED} intervals alone"] = None
                 return Outlook({})
-            model = model_of(self.intervals[place])
+            model = with_demands(interval.model, interval.cells)
             # The model of placement knows tasks that work in each tenth of a second.
             model.host = Host(model.host.processors, 100000, 1000)
-            self.found[place] = placement.outlook(model)
-            if self.found[place].why_not:
-                self.why_not[self.found[place].why_not] = None
+            found = self.found[place] = placement.outlook(model)
+            self.why_not |= {found.why_not: None} if found.why_not else {}
         return self.found[place]
 
 
@@ -60,19 +59,13 @@ def is_placement(interval: Interval, path: str, found: Outlook) -> bool:
     return min(range_.low, planned) <= used <= max(range_.high, planned)
 
 
-def limits_above(model: Model, path: str) -> Iterator[Group]:
-    """The groups with a limit from a group on up."""
+def quotas(model: Model, path: str) -> Iterator[int]:
+    """The quotas of a group and of those above it, in microseconds."""
     while path != ".":
-        group = model.groups[path]
-        if group.quota is not None:
-            yield group
+        quota = model.groups[path].quota
+        if quota is not None:
+            yield quota
         path = parent_path(path)
-
-
-def is_phase(interval: Interval, path: str) -> bool:
-    """Whether off is at most one quota of a limit in the interval."""
-    off = abs(interval.cells[path].off) * interval.seconds * 1000
-    return any(off <= (group.quota or 0) for group in limits_above(interval.model, path))
 
 
 def has_moved(intervals: Sequence[Interval], place: int, path: str) -> bool:
@@ -86,11 +79,12 @@ def has_moved(intervals: Sequence[Interval], place: int, path: str) -> bool:
 def cause_of(intervals: Sequence[Interval], place: int, path: str, outlooks: Outlooks) -> str:
     """The likely cause of what is off of a group in an interval."""
     interval = intervals[place]
-    host = interval.model.host
-    if abs(interval.cells[path].off) < Fraction(1000 * host.slice_us, host.period_us):
+    host, off = interval.model.host, abs(interval.cells[path].off)
+    if off < Fraction(1000 * host.slice_us, host.period_us):
         return SLICE
     if is_placement(interval, path, outlooks.of(place)):
         return PLACEMENT
-    if is_phase(interval, path):
+    # Microseconds are compared.
+    if any(off * interval.seconds * 1000 <= each for each in quotas(interval.model, path)):
         return PHASE
     return MOVED if has_moved(intervals, place, path) else NOTHING

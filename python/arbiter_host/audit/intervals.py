@@ -2,8 +2,9 @@
 from __future__ import annotations
 
 import math
-from collections.abc import Callable, Iterable, Sequence
-from dataclasses import dataclass, field
+from collections import Counter
+from collections.abc import Callable, Iterable, Mapping, Sequence
+from dataclasses import dataclass, field, replace
 from fractions import Fraction
 
 from arbiter import Host
@@ -22,21 +23,19 @@ MOST_COUNTED = 400_000
 
 def fine(host: Host) -> Host:
     """A host of as many CPUs, with a period of 1 s and slices of 1 ms where a plan can be so fine.
-
-    Use is in microseconds. A slice of 10m would hide what is below it.
-    """
+    Use is in microseconds. A slice of 10m would hide what is below it."""
     return Host(host.processors, MICROSECONDS, 1000) if host.processors <= 64 else host
 
 
-def settings_of(model: Model) -> list[tuple[object, ...]]:
-    """What a plan depends on but demands."""
-    return [(path, each.weight, each.quota, each.period, each.burst)
-            for path, each in model.groups.items()]
 
 
 def collected(seen: Iterable[Look], count: int = 0) -> list[Look]:
     """Looks as a list, of which so many are to come. Equal settings are kept once, and looks at
     a tree are named by the seconds since the first."""
+    def settings_of(model: Model) -> list[tuple[object, ...]]:
+        return [(path, each.weight, each.quota, each.period, each.burst)
+                for path, each in model.groups.items()]
+
     looks_: list[Look] = []
     for each in seen:
         if not each.model.groups:
@@ -89,11 +88,9 @@ class Cell(Off):
 
 @dataclass(frozen=True)
 class Interval:
-    """What was between two looks: the leaves that were measured at both, and why others were
-    not."""
+    """What was between two looks: the leaves measured at both, and why others were not."""
 
     name: str
-    at: Fraction
     seconds: Fraction
     model: Model
     cells: dict[str, Cell]
@@ -103,83 +100,54 @@ class Interval:
 
 
 @dataclass
-class Asking:
-    """What is known of a leaf before the plan: its span and its demand."""
+class Audit:
+    """All intervals, the last plan, and what is to be told of them."""
 
-    span: Span
-    demand: Fraction
-    hungry: bool
-    tasks: int | None
-
-    def cell(self, planned: Fraction, want: str | None) -> Cell:
-        """The cell of a leaf with its plan."""
-        span, risen = self.span, self.span.risen
-        # (hungry ones waited for a tenth of the time at least)
-        waits = (risen.pressure or 0) * 10 >= span.seconds * MICROSECONDS
-        waited = want is None and not self.hungry and waits and not span.after
-        return Cell(span.used, planned, self.demand, risen.periods or 0, risen.throttled or 0,
-                    self.hungry, self.tasks, waited)
+    intervals: list[Interval]
+    plan: Plan
+    notes: list[str] = field(default_factory=list)
 
 
-def asking_of(group: Group, span: Span, tasks: int | None, model: Model,
-              want: str | None) -> Asking:
-    """What a leaf wanted: what it used; of a hungry one that, raised by the time in which it
-    waited or was throttled, as `top` does. Its tasks bound it. `want` is another rule for all."""
-    hungry, measured = span.is_hungry(group.quota is not None), span.measured(tasks)
+def unplanned_cell(group: Group, span: Span, tasks: int | None, host: Host,
+                   want: str | None) -> Cell:
+    """A leaf before its plan: what it used and wanted. A hungry one wanted what it used, raised by
+    the time in which it waited or was throttled, as `top` does. Its tasks bound it. `want` is
+    another rule for all."""
+    hungry, risen = span.is_hungry(group.quota is not None), span.risen
     rule = want or ("psi" if hungry else "usage")
-    demand = demands.wanted(rule, group, measured, model.host, span.seconds)
+    demand = demands.wanted(rule, group, span.measured(tasks), host, span.seconds)
     if demand is None:
         raise HostFault(f"--want {rule}: nothing was read for it of {shown(group.path)}")
-    bound = None if tasks is None else max(tasks, math.ceil(span.used / 1000))
-    return Asking(span, demand, hungry, bound)
+    # (hungry ones waited for a tenth of the time at least)
+    waits = (risen.pressure or 0) * 10 >= span.seconds * MICROSECONDS
+    return Cell(span.used, Fraction(0), demand, risen.periods or 0, risen.throttled or 0, hungry,
+                None if tasks is None else max(tasks, math.ceil(span.used / 1000)),
+                want is None and not hungry and waits and not span.after)
 
 
-def with_demands(model: Model, wanted: dict[str, tuple[Fraction, int | None]]) -> Model:
-    """A model in which these leaves alone ask for something: thousandths of a CPU, and tasks."""
+def with_demands(model: Model, cells: Mapping[str, Cell]) -> Model:
+    """A model in which the leaves of these cells alone ask for something."""
     after = model.copy()
     for path, group in after.groups.items():
-        group.demand, group.tasks = wanted.get(path, (Fraction(0), None))
+        cell = cells.get(path)
+        group.demand, group.tasks = (cell.demand, cell.tasks) if cell else (Fraction(0), None)
         group.saved = 0
     return after
 
 
-def model_of(interval: Interval) -> Model:
-    """The model of an interval, with what its leaves wanted."""
-    return with_demands(interval.model, {path: (cell.demand, cell.tasks)
-                                         for path, cell in interval.cells.items()})
-
-
-def unplanned_of(one: Look, two: Look, known: dict[str, Asking]) -> Fraction | None:
+def unplanned_of(one: Look, two: Look, cells: Mapping[str, Cell]) -> Fraction | None:
     """What the whole used above what its leaves did."""
     whole = between(one, two, ".") if "." in one.counted else CAME
     if isinstance(whole, str):
         return None
-    return max(whole.used - sum((each.span.used for each in known.values()), Fraction(0)),
-               Fraction(0))
-
-
-@dataclass
-class Audit:
-    """All intervals, the last plan, and what is to be told of them."""
-
-    intervals: list[Interval] = field(default_factory=list)
-    last: Plan | None = None
-    notes: list[str] = field(default_factory=list)
-
-    @property
-    def plan(self) -> Plan:
-        """The last plan: there is one in each audit that has an interval."""
-        assert self.last is not None
-        return self.last
+    return max(whole.used - sum(each.used for each in cells.values()), Fraction(0))
 
 
 def interval_of(engine: Engine, one: Look, two: Look, want: str | None,
                 away: bool) -> tuple[Interval, Plan | None]:
-    """The interval between two looks, and its plan; none where no leaf was measured at both.
-
-    The settings are those of its end.
-    """
-    model, known, holes = two.model, dict[str, Asking](), dict[str, str]()
+    """The interval between two looks, and its plan; none where no leaf was measured at both. The
+    settings are those of its end."""
+    model, cells, holes = two.model, dict[str, Cell](), dict[str, str]()
     for path, below in model.children().items():
         if below or path not in one.counted and path not in two.counted:
             continue
@@ -187,26 +155,25 @@ def interval_of(engine: Engine, one: Look, two: Look, want: str | None,
         if isinstance(span, str):
             holes[path] = span
         else:
-            tasks = two.tasks.get(path, model.groups[path].tasks)
-            known[path] = asking_of(model.groups[path], span, tasks, model, want)
+            group = model.groups[path]
+            cells[path] = unplanned_cell(group, span, two.tasks.get(path, group.tasks), model.host,
+                                         want)
     gone = one.counted.keys() - two.counted.keys() - model.groups.keys() - {"."}
     parents = one.model.children()
     holes |= {path: CAME for path in gone if not parents.get(path)}
-    found = plan(engine, with_demands(model, {path: (each.demand, each.tasks)
-                                              for path, each in known.items()})) if known else None
-    gets = {each.path: found.thousandths(each.gets) for each in found.groups} if found else {}
-    cells = {path: each.cell(gets[path], want) for path, each in known.items()}
-    return Interval(one.name, one.at, two.at - one.at, model, cells, holes,
-                    unplanned_of(one, two, known)), found
+    found = plan(engine, with_demands(model, cells)) if cells else None
+    if found is not None:
+        cells |= {each.path: replace(cells[each.path], planned=found.thousandths(each.gets))
+                  for each in found.groups if each.path in cells}
+    return Interval(one.name, two.at - one.at, model, cells, holes,
+                    unplanned_of(one, two, cells)), found
 
 
 def told_holes(intervals: Sequence[Interval]) -> list[str]:
     """What is told of holes: why, and of which groups."""
-    reasons: dict[str, dict[str, int]] = {}
-    for interval in intervals:
-        for path, why in interval.holes.items():
-            counts = reasons.setdefault(why, {})
-            counts[path] = counts.get(path, 0) + 1
+    reasons: dict[str, Counter[str]] = {}
+    for path, why in (hole for each in intervals for hole in each.holes.items()):
+        reasons.setdefault(why, Counter())[path] += 1
     return [f"{why}, left out there: "
             + some([f"{shown(path)} ({count})" for path, count in counts.items()])
             for why, counts in reasons.items()]
@@ -238,17 +205,16 @@ def audited(engine: Engine, seen: Sequence[Look], want: str | None, away: set[in
     if len(seen) < 2:
         raise HostFault("one look alone: an interval is from one to the next. Take more readings,"
                         " or a shorter --step")
-    found = Audit()
-    for place in range(1, len(seen)):
-        one, two = seen[place - 1], seen[place]
+    found: list[Interval] = []
+    last: Plan | None = None
+    for place, (one, two) in enumerate(zip(seen, seen[1:]), 1):
         if two.at <= one.at:
             raise HostFault(f"the clock went back at {two.name}: ask for a range after that")
         interval, plan_ = interval_of(engine, one, two, want, place in away)
-        found.intervals.append(interval)
-        found.last = plan_ or found.last
+        found.append(interval)
+        last = plan_ or last
         tick()
-    if not any(cell.used for interval in found.intervals for cell in interval.cells.values()):
+    if last is None or not any(cell.used for each in found for cell in each.cells.values()):
         raise HostFault("no usage: no counter of a group rises from one look to the next. Take"
                         " later copies, or a longer range")
-    found.notes += notes_of(seen, found.intervals)
-    return found
+    return Audit(found, last, notes_of(seen, found))

@@ -3,8 +3,8 @@ from __future__ import annotations
 
 import math
 import re
-from collections.abc import Iterator, Mapping, Sequence
-from dataclasses import dataclass, field, replace
+from collections.abc import Iterable, Iterator, Mapping, Sequence
+from dataclasses import dataclass, replace
 from fractions import Fraction
 from typing import Any
 
@@ -12,8 +12,8 @@ from arbiter_host import units
 from arbiter_host.demands import Reading
 from arbiter_host.faults import HostFault, UsageFault
 from arbiter_host.looks import Counted, Look
-from arbiter_host.model import Group, Model
-from arbiter_host.names import cut, shown
+from arbiter_host.model import Model
+from arbiter_host.names import cut, last_name, shown
 from arbiter_host.sources import prometheus
 from arbiter_host.sources.samples import time_name
 from arbiter_host.sources.usage import some
@@ -31,6 +31,8 @@ METRICS = {
     "quota": "container_spec_cpu_quota",
     "period": "container_spec_cpu_period",
 }
+# What values are multiplied by: microseconds and milliseconds are whole numbers.
+SCALES = {"usage": 10**6, "pressure": 10**6, "at": 1000}
 SELECTOR = re.compile(r'\{(?:[^{}"]|"(?:[^"\\]|\\.)*")*\}')
 # Greatest value of a counter that is read: above it a float has no whole microseconds.
 MOST = 2.0**53
@@ -50,8 +52,7 @@ class Prometheus:
     selector: str
     range: prometheus.QueryRange
 
-    def check(self) -> None:
-        """A fault where words of it are refused."""
+    def __post_init__(self) -> None:
         if not prometheus.is_address(self.url):
             raise UsageFault(f"--used {shown(self.url)}: audit reads a Prometheus: not http:// or"
                              " https://")
@@ -87,31 +88,22 @@ def number_of(text: str, url: str) -> float | None:
     return value if math.isfinite(value) and 0 <= value <= MOST else None
 
 
-@dataclass
 class Places:
     """Finds the leaf that a series speaks of."""
 
-    model: Model
-    # The leaves by what measurements call them; a name of several has None.
-    names: dict[str, str | None] = field(default_factory=dict)
-    lasts: dict[str, str | None] = field(default_factory=dict)
-    folders: dict[str, str] = field(default_factory=dict)
-    inner: set[str] = field(default_factory=set)
-    # The leaves that may be measured: pause containers of pods are not.
-    leaves: list[str] = field(default_factory=list)
-
-    def __post_init__(self) -> None:
-        for path, below in self.model.children().items():
-            if below or path == ".":
-                self.inner.add(path)
-                continue
-            group, last = self.model.groups[path], path.rpartition("/")[2]
-            self.leaves += [path] if not group.title.endswith("/pause") else []
-            for name in {path, group.title}:
-                self.names[name] = None if name in self.names else path
-            self.lasts[last] = None if last in self.lasts else path
-        for path, group in self.model.groups.items():
-            self.folders[(group.place or path).strip("/")] = path
+    def __init__(self, model: Model) -> None:
+        below = model.children()
+        self.inner = {path for path in below if below[path] or path == "."}
+        leaves = {path: group for path, group in model.groups.items() if path not in self.inner}
+        # The leaves that may be measured: pause containers of pods are not.
+        self.leaves = [path for path, group in leaves.items()
+                       if not group.title.endswith("/pause")]
+        # The leaves by what measurements call them; a name of several has None.
+        self.names = unique((name, path) for path, group in leaves.items()
+                            for name in {path, group.title})
+        self.lasts = unique((last_name(path), path) for path in leaves)
+        self.folders = {(group.place or path).strip("/"): path
+                        for path, group in model.groups.items()}
 
     def of(self, labels: Mapping[str, str]) -> str | None:
         """The path of a series: of its container, its folder, or a name; None where none is."""
@@ -124,11 +116,19 @@ class Places:
             return found or self.lasts.get(labels.get("name", ""))
         return self.names.get(named) or self.lasts.get(named)
 
-    def is_known(self, labels: Mapping[str, str]) -> bool:
-        """Whether a series without a leaf is one of a group above leaves, or of a pause
-        container."""
-        return (labels.get("container") == "POD" or labels.get("id") == "/"
-                or not labels.get("container") and "pod" in labels and "id" in labels)
+
+def unique(pairs: Iterable[tuple[str, str]]) -> dict[str, str | None]:
+    """The path of each name; None where it is that of several."""
+    found: dict[str, str | None] = {}
+    for name, path in pairs:
+        found[name] = None if name in found else path
+    return found
+
+
+def is_of_none(labels: Mapping[str, str]) -> bool:
+    """Whether a series without a leaf is one of a group above leaves, or of a pause container."""
+    return (labels.get("container") == "POD" or labels.get("id") == "/"
+            or not labels.get("container") and "pod" in labels and "id" in labels)
 
 
 def title_of(labels: Mapping[str, str]) -> str:
@@ -145,22 +145,16 @@ class Found:
     series: dict[str, dict[Labels, Values]]
     leaves: dict[Labels, str]
 
-    def value(self, key: str, labels: Labels, at: int) -> float | None:
-        """A value of a metric, of the series with the same labels."""
-        return self.series[key].get(labels, {}).get(at)
-
-    def count(self, key: str, labels: Labels, at: int, scale: int = 1) -> int | None:
-        """A counter as a whole number."""
-        value = self.value(key, labels, at)
-        return None if value is None else round(value * scale)
+    def count(self, key: str, labels: Labels, at: int) -> int | None:
+        """A value of a metric as a whole number, of the series with the same labels."""
+        value = self.series[key].get(labels, {}).get(at)
+        return None if value is None else round(value * SCALES.get(key, 1))
 
     def counted(self, labels: Labels, at: int) -> Counted:
-        """The counters of a series at a step. Those of times are microseconds."""
-        taken = self.value("at", labels, at)
-        reading = Reading(self.count("usage", labels, at, 10**6), self.count("periods", labels, at),
-                          self.count("throttled", labels, at),
-                          self.count("pressure", labels, at, 10**6))
-        return Counted(reading, {}, None if taken is None else Fraction(round(taken * 1000), 1000))
+        """The counters of a series at a step."""
+        taken = self.count("at", labels, at)
+        return Counted(Reading(*(self.count(key, labels, at) for key in Reading._fields)),
+                       at=None if taken is None else Fraction(taken, 1000))
 
     def limits(self, at: int) -> dict[str, tuple[int, int]]:
         """The quotas and periods at a step, by leaf."""
@@ -174,7 +168,6 @@ class Found:
 
 def fetched(server: Prometheus, model: Model) -> tuple[Found, list[str]]:
     """All series, and what is told of those of no group."""
-    server.check()
     usage = server.series(METRICS["usage"])
     if not any(usage.values()):
         raise HostFault(f"{shown(server.url)}: no {USAGE} from {shown(server.range.start)} to"
@@ -184,7 +177,7 @@ def fetched(server: Prometheus, model: Model) -> tuple[Found, list[str]]:
         path = places.of(dict(labels))
         if path is not None and path not in places.inner:
             leaves[labels] = path
-        elif path is None and not places.is_known(dict(labels)):
+        elif path is None and not is_of_none(dict(labels)):
             missing.append(title_of(dict(labels)))
     if not leaves:
         raise HostFault(f"{shown(server.url)}: series of no group here, {some(sorted(missing))}:"
@@ -201,24 +194,22 @@ def with_limits(model: Model, limits: Mapping[str, tuple[int, int]]) -> Model:
     """A model with the limits that were measured."""
     groups = dict(model.groups)
     for path, (quota, period) in limits.items():
-        group: Group = groups[path]
-        groups[path] = replace(group, quota=quota, period=period, burst=min(group.burst, quota))
+        groups[path] = replace(groups[path], quota=quota, period=period,
+                               burst=min(groups[path].burst, quota))
     return replace(model, groups=groups)
 
 
 def looks(server: Prometheus, model: Model) -> tuple[list[Look], list[str]]:
     """The looks at the groups of a model, and what is told of the series."""
     found, notes = fetched(server, model)
-    times = sorted({at for labels in found.leaves for at in found.series["usage"][labels]})
-    models: dict[tuple[object, ...], Model] = {}
+    models: dict[frozenset[object], Model] = {}
     made = []
-    for at in times:
+    for at in sorted({at for labels in found.leaves for at in found.series["usage"][labels]}):
         limits = found.limits(at)
-        models.setdefault(tuple(sorted(limits.items())), with_limits(model, limits))
-        look = Look(Fraction(at, 1000), models[tuple(sorted(limits.items()))],
-                    name=time_name(str(at // 1000)))
+        same = models.setdefault(frozenset(limits.items()), with_limits(model, limits))
+        look = Look(Fraction(at, 1000), same, name=time_name(str(at // 1000)))
         for labels, path in found.leaves.items():
-            if found.value("usage", labels, at) is not None:
+            if at in found.series["usage"][labels]:
                 look.counted.setdefault(path, {})[labels] = found.counted(labels, at)
                 count = found.count("tasks", labels, at)
                 if count:

@@ -14,7 +14,7 @@ from arbiter_host.fleet import answers, hosts, pending, pool, report
 from arbiter_host.fleet.answers import HostAnswer
 from arbiter_host.fleet.hosts import Fleet
 from arbiter_host.fleet.work import HostFile, Job
-from arbiter_host.model import Group, Model
+from arbiter_host.model import Group
 from arbiter_host.output import json_text, warn, write_forms
 from arbiter_host.plan import engine_of
 from arbiter_host.sources import by_options, used
@@ -54,7 +54,7 @@ def check_sets(words: Sequence[str]) -> None:
             if change.is_owned(word):
                 change.check_value(word)
             else:
-                change.apply(Model(), Group("any"), key, value, False)
+                change.apply(Group("any"), key, value, False)
         except HostFault as fault:
             raise UsageFault(f"--set {names.shown(word)}: {fault.message}") from fault
 

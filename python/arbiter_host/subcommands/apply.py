@@ -26,9 +26,7 @@ def print_steps(root: safe_files.Root, steps: Sequence[apply.Step]) -> None:
 @contextmanager
 def printing(root: safe_files.Root) -> Iterator[list[apply.Step]]:
     """A list whose steps are printed at the end: those that were made, also where a fault ends it.
-
-    Nothing is printed before: a reader that goes away stops no change halfway.
-    """
+    Nothing is printed before: a reader that goes away stops no change halfway."""
     done: list[apply.Step] = []
     try:
         yield done
@@ -46,17 +44,6 @@ def warn(notes: Iterable[str]) -> None:
         output.warn(words)
 
 
-def check_words(options: argparse.Namespace, outputs: Sequence[Output],
-                forms: Sequence[Output]) -> None:
-    """A fault where words of the command line do not go together."""
-    if forms and (options.yes or options.undo):
-        raise UsageFault("-o FORM writes files for review alone: without --yes and --undo")
-    if any(each.form == "text" and each.path != "-" for each in outputs):
-        raise UsageFault("-o text: the steps are printed on standard output")
-    if any(map(change.is_host, options.set)):
-        raise UsageFault("--set: apply changes settings of groups, and no host")
-
-
 def write_form(to: Output, draft: exports.Draft) -> None:
     """Writes the change as files for review."""
     documents = exports.documents(to.form, draft)
@@ -72,7 +59,12 @@ def run_apply(options: argparse.Namespace) -> None:
     """Prints the steps from one source to another; with --yes makes them."""
     outputs = table.outputs(options)
     forms = [each for each in outputs if each.form != "text"]
-    check_words(options, outputs, forms)
+    if forms and (options.yes or options.undo):
+        raise UsageFault("-o FORM writes files for review alone: without --yes and --undo")
+    if any(each.form == "text" and each.path != "-" for each in outputs):
+        raise UsageFault("-o text: the steps are printed on standard output")
+    if any(map(change.is_host, options.set)):
+        raise UsageFault("--set: apply changes settings of groups, and no host")
     # (what groups ask for has no part in a change: nothing is waited for)
     options.want = "busy"
     sources = load.sources(options, options.source)
@@ -128,12 +120,12 @@ def run_undo(options: argparse.Namespace) -> None:
     content = plain_files.file_bytes(options.file, is_trusted=True)
     back = apply.read_undo(content, name, options.force)
     try:
-        if not options.yes:
-            print_steps(back.root, back.steps())
-            return
-        check_no_loop(back.root, [each.folder for each in back.changes])
-        with printing(back.root) as done:
-            apply.undo(back, done)
+        if options.yes:
+            check_no_loop(back.root, [each.folder for each in back.changes])
+            with printing(back.root) as done:
+                apply.undo(back, done)
+        else:
+            print_steps(back.root, apply.planned_steps(back.changes, back.by))
     finally:
         warn(back.left)
 

@@ -3,7 +3,6 @@ from __future__ import annotations
 
 import argparse
 import os
-from collections.abc import Callable
 
 from arbiter import Host
 from arbiter_host import load, looks, options, progress, text
@@ -19,10 +18,10 @@ from arbiter_host.sources import by_options, prometheus, used
 from arbiter_host.subcommands.base import Subcommand, found_engine, source_name
 
 
-def host_of(asked: argparse.Namespace) -> Callable[[Host], Host]:
-    """Maker of the host of the plans: as fine as can be, unless an option names it."""
+def host_of(asked: argparse.Namespace, host: Host) -> Host:
+    """The host of the plans: as fine as can be, unless an option names it."""
     is_named = asked.period is not None or asked.slice is not None
-    return (lambda host: host) if is_named else intervals.fine
+    return host if is_named else intervals.fine(host)
 
 
 def of_range(asked: argparse.Namespace) -> tuple[list[Look], list[str], set[int]]:
@@ -30,14 +29,12 @@ def of_range(asked: argparse.Namespace) -> tuple[list[Look], list[str], set[int]
     if not asked.source:
         raise UsageFault("--used: it belongs to a SOURCE whose groups were measured")
     server = ranges.Prometheus(asked.used[0], asked.query or "",
-                           prometheus.range_of(asked.range, asked.step))
-    server.check()
+                               prometheus.range_of(asked.range, asked.step))
     files = load.opened(asked, asked.source)
     kind = asked.kind or load.kind_of(*files[0])
     model = load.model_of(used.without(asked, kind), files, found_engine(asked))
     load.warn(model, source_name(asked.source))
-    model = model.with_host(host_of(asked)(model.host))
-    looks_, notes = ranges.looks(server, model)
+    looks_, notes = ranges.looks(server, model.with_host(host_of(asked, model.host)))
     return intervals.collected(looks_), notes, ranges.gaps(looks_)
 
 
@@ -63,7 +60,7 @@ def of_trees(asked: argparse.Namespace) -> list[Look]:
             raise UsageFault(f"{shown(folder)}: no folder: a source that is no tree takes --used")
     options.check(asked, "cgroup")
     times = times_of(asked, len(folders) == 1)
-    host = host_of(asked)(by_options.machine(asked))
+    host = host_of(asked, by_options.machine(asked))
     seen = looks.looks_at(folders, host, times, has_threads=True)
     return intervals.collected(seen, times.number or 0 if len(folders) == 1 else len(folders))
 
@@ -84,18 +81,13 @@ def audited(asked: argparse.Namespace) -> Ranked:
 
 def lines_of(ranked: Ranked) -> list[tuple[str, str]]:
     """The lines of an audit. What is not explained is red."""
-    rows = answer.busy(ranked)
-    table = [list(answer.HEADS), *(answer.cells_of(row) for row in rows)]
-    styles = ["bold", *("red" if row.cause == NOTHING else "" for row in rows)]
+    table = [list(answer.HEADS), *(answer.cells_of(row) for row in ranked.busy)]
+    styles = ["bold", *("red" if row.cause == NOTHING else "" for row in ranked.busy)]
     lines = text.table(table, [len(answer.HEADS) - 1])
     return [*((line, "") for line in answer.head(ranked)), ("", ""), *zip(lines, styles),
             *((line, "") for line in answer.foot(ranked))]
 
 
-def page_of(ranked: Ranked, title: str) -> str:
-    """The table as a page."""
-    from arbiter_host.audit import page
-    return page.page(ranked, title)
 
 
 def run(asked: argparse.Namespace) -> None:
@@ -103,9 +95,13 @@ def run(asked: argparse.Namespace) -> None:
     outputs, name = options.outputs(asked), source_name(asked.source or [looks.HOST_TREE])
     ranked = audited(asked)
     load.warn(Model(notes=ranked.audit.notes), name)
-    write_forms(outputs, {"text": lambda: lines_of(ranked),
-                          "json": lambda: json_text(answer.as_data(ranked)),
-                          "html": lambda: page_of(ranked, f"Audit of {name}")})
+
+    def page_of() -> str:
+        from arbiter_host.audit import page
+        return page.page(ranked, f"Audit of {name}")
+
+    write_forms(outputs, {"text": lambda: lines_of(ranked), "html": page_of,
+                          "json": lambda: json_text(answer.as_data(ranked))})
 
 
 AUDIT = Subcommand.of_texts("audit", run)

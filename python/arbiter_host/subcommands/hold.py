@@ -2,20 +2,22 @@
 from __future__ import annotations
 
 import argparse
+import functools
 import json
 import os
 import signal
+import socket
 import time
-from collections.abc import Iterator
-from contextlib import ExitStack, contextmanager
+from collections.abc import Iterator, MutableMapping
+from contextlib import ExitStack, contextmanager, suppress
 from dataclasses import replace
+from fractions import Fraction
 from typing import TYPE_CHECKING
 
 from arbiter import Host
 from arbiter_host import hold, looks, options, output, record, safe_files
 from arbiter_host.faults import HostFault, UsageFault
 from arbiter_host.model import MAX_CAPACITY, MAX_DEPTH
-from arbiter_host.notify import Notifier
 from arbiter_host.plan import engine_of
 from arbiter_host.sources import by_options
 from arbiter_host.subcommands.base import Subcommand
@@ -26,26 +28,57 @@ if TYPE_CHECKING:
 SIGNALS = (signal.SIGTERM, signal.SIGINT, signal.SIGHUP)
 PERIOD, SLICE = 1000000, 1000
 PERIODS = (100000, PERIOD)
+# Parts of the time of the watchdog after which it is told again.
+PARTS = 3
 
 
-def stop(*_: object) -> None:
-    """What a signal does that comes while it is not blocked."""
-    raise hold.Stopped
+class Notifier:
+    """Tells systemd that a service is ready, alive or ending, by the protocol of sd_notify(3) and
+    sd_watchdog_enabled(3). Without NOTIFY_SOCKET nothing is sent."""
+
+    def __init__(self, environment: MutableMapping[str, str] = os.environ) -> None:
+        # (no child has them)
+        path, usec, process = (environment.pop(name, "") for name in (
+            "NOTIFY_SOCKET", "WATCHDOG_USEC", "WATCHDOG_PID"))
+        self.address = f"\0{path[1:]}" if path.startswith("@") else path
+        is_ours = process in ("", str(os.getpid()))
+        # Seconds from one sign of life to the next; None without a watchdog.
+        self.every: Fraction | None = None
+        if is_ours and usec.isascii() and usec.isdigit() and int(usec):
+            self.every = Fraction(int(usec), PARTS * 10**6)
+
+    def send(self, *words: str) -> None:
+        """Sends lines such as READY=1. A socket that does not take them changes nothing."""
+        if self.address:
+            with (socket.socket(socket.AF_UNIX, socket.SOCK_DGRAM | socket.SOCK_CLOEXEC) as to,
+                  suppress(OSError)):
+                to.settimeout(1)
+                to.sendto("\n".join(words).encode(), self.address)
+
+    def alive(self) -> None:
+        """Tells the watchdog."""
+        if self.every is not None:
+            self.send("WATCHDOG=1")
 
 
-class Signals:
-    """The signals that end the loop; a hangup that the caller ignores, as nohup does, ends none.
-    They are blocked while limits are written."""
+class Service:
+    """A loop that runs until a signal, and tells systemd that it is alive. Its rounds are shown as
+    lines of JSON, and in a file of metrics."""
 
-    def __init__(self) -> None:
+    def __init__(self, notifier: Notifier, file: File | None = None) -> None:
+        self.notifier, self.file, self.warn = notifier, file, output.Remarks().tell
+        # The signals that end it. A hangup that the caller ignores, as nohup does, ends none.
         is_ignored = signal.getsignal(signal.SIGHUP) is signal.SIG_IGN
-        self.all = [each for each in SIGNALS if each != signal.SIGHUP or not is_ignored]
+        self.signals = [each for each in SIGNALS if each != signal.SIGHUP or not is_ignored]
 
     @contextmanager
     def blocked(self) -> Iterator[None]:
-        """Blocks them."""
-        before = signal.pthread_sigmask(signal.SIG_BLOCK, self.all)
-        handlers = [(each, signal.signal(each, stop)) for each in self.all]
+        """Blocks the signals, as while limits are written. One that is let in is a `Stopped`."""
+        def stop(*_: object) -> None:
+            raise hold.Stopped
+
+        before = signal.pthread_sigmask(signal.SIG_BLOCK, self.signals)
+        handlers = [(each, signal.signal(each, stop)) for each in self.signals]
         try:
             yield
         finally:
@@ -53,51 +86,27 @@ class Signals:
                 signal.signal(each, handler)
             signal.pthread_sigmask(signal.SIG_SETMASK, before)
 
-    @contextmanager
-    def let_in(self) -> Iterator[None]:
-        """Lets them in for a while. One that comes is a `Stopped`."""
-        try:
-            signal.pthread_sigmask(signal.SIG_UNBLOCK, self.all)
-            yield
-        finally:
-            signal.pthread_sigmask(signal.SIG_BLOCK, self.all)
-
-
-class Waits:
-    """Waits between rounds."""
-
-    def __init__(self, notifier: Notifier, signals: Signals) -> None:
-        self.notifier, self.signals = notifier, signals
-
-    def __call__(self, seconds: float) -> bool:
+    def wait(self, seconds: float) -> bool:
         """Waits, and tells the watchdog meanwhile. Returns whether a signal came."""
-        until = time.monotonic() + seconds
-        every = self.notifier.every
+        until, every = time.monotonic() + seconds, self.notifier.every
         while True:
             self.notifier.alive()
             left = max(until - time.monotonic(), 0)
             part = left if every is None else min(left, float(every))
-            if signal.sigtimedwait(self.signals.all, part) is not None:
+            if signal.sigtimedwait(self.signals, part) is not None:
                 self.notifier.send("STOPPING=1")
                 return True
             if part == left:
                 return False
 
-
-class Rounds:
-    """Where rounds are shown: as lines of JSON, in a file of metrics, and to systemd."""
-
-    def __init__(self, host: Host, notifier: Notifier, file: File | None,
-                 signals: Signals) -> None:
-        self.host, self.notifier, self.file, self.signals = host, notifier, file, signals
-        self.warn = output.Remarks().tell
-
-    def __call__(self, line: hold.Line) -> None:
-        """Shows a round. A file that cannot be written ends no loop. A signal ends the printing,
-        for who reads the lines may have stopped."""
+    def show(self, host: Host, line: hold.Line) -> None:
+        """Shows a round. A file that cannot be written ends no loop; a signal ends the printing."""
         try:
-            with self.signals.let_in():
+            try:
+                signal.pthread_sigmask(signal.SIG_UNBLOCK, self.signals)
                 output.emit(json.dumps(line) + "\n")
+            finally:
+                signal.pthread_sigmask(signal.SIG_BLOCK, self.signals)
         except hold.Stopped:
             output.drop_output()
             self.notifier.send("STOPPING=1")
@@ -107,7 +116,7 @@ class Rounds:
         if self.file is not None:
             from arbiter_host import metrics
             try:
-                self.file.put(metrics.Held(line, self.host))
+                self.file.put(metrics.Held(line, host))
             except HostFault as fault:
                 self.warn([fault.message])
 
@@ -136,10 +145,8 @@ def locked(root: safe_files.Root, asked: argparse.Namespace, stack: ExitStack) -
 
 
 def machine(asked: argparse.Namespace, root: safe_files.Root) -> Host:
-    """The host. That of a real tree has no more CPUs than this machine.
-
-    Without --slice a host that has too many slices of 1 ms for the planner has slices of 10 ms.
-    """
+    """The host. That of a real tree has no more CPUs than this machine. Without --slice one that
+    has too many slices of 1 ms for the planner has slices of 10 ms."""
     there = os.cpu_count()
     period = PERIOD if asked.period is None else by_options.time_option(asked.period, "--period")
     fine = Host(there or 1, PERIOD, SLICE)
@@ -153,50 +160,45 @@ def machine(asked: argparse.Namespace, root: safe_files.Root) -> Host:
 
 def is_real(root: safe_files.Root) -> bool:
     """Whether a tree is that of this machine, by whatever path it is reached."""
-    def device(path: str) -> int | None:
-        try:
-            return os.stat(path).st_dev
-        except OSError:
-            return None
-
-    there = device(root.path)
-    return (f"{root.path}/".startswith(f"{looks.HOST_TREE}/")
-            or there is not None and there == device(looks.HOST_TREE))
+    if f"{root.path}/".startswith(f"{looks.HOST_TREE}/"):
+        return True
+    try:
+        return os.stat(root.path).st_dev == os.stat(looks.HOST_TREE).st_dev
+    except OSError:
+        return False
 
 
 def metrics_file(asked: argparse.Namespace, stack: ExitStack) -> File | None:
     """The file of metrics, which is removed at the end."""
-    path = ""
-    for form, given in options.outputs(asked):
-        if (form == "json") != (given == "-"):
-            raise UsageFault("-o: rounds are printed as json, and -o openmetrics=FILE keeps the"
-                             " last one")
-        path = path if form == "json" else given
-    if not path:
+    forms = options.outputs(asked)
+    if any((form == "json") != (path == "-") for form, path in forms):
+        raise UsageFault("-o: rounds are printed as json, and -o openmetrics=FILE keeps the last"
+                         " one")
+    paths = [path for form, path in forms if form != "json"]
+    if not paths:
         return None
     from arbiter_host import metrics
-    file = metrics.File(path)
+    file = metrics.File(paths[-1])
     stack.callback(file.remove)
     return file
 
 
 def run(asked: argparse.Namespace) -> None:
-    """Holds the plan on a tree until an end, a signal, or two failed readings; without --yes it
-    only shows the rounds."""
+    """Holds the plan on a tree until an end or a signal; without --yes it shows rounds alone."""
     if not 1 <= asked.depth <= MAX_DEPTH:
         raise UsageFault(f"--depth: 1 to {MAX_DEPTH}")
     root = safe_files.Root(asked.root)
     host = machine(asked, root)
     times, engine = times_of(asked, host.period_us), engine_of(asked.library, changes=asked.yes)
-    ways, notifier = hold.Ways(asked.force, asked.weights, asked.depth), Notifier()
+    ways = hold.Ways(asked.force, asked.weights, asked.depth)
     with ExitStack() as stack:
         kept = locked(root, asked, stack) if asked.yes else None
         stack.callback(root.close)
-        file, signals = metrics_file(asked, stack), Signals()
-        stack.enter_context(signals.blocked())
+        service = Service(Notifier(), metrics_file(asked, stack))
+        stack.enter_context(service.blocked())
         loop = hold.Loop(engine, root, asked.source, host, kept, ways)
-        hold.run(loop, times, Waits(notifier, signals), Rounds(host, notifier, file, signals),
-                 lambda: notifier.send("READY=1"))
+        hold.run(loop, times, service.wait, functools.partial(service.show, host),
+                 lambda: service.notifier.send("READY=1"))
 
 
 HOLD = Subcommand.of_texts("hold", run)

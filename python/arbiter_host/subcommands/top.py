@@ -2,6 +2,7 @@
 from __future__ import annotations
 
 import argparse
+import functools
 import json
 import os
 import re
@@ -75,11 +76,6 @@ class Watch:
             self.figured = metrics.Figured()
             self.file = metrics.File(file) if file else None
 
-    @property
-    def is_lasting(self) -> bool:
-        """Whether it goes on after an alert."""
-        return bool(self.command or self.figured)
-
     def listen(self) -> None:
         """Begins to answer, and says where."""
         if self.asked.listen and self.figured:
@@ -112,19 +108,15 @@ class Watch:
                 self.file.put(self.figured)
             except HostFault as fault:
                 self.remark([fault.message])
-        self.emit(found)
-        if raised and self.command:
-            run_command(self.command, raised)
-        if raised and not self.is_lasting:
-            raise Alerted(state.held)
-
-    def emit(self, found: top.PlannedRound) -> None:
-        """Prints a round as its form has it."""
         if self.form == "json":
-            output.emit(json.dumps(top.line_of(self.state, found)) + "\n")
+            output.emit(json.dumps(top.line_of(state, found)) + "\n")
         elif self.form == "text":
             lines = live.screen(found.plan, shown_view(self.asked, found.plan), 10**6)
             output.emit("".join(f"{line}\n" for line, _ in lines) + "\n")
+        if raised and self.command:
+            run_command(self.command, raised)
+        if raised and not self.command and not self.figured:
+            raise Alerted(state.held)
 
 
 def shown_view(asked: argparse.Namespace, plan: Plan) -> View:
@@ -163,12 +155,12 @@ def run(asked: argparse.Namespace) -> None:
     if times.number is not None and times.number <= first:
         raise UsageFault("--read: a tree is measured from one reading to the next: 2 or more")
     watch.listen()
-    rounds = top.rounds_of(read, times, first, watch.warn)
+    rounds = functools.partial(top.rounds_of, read, times, first, watch.warn)
     if form == "live":
         progress.is_allowed = False
         live.show(rounds, lambda plan: shown_view(asked, plan), watch.take)
     else:
-        for each in rounds:
+        for each in rounds():
             watch.take(each)
     if watch.is_raised:
         raise Alerted(watch.state.held)
