@@ -11,6 +11,7 @@ Ends with status 1 at the first answer that is wrong or does not come.
 """
 import argparse
 import contextlib
+import importlib
 import os
 import random
 import signal
@@ -25,7 +26,7 @@ from typing import NamedTuple
 from runs import note, program_of
 
 sys.path.append(str(Path(__file__).resolve().parent.parent / "tests"))
-import plan_model  # type: ignore[import]
+MODEL = importlib.import_module("plan_model")
 
 PERIOD_US, SLICE_US = 1_000_000, 1000
 # Periods of one process, and its greatest number of seconds.
@@ -52,12 +53,12 @@ def tree(chosen: random.Random) -> Tree:
     """A random tree of one or two levels, and the plan that tests/plan_model.py has for it."""
     processors = chosen.choice([2, 3, 4, 8, 16, 64])
     capacity = processors * PERIOD_US // SLICE_US
-    rows, paths, lines = [plan_model.Row(None)], ["."], []
+    rows, paths, lines = [MODEL.Row(None)], ["."], []
 
     def add(path: str, parent: int, is_leaf: bool) -> None:
         weight, wants = chosen.randint(1, 500), chosen.randint(0, capacity) if is_leaf else 0
         limit = chosen.choice([None, chosen.randint(1, capacity)])
-        rows.append(plan_model.Row(parent, weight, limit, wants))
+        rows.append(MODEL.Row(parent, weight, limit, wants))
         paths.append(path)
         lines.extend([f"mkdir {path}", f"write {path} cpu.weight {weight}"])
         if limit is not None:
@@ -71,7 +72,7 @@ def tree(chosen: random.Random) -> Tree:
         add(f"g{top}", 0, leaves == 0)
         for leaf in range(leaves):
             add(f"g{top}/x{leaf}", parent, True)
-    amounts = plan_model.Instance(rows, capacity).plan()
+    amounts = MODEL.Instance(rows, capacity).plan()
     return Tree(processors, lines, paths, list(amounts))
 
 
