@@ -5,6 +5,7 @@ import statistics
 import subprocess
 import sys
 import tempfile
+from collections.abc import Callable, Iterator
 
 from runs import answers, note, spent, stop
 from shapes import host, text_of
@@ -15,7 +16,7 @@ HEAD = ("| Processors | ms a period, least | median | greatest | draws a second,
 
 
 @contextlib.contextmanager
-def busy_loops():
+def busy_loops() -> Iterator[None]:
     """Other work: one process for each processor that never waits."""
     words = [sys.executable, "-c", "while True: pass"]
     loops = [subprocess.Popen(words) for _ in os.sched_getaffinity(0)]
@@ -27,7 +28,7 @@ def busy_loops():
             loop.wait()
 
 
-def periods(program, repeats, figure):
+def periods(program: str, repeats: int, figure: Callable[[float], str]) -> Iterator[str]:
     """The table for a tree of nine leaves that ask for all, 1000 slices for each processor."""
     yield HEAD
     yield "|---|---|---|---|---|---|"
@@ -42,7 +43,8 @@ def periods(program, repeats, figure):
             note(f"periods of {processors} processors")
 
 
-def times(program, processors, made, room, repeats):
+def times(program: str, processors: int, made: list[str], room: str,
+          repeats: int) -> tuple[list[float], float]:
     """Milliseconds of a period in each run, and the least processor milliseconds of a period."""
     words, number = [program, *host(processors)], max(2000 // processors**2, 2)
     served = f"served {1000 * processors}\n".encode()
@@ -59,7 +61,8 @@ def times(program, processors, made, room, repeats):
     return walls, 1e3 * (min(used for used, _ in runs) - base[0]) / number
 
 
-def tables_of_periods(program, repeats, figure):
+def tables_of_periods(program: str, repeats: int,
+                      figure: Callable[[float], str]) -> Iterator[tuple[str, list[str]]]:
     yield "Periods:", [*periods(program, repeats, figure)]
     with busy_loops():
         beside = [*periods(program, 3, figure)]

@@ -1,10 +1,10 @@
 //! The ticket lock round a small machine, called from threads. A case with a failed allocation is
 //! run once more, so each passes with any one allocation failing.
-ghost use Rattle.std.specs.Prelude.{◌≡◌, ℕ, All, length, None, IfOk, IsSome};
+ghost use Rattle.std.specs.Prelude.{◌≡◌, ◌≤◌, ℕ, All, length, None, IfOk, IfSome, IsSome};
 
 use crate::counter::{Add, Counter, Total};
 use bw_machine::{Entry, Machine};
-use bw_ticket::{CallsSpent, CloseFault, Closed, Seat, TicketLock, close, open};
+use bw_ticket::{CallsSpent, CloseFault, Closed, News, Seat, TicketLock, close, open};
 use std::alloc::{AllocError, Global};
 use std::process::Abort;
 use std::rt::Clock;
@@ -477,6 +477,52 @@ fn hold_tickets<R: Threads + Wait + Clock + Abort + Sync>(
     Ok(())
 }
 
+// One call of the seat, and the news of it.
+fn call_and_tell<R: Wait + Clock>(
+    rt: &R,
+    lock: &TicketLock<Counter>,
+    mut seat: Seat<Counter>,
+) -> (Seat<Counter>, News<Counter>)
+    requires { (seat.lock_id ≡ lock.now.lock_id) × (seat.pending ≡ None) }
+    ensures seat { (result.0.lock_id ≡ lock.now.lock_id) × (result.0.pending ≡ None) }
+    ensures news { result.1.lock_id ≡ lock.now.lock_id }
+{
+    let _ = seat.call(rt, lock, Add(1));
+    let news = seat.tell(lock);
+    (seat, news)
+}
+
+// The ticket of a call after the news: none of the tickets that were told is as late.
+fn call_after<R: Wait + Clock>(
+    rt: &R,
+    lock: &TicketLock<Counter>,
+    seat: &mut Seat<Counter>,
+    news: News<Counter>,
+) -> Option<u64>
+    requires lock { (seat.old.lock_id ≡ lock.now.lock_id) × (news.lock_id ≡ lock.now.lock_id) }
+    requires idle { seat.old.pending ≡ None }
+    ensures later { IfSome result (λ at. news.served ≤ at) }
+    ensures seat { (seat.new.lock_id ≡ lock.now.lock_id) × (seat.new.pending ≡ None) }
+{
+    seat.hear(lock, news);
+    match seat.call(rt, lock, Add(1)) {
+        Ok(answer) => Some(answer.at),
+        Err(_) => None,
+    }
+}
+
+// One seat calls in a thread of its own, and the other one hears of it.
+fn hear_news<R: Threads + Wait + Clock + Abort + Sync>(
+    rt: &R,
+    alloc: Global,
+) -> Result<(), AllocError> {
+    let (lock, first, mut second) = pair(rt, alloc, 1)?;
+    let ((first, news), ()) = join(rt, || call_and_tell(rt, &lock, first), || ());
+    assert!(rt; call_after(rt, &lock, &mut second, news) == Some(1));
+    let _ = assert_pair_closed(rt, alloc, lock, (first, second), 2, 2)?;
+    Ok(())
+}
+
 #[test]
 fn one_thread(rt: HostRuntime) {
     let alloc = rt.alloc();
@@ -496,6 +542,7 @@ fn several_threads(rt: HostRuntime) {
 fn fronts_and_tickets(rt: HostRuntime) {
     let alloc = rt.alloc();
     assert!(rt; see_fronts(&rt, alloc).is_ok() || see_fronts(&rt, alloc).is_ok());
+    assert!(rt; hear_news(&rt, alloc).is_ok() || hear_news(&rt, alloc).is_ok());
     assert!(rt; hold_tickets(&rt, alloc, true).is_ok() || hold_tickets(&rt, alloc, true).is_ok());
     assert!(rt; hold_tickets(&rt, alloc, false).is_ok() || hold_tickets(&rt, alloc, false).is_ok());
 }
