@@ -21,10 +21,9 @@ pub(crate) const SHARES_LOGARITHMIC: u32 = 2;
 /// did not tell the weight of conversion 2. Tests try each number of shares, and they all do.
 #[unsafe(no_mangle)]
 pub extern "C" fn arbiter_weight_of_shares(shares: u64, conversion: u32) -> u64
-    ensures linear { conversion ≡ SHARES_LINEAR → result ≡ linear_weight shares }
-    ensures logarithmic { conversion ≡ SHARES_LOGARITHMIC → 0 < result
-        → IsLogarithmicWeight shares result }
-    ensures none { conversion ≢ SHARES_LINEAR → conversion ≢ SHARES_LOGARITHMIC → result ≡ 0 }
+    ensures linear { conversion ≡ 1 → result ≡ linear_weight shares }
+    ensures logarithmic { conversion ≡ 2 → 0 < result → IsLogarithmicWeight shares result }
+    ensures none { conversion ≢ 1 → conversion ≢ 2 → result ≡ 0 }
     ensures bound { result ≤ MAX_WEIGHT }
 {
     if conversion == SHARES_LINEAR {
