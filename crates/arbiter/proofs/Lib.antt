@@ -7,4 +7,5 @@ mod Plain
 mod Sound
 mod RunSound
 mod Refused
+mod JobEnds
 mod JobSound

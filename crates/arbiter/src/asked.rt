@@ -1,6 +1,6 @@
 //! The request of the command line.
 ghost use Rattle.std.specs.Prelude.{◌≡◌, Some, None, IfErr, IfOk, drop};
-ghost use Rattle.bw_model.specs.Host.{host_refusal};
+ghost use Rattle.bw_model.specs.Host.{IsHost, host_refusal};
 
 use bw_model::{HostFault, HostShape};
 
@@ -23,6 +23,7 @@ pub fn behind_name(words: &[String]) -> &[String]
 pub fn host_of(processors: u32, period_us: u32, slice_us: u32) -> Result<HostShape, HostFault>
     ensures ok { IfOk result (λ h.
         h ≡ record { processors = processors; period_us = period_us; slice_us = slice_us }) }
+    ensures valid { IfOk result IsHost }
     ensures err { IfErr result (λ e.
         host_refusal (record {
           processors = processors;

@@ -21,7 +21,7 @@ pub struct Failure {
 impl Failure {
     ghost use Rattle.std.specs.Prelude.{◌≡◌};
     ghost use Rattle.arbiter.specs.Failure.{what_failed};
-    ghost use Rattle.bw_streams.specs.declared.fault.RunFault.TheVariants.{Memory, Write};
+    ghost use Rattle.bw_streams.specs.declared.fault.RunFault.TheVariants.{Memory};
 
     /// An allocation failed.
     pub fn memory() -> Failure
@@ -30,16 +30,6 @@ impl Failure {
         Failure {
             fault: RunFault::Memory,
             reason: None,
-        }
-    }
-
-    /// A text could not be printed.
-    pub fn print(error: Error) -> Failure
-        ensures { what_failed result ≡ Write }
-    {
-        Failure {
-            fault: RunFault::Write,
-            reason: reason_of(error),
         }
     }
 

@@ -1,17 +1,18 @@
 //! The end of a job: the text that is printed, and the exit status.
 ghost use Rattle.std.specs.Prelude.{◌≡◌, ◌≢◌, is_ok, if◌then◌else◌};
+ghost use Rattle.bw_streams.specs.Watched.{HasNoFault};
 ghost use Rattle.arbiter.specs.Failure.{what_failed};
 ghost use Rattle.arbiter.specs.Told.{EndsWithoutJob};
 ghost use Rattle.bw_text_check.specs.CheckText.{check_status};
 
-use crate::failure::Failure;
+use crate::failure::{Failure, explained};
 use crate::status::status_of_words;
 use crate::words::WordsFault;
 use bw_model::HostFault;
 use bw_shell::status_of_run;
-use bw_streams::RunFault;
+use bw_streams::{RunFault, Watched, send_line};
 use bw_text_check::status_of_check;
-use std::io::ErrorKind;
+use std::io::{ErrorKind, Write};
 
 // Exit status of arguments that are not text, or of a host that is refused.
 const USAGE_STATUS: u8 = 2;
@@ -58,33 +59,46 @@ pub fn host_refused(rt: &impl Eprint, fault: HostFault) -> u8
     USAGE_STATUS
 }
 
-/// Exit status of words that give no job: 0 for help, or 1 if help cannot be printed, 2 for words
-/// that are refused, and 1 if an allocation failed.
-pub fn no_job(rt: &HostRuntime, fault: WordsFault) -> u8
-    ensures { EndsWithoutJob fault result }
+/// Exit status of words that give no job: 0 for help, or 1 if help cannot be written, 2 for words
+/// that are refused, and 1 if an allocation failed. Help alone is written.
+pub fn no_job<R, W: Write>(
+    rt: &impl Eprint,
+    fault: WordsFault,
+    reader: &Watched<R>,
+    writer: &mut Watched<W>,
+) -> u8
+    requires { HasNoFault writer.old }
+    ensures { EndsWithoutJob W.contents fault writer.old writer.new result }
 {
     let status = status_of_words(&fault);
     match fault {
         WordsFault::Help(text) => {
-            let printed = print!(rt; "{text}").map_err(|error| Failure::print(error));
-            run_ended(rt, printed)
+            let sent = send_line(writer, text.as_bytes());
+            run_ended(rt, explained(sent, reader, writer))
         }
         WordsFault::Usage(text) => {
             let _ = eprint!(rt; "{text}");
             status
         }
-        WordsFault::Memory => run_ended(rt, Err(Failure::memory())),
+        WordsFault::Memory => memory_refused(rt),
     }
+}
+
+/// Exit status where an allocation failed before a job was known, 1.
+pub fn memory_refused(rt: &impl Eprint) -> u8
+    ensures { result ≡ 1 }
+{
+    run_ended(rt, Err(Failure::memory()))
 }
 
 /// Exit status of arguments that cannot be read: 1 if an allocation failed, and 2 if one of them is
 /// not text.
-pub fn bad_arguments(rt: &HostRuntime, kind: ErrorKind) -> u8
+pub fn bad_arguments(rt: &impl Eprint, kind: ErrorKind) -> u8
     ensures memory { kind ≡ ErrorKind.OutOfMemory → result ≡ 1 }
     ensures text { kind ≢ ErrorKind.OutOfMemory → result ≡ 2 }
 {
     if kind == ErrorKind::OutOfMemory {
-        return no_job(rt, WordsFault::Memory);
+        return memory_refused(rt);
     }
     let _ = eprintln!(rt; "arbiter: bad arguments");
     USAGE_STATUS
