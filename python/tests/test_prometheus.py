@@ -7,6 +7,7 @@ import re
 import shutil
 import socket
 import subprocess
+import sys
 import threading
 import time
 import urllib.error
@@ -19,6 +20,8 @@ from arbiter import Host
 from arbiter_host.faults import HostFault, UsageFault
 from arbiter_host.names import shown
 from arbiter_host.sources import prometheus
+
+from places import PACKAGE
 
 BEGIN, STEP, COUNT = 1767607200, 300, 6
 # Seconds of CPU that each pod uses in a step, beginning with the first: half a CPU, then two.
@@ -343,5 +346,79 @@ def test_an_answer_without_an_end(monkeypatch):
     with answering(whole(" " * (2 << 20))) as url, pytest.raises(HostFault, match="more than 1 M"):
         asked(url)
     monkeypatch.setattr(prometheus, "MOST_SECONDS", 0)
-    with answering(whole(values("7"))) as url, pytest.raises(HostFault, match="more than 0 sec"):
+    with answering(whole(values("7"))) as url, pytest.raises(HostFault, match="in 0 sec"):
         asked(url)
+
+
+# Servers that are slow: what comes before the first byte, what comes again and again, and its time.
+OK = b"HTTP/1.1 200 OK\r\n"
+LONG, CHUNKS = b"Content-Length: 1000000\r\n\r\n", b"Transfer-Encoding: chunked\r\n\r\n"
+SLOW = {
+    "nothing": (b"", b""), "status": (b"", b"H"), "header": (OK + b"A: ", b"a"),
+    "headers": (OK, b"A: b\r\n"), "continue": (b"", b"HTTP/1.1 100 Continue\r\n\r\n"),
+    "body": (OK + LONG, b"["), "chunk head": (OK + CHUNKS, b"0"),
+    "chunks": (OK + CHUNKS, b"1\r\n[\r\n"), "trailer": (OK + CHUNKS + b"0\r\nA: ", b"a"),
+    "trailers": (OK + CHUNKS + b"0\r\n", b"A: b\r\n"),
+    "error": (b"HTTP/1.1 500 No\r\n" + LONG, b"a"),
+    "error's head": (b"HTTP/1.1 500 No\r\nA: ", b"a"),
+}
+
+
+@contextmanager
+def dripping(first, again):
+    """The address of a server that sends some bytes at once, and others ten times a second."""
+    with socket.create_server(("127.0.0.1", 0)) as listening:
+        def serve(reader):
+            with reader, suppress(OSError):
+                reader.sendall(first)
+                while True:
+                    time.sleep(0.1)
+                    reader.sendall(again)
+
+        def run():
+            with suppress(OSError):
+                while True:
+                    threading.Thread(target=serve, args=listening.accept()[:1], daemon=True).start()
+        threading.Thread(target=run, daemon=True).start()
+        yield f"127.0.0.1:{listening.getsockname()[1]}"
+        listening.shutdown(socket.SHUT_RDWR)
+
+
+def is_told_in_time(url):
+    """Whether a question ends by a fault of one line soon after a deadline of a second."""
+    began = time.monotonic()
+    with pytest.raises(HostFault, match=r"^http.*: no whole answer in 1 seconds$") as fault:
+        asked(url)
+    assert 0.9 < time.monotonic() - began < 3 and "\n" not in fault.value.message
+
+
+@pytest.mark.parametrize("first, again", SLOW.values(), ids=list(SLOW))
+def test_a_server_that_is_slow(monkeypatch, first, again):
+    """One deadline is over the whole exchange, from the first byte on."""
+    monkeypatch.setattr(prometheus, "MOST_SECONDS", 1)
+    with dripping(first, again) as address:
+        is_told_in_time(f"http://{address}")
+
+
+def test_servers_that_are_slow_otherwise(monkeypatch):
+    """In the greeting of TLS, by one address after another, and in the name's own resolution."""
+    monkeypatch.setattr(prometheus, "MOST_SECONDS", 1)
+    with dripping(b"\x16\x03\x03\x40\x00", b"\x00") as address:
+        is_told_in_time(f"https://{address}")
+    with dripping(b"", b"") as address, answering(moved(f"http://{address}/x")) as url:
+        is_told_in_time(url)
+    monkeypatch.setattr(socket, "getaddrinfo", lambda *_, **__: time.sleep(5))
+    is_told_in_time("http://prometheus.invalid")
+
+
+def test_a_command_that_asks_a_slow_server(ctl):
+    """It ends soon after the deadline: what still waits for the server ends with it."""
+    script = ("from arbiter_host import command\nfrom arbiter_host.sources import prometheus\n"
+              "prometheus.MOST_SECONDS = 1\ncommand.main()\n")
+    with dripping(OK + b"A: ", b"a") as address:
+        ended = subprocess.run([sys.executable, "-c", script, "replay", "-", "--used",
+                                f"http://{address}", "--range", "1/2"], input=b"mkdir web\n",
+                               env={**ctl.environment, "PYTHONPATH": str(PACKAGE)}, timeout=60,
+                               capture_output=True, check=False)
+    assert ended.returncode == 1, ended.stderr
+    assert ended.stderr.endswith(b": no whole answer in 1 seconds\n"), ended.stderr

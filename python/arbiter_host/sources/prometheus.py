@@ -4,11 +4,13 @@ from __future__ import annotations
 import http.client
 import json
 import math
+import threading
 import time
 import urllib.error
 import urllib.parse
 import urllib.request
 from collections.abc import Callable, Mapping, Sequence
+from concurrent import futures
 from datetime import datetime
 from fractions import Fraction
 from typing import Any, NamedTuple, TypeVar
@@ -21,7 +23,7 @@ from arbiter_host.sources.samples import EMPTY, TABLE, History, Sample, time_nam
 Found = TypeVar("Found")
 
 SCHEMES = ("http://", "https://")
-# Seconds of one answer from the server, and of all of them; bytes of all, and of one.
+# Seconds that a server may be silent, and of a whole exchange; bytes of an answer, and of a piece.
 SECONDS, MOST_SECONDS = 60, 600
 MAX_ANSWER, PIECE = 1 << 28, 1 << 20
 # The series of cAdvisor that are no totals: containers of pods without pause containers, containers
@@ -48,33 +50,48 @@ class Redirects(urllib.request.HTTPRedirectHandler):
         return super().redirect_request(req, fp, code, msg, headers, newurl)
 
 
-def body_of(answer: Any, until: float) -> bytes:
-    """The bytes of an answer. A fault where it is too long, or not whole at a time."""
+def body_of(answer: Any) -> bytes:
+    """The bytes of an answer. A fault where it is too long, or not whole."""
     data = bytearray()
     while piece := answer.read1(PIECE):
         data += piece
         if len(data) > MAX_ANSWER:
             raise HostFault(f"an answer of more than {MAX_ANSWER >> 20} MiB")
-        if time.monotonic() > until:
-            raise HostFault(f"its answer takes more than {MOST_SECONDS} seconds")
     if answer.length:
         raise HostFault("its answer ends in the middle")
     return bytes(data)
 
 
-def fetched(url: str) -> Any:
-    """The JSON of an address."""
-    until = time.monotonic() + MOST_SECONDS
+def exchanged(url: str) -> Any:
+    """The JSON of an address, however long that takes."""
     try:
         with urllib.request.build_opener(Redirects).open(url, timeout=SECONDS) as answer, (
                 naming(shown(answer.url))):
-            return json.loads(body_of(answer, until))
+            return json.loads(body_of(answer))
     except (OSError, http.client.HTTPException, ValueError, RecursionError) as error:
         cause = error.reason if isinstance(error, urllib.error.URLError) else error
         told = str(cause)[:400] or type(error).__name__
         if isinstance(error, urllib.error.HTTPError):
             told = f"{error.code}: {error.read(400).decode(errors='replace') or told}"
         raise HostFault(f"{shown(url)}: {shown(told)}") from error
+
+
+def fetched(url: str) -> Any:
+    """The JSON of an address. One deadline is over the whole exchange, names and greetings too:
+    what still waits for a server then is a thread, which ends with the command."""
+    answer: futures.Future[Any] = futures.Future()
+
+    def run() -> None:
+        try:
+            answer.set_result(exchanged(url))
+        except BaseException as error:
+            answer.set_exception(error)
+
+    threading.Thread(target=run, daemon=True).start()
+    try:
+        return answer.result(MOST_SECONDS)
+    except futures.TimeoutError as error:
+        raise HostFault(f"{shown(url)}: no whole answer in {MOST_SECONDS} seconds") from error
 
 
 def is_address(word: str) -> bool:
