@@ -1,13 +1,29 @@
 # shellcheck shell=bash
 # Files that this machine keeps outside the sources: the checked build, and times of commands.
 
-# Sets `here` to the folder for it, or to nothing if this user has none that can be written.
+# Sets `here` to the folder for it, without links, or to nothing if this user has none that can be
+# written, and that no other user may change.
 find_here() {
   local cache=${XDG_CACHE_HOME-}
   [[ $cache == /* ]] || cache=${HOME-}/.cache
   here=$cache/arbiter
-  [[ $here == /*/arbiter ]] && mkdir -p "$here" 2>/dev/null && [ -O "$here" ] &&
-    [ -w "$here" ] || here=''
+  [[ $here == /*/arbiter ]] && (umask 077 && mkdir -p "$here") 2>/dev/null &&
+    here=$(cd -P "$here" 2>/dev/null && pwd) && [ -O "$here" ] && [ -w "$here" ] &&
+    is_ours "$here" || here=''
+}
+
+# Tests whether a path without links and all folders above are this user's or root's, and nobody
+# else may write them. In a sticky folder, as /tmp, others change no file of this user. The bits of
+# the group are also the most that a list of users lets any of them do.
+is_ours() { # PATH
+  local path=$1 found
+  local -a all=(/)
+  while [ -n "$path" ]; do
+    all+=("$path")
+    path=${path%/*}
+  done
+  found=$(find "${all[@]}" -maxdepth 0 \( ! -uid 0 ! -uid "$EUID" -o -type l -o \
+    -perm /022 ! \( -type d -perm -1000 \) \) -print) && [ -z "$found" ]
 }
 
 find_here

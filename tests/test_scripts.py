@@ -218,6 +218,56 @@ def test_no_build_of_another_user(calls):
     same(os.listdir(f"{calls.cache}/arbiter"), [], "what is kept")
 
 
+def loosened(copy, name, change):
+    """What ./arbiter does after a folder or file of the kept build was opened to others."""
+    copy.is_checked("the first run")
+    (kept,) = os.listdir(f"{copy.cache}/arbiter/checked")
+    path = os.path.normpath(f"{copy.cache}/arbiter/checked/{kept}/{name}")
+    with open(f"{copy.cache}/arbiter/checked/{kept}/program", "wb") as file:
+        file.write(b"#!/bin/sh\necho theirs\n")
+    same(copy.call(["./arbiter", "a"])[1], "theirs\n", "what the cache has")
+    change(path)
+    return copy.call(["./arbiter", "a"])
+
+
+@pytest.mark.parametrize("mode", [0o775, 0o757], ids=["a group", "all"])
+@pytest.mark.parametrize("name", ["program", ".", "..", "../..", "../../..", "../../../.."])
+def test_no_kept_build_that_others_may_write(copy, name, mode):
+    """It is not run: neither if they may write it, nor if a folder above."""
+    status, out, err = loosened(copy, name, lambda path: os.chmod(path, mode))
+    same((status, out), (0, ""), f"rt try itself runs: {err}")
+    holds("arbiter: the checked build cannot be kept on this machine", err, "standard error")
+
+
+@pytest.mark.skipif(os.getuid() != 0, reason="only root can give a folder to another user")
+@pytest.mark.parametrize("name", ["program", ".", "..", "../..", "../../..", "../../../.."])
+def test_no_kept_build_of_another_user(copy, name):
+    """Who owns it, or a folder above, may change it whatever the mode is."""
+    status, out, err = loosened(copy, name, lambda path: os.chown(path, 65534, 65534))
+    same((status, out), (0, ""), f"rt try itself runs: {err}")
+
+
+def test_a_kept_build_by_a_link(copy):
+    """A link to the cache is followed once, and what it leads to is looked at."""
+    os.makedirs(f"{copy.folder}/real", mode=0o755)
+    os.symlink(f"{copy.folder}/real", copy.cache)
+    copy.is_checked("a link")
+    os.chmod(f"{copy.folder}/real", 0o777)
+    same(copy.call(["./arbiter", "a"])[:2], (0, ""), "rt try itself runs")
+
+
+def test_a_kept_build_of_a_wide_umask(copy):
+    """Its folders and the program are this user's alone, whatever the umask gives to a group."""
+    before = os.umask(0o002)
+    try:
+        copy.is_checked("the first run")
+    finally:
+        os.umask(before)
+    copy.log()
+    copy.is_checked("the second run")
+    same([line for line in copy.log() if line.startswith("rt try")], [], "it is kept")
+
+
 def test_help_and_version_need_no_build(copy):
     """Help and the version are answered without the kit."""
     copy.rt_there(False)

@@ -18,8 +18,8 @@ from fractions import Fraction
 from typing import Any
 
 from arbiter_host import cgroup2, units
-from arbiter_host.atomic_files import any_place, faults
-from arbiter_host.faults import HostFault, strerror
+from arbiter_host.atomic_files import faults, kept_folder, place_of
+from arbiter_host.faults import HostFault, naming, strerror
 from arbiter_host.model import Group, Model, check_settings
 from arbiter_host.names import NOWHERE, raw_path, shown
 from arbiter_host.safe_files import Gone, Identity, Root, parts_of
@@ -318,8 +318,8 @@ def undo_text(root: Root, changes_: Sequence[Change], by: By) -> str:
 
 def write_synced(path: str, text: str) -> None:
     """Writes a new undo file, and returns when it and its name are on the disk. A fault or a kill
-    leaves no file of this name that is cut."""
-    with faults(path, kind="the undo file "), closing(any_place(path)) as place:
+    leaves no file of this name that is cut. No other user may swap it."""
+    with naming("the undo file"), faults(path), closing(place_of(path, kept_folder)) as place:
         place.put(text.encode(), is_new=True)
         os.fsync(place.folder)
 

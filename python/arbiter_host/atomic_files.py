@@ -19,7 +19,7 @@ from typing import NamedTuple
 from arbiter_host import safe_files
 from arbiter_host.faults import HostFault
 from arbiter_host.names import shown
-from arbiter_host.safe_files import check_path, is_of_others
+from arbiter_host.safe_files import check_path, has_writers, is_of_others
 
 FLAGS = os.O_NOFOLLOW | os.O_CLOEXEC
 PLACE, FOLDERS = os.O_PATH | FLAGS, os.O_RDONLY | os.O_DIRECTORY | FLAGS
@@ -32,17 +32,18 @@ CHANGED, WRITTEN = "; nothing is changed", "; nothing is written"
 faults = functools.partial(safe_files.faults, end=CHANGED)
 
 
-def open_to_others(path: str) -> HostFault:
-    """The fault of a folder that other users may change."""
-    return HostFault(f"{shown(path)}: other users may change this folder{CHANGED}")
-
-
-def check_way(path: str, descriptor: int) -> None:
-    """A fault where another user may change which file a name of a folder stands for. In a sticky
-    folder users change names of their own files alone."""
+def check_way(path: str, descriptor: int, is_own: bool = False) -> None:
+    """A fault where another user may change a file, or which file a name of a folder stands for. In
+    a sticky folder users change names of their own files alone, but make any."""
     status = os.fstat(descriptor)
-    if is_of_others(status, 0 if status.st_mode & stat.S_ISVTX else 0o022):
-        raise open_to_others(path)
+    is_folder = stat.S_ISDIR(status.st_mode)
+    if not is_folder and not stat.S_ISREG(status.st_mode):
+        raise HostFault(f"{shown(path)}: no plain file{CHANGED}")
+    is_sticky = is_folder and status.st_mode & stat.S_ISVTX and not is_own
+    if (is_of_others(status, 0 if is_sticky else 0o022) or is_own and status.st_uid != os.geteuid()
+            or not is_sticky and has_writers(descriptor)):
+        raise HostFault(f"{shown(path)}: other users may change this"
+                        f" {'folder' if is_folder else 'file'}{CHANGED}")
 
 
 def link_text(path: str, descriptor: int) -> str:
@@ -57,7 +58,8 @@ def link_text(path: str, descriptor: int) -> str:
 
 
 def descended(path: str, opened: ExitStack) -> int:
-    """Opens a folder from the root on. A fault where others may change a folder or a link of it."""
+    """Opens a folder or a file from the root on, not to be read. A fault where others may change
+    it, or a folder or a link of its path."""
     def step(name: str, above: int = -1) -> int:
         descriptor = os.open(name, PLACE, dir_fd=above)
         opened.callback(os.close, descriptor)
@@ -82,13 +84,30 @@ def descended(path: str, opened: ExitStack) -> int:
     return here
 
 
-def checked_own(path: str, descriptor: int) -> int:
-    """A folder that was opened, if it is this user's alone to change; else it is closed."""
-    status = os.fstat(descriptor)
-    if status.st_uid == os.geteuid() and not status.st_mode & 0o022:
-        return descriptor
-    os.close(descriptor)
-    raise open_to_others(path)
+def kept_file(path: str, flags: int = 0) -> int:
+    """Opens a plain file or a folder to be read, which no other user may change or swap. What is
+    neither is not opened."""
+    check_path(path)
+    with faults(path), ExitStack() as opened:
+        place = descended(os.path.join(os.getcwd(), path), opened)
+        descriptor = os.open(f"/proc/self/fd/{place}", os.O_RDONLY | os.O_CLOEXEC | flags)
+    return descriptor
+
+
+def kept_folder(path: str) -> int:
+    """Opens a folder where no other user may swap a file of this user."""
+    return kept_file(path, os.O_DIRECTORY)
+
+
+def opened_own(path: str, name: str, above: int | None = None) -> int:
+    """Opens a folder, if it is this user's alone to change."""
+    descriptor = os.open(name, FOLDERS, dir_fd=above)
+    try:
+        check_way(path, descriptor, is_own=True)
+    except BaseException:
+        os.close(descriptor)
+        raise
+    return descriptor
 
 
 def own_folder(path: str) -> int:
@@ -101,8 +120,8 @@ def own_folder(path: str) -> int:
         if name:
             with suppress(FileExistsError):
                 os.mkdir(name, 0o700, dir_fd=place)
-        descriptor = os.open(name or "/", FOLDERS, dir_fd=place)
-    return checked_own(path, descriptor)
+        descriptor = opened_own(path, name or "/", place)
+    return descriptor
 
 
 def collected_folder(path: str) -> int:
@@ -110,8 +129,7 @@ def collected_folder(path: str) -> int:
     may be the collector's, as Debian has them: who changes them hides metrics, and no more."""
     check_path(path)
     with faults(path):
-        descriptor = os.open(os.path.abspath(path), FOLDERS)
-    return checked_own(path, descriptor)
+        return opened_own(path, os.path.abspath(path))
 
 
 @dataclass(frozen=True)
@@ -220,9 +238,8 @@ def place_of(path: str, opens: Callable[[str], int] = own_folder) -> Place:
     return Place(opens(above), name)
 
 
-def any_place(path: str, mode: int = 0o600) -> Place:
-    """The place of a path whose folder others may change. What is written there is a new file, or
-    one that was named by who asked for it."""
+def any_place(path: str, mode: int) -> Place:
+    """The place of a path whose folder others may change, which was named by who asked for it."""
     check_path(path)
     above, name = os.path.split(path)
     return Place(os.open(above or ".", os.O_RDONLY | os.O_DIRECTORY | os.O_CLOEXEC), name, mode)

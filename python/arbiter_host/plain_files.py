@@ -9,7 +9,7 @@ import sys
 from contextlib import suppress
 from typing import BinaryIO
 
-from arbiter_host import names, safe_files
+from arbiter_host import atomic_files, names
 from arbiter_host.faults import HostFault, strerror
 
 MAX_FILE = 512 << 20
@@ -39,17 +39,24 @@ def check_file(path: str, status: os.stat_result, is_plain: bool) -> None:
         raise HostFault(f"{names.shown(path)}: {TOO_LONG}")
 
 
-def opened_bytes(path: str, is_plain: bool, is_trusted: bool) -> bytes:
-    """The bytes of a file. What has to be plain is opened in a way that waits for nobody."""
+def opened(path: str, is_plain: bool, is_trusted: bool) -> int:
+    """Opens a file to be read. What has to be plain is opened in a way that waits for nobody."""
+    if is_trusted:
+        return atomic_files.kept_file(path)
     if is_plain:
         check_file(path, os.stat(path), True)
-    flags = os.O_RDONLY | os.O_CLOEXEC | (os.O_NONBLOCK if is_plain else 0)
-    with os.fdopen(os.open(path, flags), "rb") as file:
-        check_file(path, os.fstat(file.fileno()), is_plain)
-        if is_trusted and safe_files.is_of_others(os.fstat(file.fileno()), 0o002):
-            raise HostFault(f"{names.shown(path)}: other users may change this file, and what it"
-                            " sets; nothing is changed (chown it once it is looked at)")
-        return bounded(file)
+    return os.open(path, os.O_RDONLY | os.O_CLOEXEC | (os.O_NONBLOCK if is_plain else 0))
+
+
+def opened_bytes(path: str, is_plain: bool, is_trusted: bool) -> bytes:
+    """The bytes of a file, which is looked at once more where it is open."""
+    file = opened(path, is_plain, is_trusted)
+    try:
+        check_file(path, os.fstat(file), is_plain or is_trusted)
+        with os.fdopen(file, "rb", closefd=False) as whole:
+            return bounded(whole)
+    finally:
+        os.close(file)
 
 
 def in_utf8(path: str, data: bytes) -> bytes:
@@ -66,7 +73,7 @@ def in_utf8(path: str, data: bytes) -> bytes:
 
 def file_bytes(path: str, is_plain: bool = False, is_trusted: bool = False) -> bytes:
     """The bytes of a file; `-` is standard input, unless the file has to be plain. With
-    `is_trusted` a file is root's or this user's."""
+    `is_trusted` no other user may change the file, or which one its name stands for."""
     try:
         if path == "-" and not is_plain:
             data = bounded(sys.stdin.buffer) if sys.stdin else b""

@@ -9,6 +9,7 @@ import errno
 import os
 import resource
 import stat
+import struct
 import sys
 from collections.abc import Iterator
 from contextlib import contextmanager, suppress
@@ -21,6 +22,8 @@ FOLDER = os.O_PATH | os.O_DIRECTORY | os.O_NOFOLLOW | os.O_CLOEXEC
 FILE = os.O_NOFOLLOW | os.O_CLOEXEC | os.O_NONBLOCK
 # What a file of a removed group answers: by its name, and where it was open before.
 REMOVED = (errno.ENOENT, errno.ENODEV)
+# The entries of a list that name users and groups, beside the file's own user and all others.
+LISTED = (2, 4, 8)
 
 # Device and inode of a folder: no other folder has them while it is open.
 Identity = tuple[int, int]
@@ -156,6 +159,17 @@ class Root:
 def is_of_others(status: os.stat_result, bits: int = 0) -> bool:
     """Whether a file is not root's or this user's, or its mode has bits that let others in."""
     return status.st_uid not in (0, os.geteuid()) or bool(status.st_mode & bits)
+
+
+def has_writers(descriptor: int) -> bool:
+    """Whether a list of what is open lets a user or a group write, masked or not."""
+    try:
+        text = os.getxattr(f"/proc/self/fd/{descriptor}", "system.posix_acl_access")
+    except OSError as error:
+        if error.errno in (errno.ENODATA, errno.ENOTSUP):
+            return False
+        raise
+    return any(tag in LISTED and bits & 2 for tag, bits, _ in struct.iter_unpack("<HHI", text[4:]))
 
 
 def check_path(path: str) -> None:

@@ -1,13 +1,17 @@
 """Hosts and files against `apply` and `undo`: only the group that was read is ever written."""
+import errno
 import json
 import os
 import resource
+import socket
+import struct
+import time
 
 import pytest
 import reading
 import trees
 from arbiter import Host
-from arbiter_host import apply, names, safe_files
+from arbiter_host import apply, atomic_files, names, plain_files, safe_files
 from arbiter_host.apply import By, Change, Settings
 from arbiter_host.faults import HostFault
 from arbiter_host.model import Group, Model
@@ -472,3 +476,127 @@ def test_an_undo_file_is_never_written_through(folder, tree, kind):
     with pytest.raises(HostFault, match="File exists"):
         apply.write_synced(str(path), "new")
     assert (folder / "mine").read_text() == "mine" and not (folder / "none").exists()
+
+
+# Who may change an undo file, or what its name stands for
+
+NOBODY = 65534
+# The entries of a list: user, group, mask, others; and two that are named. Bits of reading, writing.
+OWNER, NAMED, GROUP, NAMED_GROUP, MASK, OTHERS = 1, 2, 4, 8, 16, 32
+READS, WRITES = 4, 6
+
+
+def let_in(path, tag, mask):
+    """Lets a user or a group write by a list, as far as its mask does."""
+    entries = [(OWNER, WRITES, -1), (GROUP, 0, -1), (tag, WRITES, NOBODY), (MASK, mask, -1),
+               (OTHERS, 0, -1)]
+    text = struct.pack("<I", 2) + b"".join(struct.pack("<HHi", *each) for each in sorted(entries))
+    try:
+        os.setxattr(path, "system.posix_acl_access", text)
+    except OSError as error:
+        assert error.errno == errno.ENOTSUP
+        pytest.skip("no lists here")
+
+
+def refused_undo(ctl, path, why):
+    """`undo` refuses a file, and changes nothing."""
+    out, err = ctl.run("undo", path, "--yes", status=1)
+    assert out == "" and why in err, err
+
+
+@pytest.fixture
+def kept(folder, tree):
+    """An undo file in a folder of this user's own, of a group whose weight is 300."""
+    (folder / "own").mkdir(mode=0o755)
+    (tree / "box/cpu.weight").write_text("300")
+    (folder / "own/u").write_text(undo_file(tree))
+    (folder / "own/u").chmod(0o600)
+    return folder / "own/u"
+
+
+FILE, FOLDER = "other users may change this file", "other users may change this folder"
+
+
+@pytest.mark.parametrize("mode", [0o664, 0o646, 0o620, 0o1664])
+def test_an_undo_file_that_a_group_may_write(ctl, tree, kept, mode):
+    kept.chmod(mode)
+    refused_undo(ctl, kept, FILE)
+    assert weights(tree, "box") == [300]
+
+
+@pytest.mark.parametrize("mask", [WRITES, READS], ids=["in force", "masked"])
+@pytest.mark.parametrize("tag", [NAMED, NAMED_GROUP], ids=["user", "group"])
+@pytest.mark.parametrize("name, why", [("", FILE), ("..", FOLDER)], ids=["file", "folder"])
+def test_an_undo_file_that_a_list_lets_others_write(ctl, tree, kept, tag, mask, name, why):
+    """Of a list no mask counts: who loosens it would let them in."""
+    let_in(kept.parent if name else kept, tag, mask)
+    refused_undo(ctl, kept, why)
+    assert weights(tree, "box") == [300]
+
+
+def test_a_folder_where_an_undo_file_can_be_swapped(ctl, folder, tree, kept):
+    """Who may write a folder on the way may give the name to another file. A sticky folder keeps
+    the names of this user's files, and links of one's own lead on."""
+    for mode in (0o777, 0o775, 0o757):
+        for place in (kept.parent, folder):
+            place.chmod(mode)
+            refused_undo(ctl, kept, FOLDER)
+            place.chmod(0o755)
+    kept.parent.chmod(0o1777)
+    (folder / "link").symlink_to("own/u")
+    assert ctl.run("undo", folder / "link", "--yes")[0].startswith("echo 100 > ")
+    assert weights(tree, "box") == [100]
+
+
+@pytest.mark.skipif(os.geteuid() != 0, reason="gives files to another user")
+def test_an_undo_file_below_a_folder_of_another_user(ctl, folder, tree, kept):
+    """Its owner may swap it whatever the mode is. In a sticky folder a link may be his."""
+    os.chown(kept.parent, NOBODY, NOBODY)
+    refused_undo(ctl, kept, FOLDER)
+    os.chown(kept.parent, 0, 0)
+    (folder / "sticky").mkdir()
+    (folder / "sticky").chmod(0o1777)
+    (folder / "sticky/link").symlink_to(kept)
+    os.chown(folder / "sticky/link", NOBODY, NOBODY, follow_symlinks=False)
+    refused_undo(ctl, folder / "sticky/link", "a link of another user")
+    assert weights(tree, "box") == [300]
+
+
+@pytest.mark.parametrize("kind", ["fifo", "link to a fifo", "socket", "device", "folder"])
+def test_an_undo_file_that_is_none(ctl, folder, kind):
+    """It is refused before it is opened to be read: who opens a pipe waits for its writer."""
+    path = folder / "u"
+    {"fifo": lambda: os.mkfifo(path), "folder": path.mkdir,
+     "link to a fifo": lambda: (os.mkfifo(folder / "f"), path.symlink_to("f")),
+     "socket": lambda: socket.socket(socket.AF_UNIX).bind(str(path)),
+     "device": lambda: path.symlink_to("/dev/zero")}[kind]()
+    began = time.monotonic()
+    refused_undo(ctl, path, ": no plain file")
+    assert time.monotonic() - began < 20
+
+
+def test_no_file_of_a_pipe_is_opened(folder, monkeypatch):
+    """Neither is one opened that got its name after the look: the descriptor is what is read."""
+    (folder / "u").write_text("mine")
+    (folder / "u").chmod(0o600)
+    real = atomic_files.descended
+
+    def descended(path, opened):
+        found = real(path, opened)
+        os.remove(folder / "u")
+        os.mkfifo(folder / "u")
+        return found
+
+    monkeypatch.setattr(atomic_files, "descended", descended)
+    assert plain_files.file_bytes(str(folder / "u"), is_trusted=True) == b"mine"
+
+
+@pytest.mark.parametrize("mode", [0o777, 0o775])
+def test_apply_writes_no_undo_file_that_undo_refuses(ctl, folder, tree, mode):
+    """So it ends before the first change."""
+    (folder / "open").mkdir()
+    (folder / "open").chmod(mode)
+    (folder / "s.script").write_text("mkdir box\n")
+    _, err = ctl.run("apply", folder / "s.script", "--set", "box.weight=9", "--root", tree, "--by",
+                     "files", "--yes", "--undo", folder / "open/u", status=1)
+    assert FOLDER in err and weights(tree, "box") == [100] and not os.listdir(folder / "open")
