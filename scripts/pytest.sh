@@ -14,7 +14,7 @@ packages=(python3-pytest python3-pytest-xdist python3-hypothesis python3-jinja2 
   python3-yaml python3-distributed python3-prometheus-client mypy python3-typeshed pyflakes3)
 modules='pytest, xdist, hypothesis, jinja2, rich, yaml, distributed, prometheus_client, mypy, pyflakes'
 # Packages of the same name as their command. Tests that need one that is missing are skipped.
-tools=(mandoc zsh fish chromium prometheus tmux valgrind clang-14)
+tools=(mandoc zsh fish chromium prometheus tmux valgrind strace clang-14)
 
 # mypy reads the types of yaml from python3-typeshed.
 has_packages() {

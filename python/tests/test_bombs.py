@@ -1,10 +1,13 @@
 """Files that are small, and whose reading would take long: each is refused at once, in one line."""
 import json
+import sys
 import time
+from contextlib import suppress
 
 import pytest
 import reading
 from arbiter import Host
+from arbiter_host import apply
 from arbiter_host.faults import HostFault
 from arbiter_host.sources import containers, hostfile, kubernetes, script
 
@@ -34,6 +37,43 @@ def test_a_host_file_is_refused_at_once(name):
     assert why in fault.value.message and fault.value.message.startswith("F:")
     assert "\n" not in fault.value.message and len(fault.value.message) < 300
     assert time.process_time() - began < SECONDS
+
+
+# What Python tells a hook of before it runs code, another program or a library.
+RUNS = ("exec", "compile", "import", "os.", "subprocess.", "pickle.", "ctypes.", "marshal.", "open")
+CODE = {
+    "toml": ('[host]\ncpus = 2\n[groups.a]\nweight = "__import__(\'os\').system(\'id\')"\n',
+             '"!!python/object/apply:os.system" = ["id"]\n', '[groups."$(id)"]\nweight = 7\n'),
+    "json": ('{"host": {"cpus": 2}, "groups": {"a": {"weight": "eval(1)"}}}',
+             '{"__reduce__": ["os.system", ["id"]], "py/object": "os.system"}',
+             '{"groups": {"`id`": {"weight": 7}}}'),
+}
+
+
+def test_no_file_runs_code(calls):
+    """Reading one is no import, no program and no code: each kind is read once before, so that its
+    reader is there."""
+    def read():
+        for kind, texts in CODE.items():
+            for text in texts:
+                with suppress(HostFault):
+                    reading.host_file(text.encode(), "F", kind)
+        for text in CODE["json"]:
+            with suppress(HostFault):
+                reading.pods([("F", text.encode())], Host(2), calls)
+            with suppress(HostFault):
+                apply.read_undo(text.encode(), "F")
+
+    read()
+    seen, watched = [], []
+    sys.addaudithook(lambda event, _: seen.append(event) if watched and event.startswith(RUNS)
+                     else None)
+    watched.append(True)
+    read()
+    assert seen == []
+    compile("1", "F", "eval")
+    watched.clear()
+    assert seen == ["compile"]
 
 
 @pytest.mark.parametrize("kind", ["toml", "json"])
@@ -69,7 +109,7 @@ def test_many_pods_that_have_ended(calls):
 
 
 def test_containers_beyond_the_bound_are_told_before_the_work(calls, monkeypatch):
-    monkeypatch.setattr(containers, "add", lambda *_: pytest.fail("looked into"))
+    monkeypatch.setattr(containers.ContainerSource, "add", lambda *_: pytest.fail("looked into"))
     data = json.dumps([{"Name": f"c{number}", "HostConfig": {}} for number in range(16384)])
     with pytest.raises(HostFault, match="16384 containers: more than 16384 groups"):
         reading.docker([("F", data.encode())], Host(4, 100000, 1000), calls)

@@ -481,7 +481,7 @@ def test_an_undo_file_is_never_written_through(folder, tree, kind):
 # Who may change an undo file, or what its name stands for
 
 NOBODY = 65534
-# The entries of a list: user, group, mask, others; and two that are named. Bits of reading, writing.
+# The entries of a list, of which two are named, and the bits of reading and of writing.
 OWNER, NAMED, GROUP, NAMED_GROUP, MASK, OTHERS = 1, 2, 4, 8, 16, 32
 READS, WRITES = 4, 6
 

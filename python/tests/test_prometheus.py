@@ -341,7 +341,8 @@ def test_addresses_that_are_none(url):
 
 
 def test_an_answer_without_an_end(monkeypatch):
-    """Its bytes and its time have bounds."""
+    """Its bytes and its time have bounds, which SECURITY.md names."""
+    assert (prometheus.MOST_SECONDS, prometheus.MAX_ANSWER) == (600, 256 << 20)
     monkeypatch.setattr(prometheus, "MAX_ANSWER", 1 << 20)
     with answering(whole(" " * (2 << 20))) as url, pytest.raises(HostFault, match="more than 1 M"):
         asked(url)

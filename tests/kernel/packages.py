@@ -11,6 +11,7 @@ import fcntl
 import os
 import re
 import shutil
+import stat
 import subprocess
 import sys
 from collections.abc import Iterator
@@ -49,9 +50,16 @@ class Emulator:
 
 
 def cache_folder() -> Path:
-    """Where packages are unpacked."""
+    """Where packages are unpacked, whose emulator runs: a folder that no other user may change. In
+    a sticky folder above it others change no name of this user's."""
     home = Path(os.environ.get("XDG_CACHE_HOME") or Path.home() / ".cache")
-    return Path(os.environ.get("ARBITER_KERNELS") or home / "arbiter" / "kernels")
+    folder = Path(os.environ.get("ARBITER_KERNELS") or home / "arbiter" / "kernels").resolve()
+    for each in filter(Path.exists, (folder, *folder.parents)):
+        status = each.stat()
+        is_sticky = each != folder and status.st_mode & stat.S_ISVTX
+        if status.st_uid not in (0, os.geteuid()) or status.st_mode & 0o022 and not is_sticky:
+            raise KernelFault(f"{each}: other users may change this folder")
+    return folder
 
 
 @contextlib.contextmanager
