@@ -238,13 +238,6 @@ def place_of(path: str, opens: Callable[[str], int] = own_folder) -> Place:
     return Place(opens(above), name)
 
 
-def any_place(path: str, mode: int) -> Place:
-    """The place of a path whose folder others may change, which was named by who asked for it."""
-    check_path(path)
-    above, name = os.path.split(path)
-    return Place(os.open(above or ".", os.O_RDONLY | os.O_DIRECTORY | os.O_CLOEXEC), name, mode)
-
-
 def put_file(path: str, data: bytes) -> None:
     """Writes a plain file whole or not at all, in any folder. A link at its name is replaced, and
     not followed. What is no plain file, such as a pipe, is written to as it is."""
@@ -260,5 +253,7 @@ def put_file(path: str, data: bytes) -> None:
                     file.write(data)
                 return
             mode = stat.S_IMODE(status.st_mode)
-        with closing(any_place(path, mode)) as place:
+        above, name = os.path.split(path)
+        folder = os.open(above or ".", os.O_RDONLY | os.O_DIRECTORY | os.O_CLOEXEC)
+        with closing(Place(folder, name, mode)) as place:
             place.put(data)
