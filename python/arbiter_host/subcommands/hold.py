@@ -26,10 +26,12 @@ from arbiter_host.subcommands.base import Subcommand
 if TYPE_CHECKING:
     from arbiter_host.metrics import File
 
-# The signals that end it in order: all that would end a process, but KILL and those of faults.
-SIGNALS = (signal.SIGHUP, signal.SIGINT, signal.SIGQUIT, signal.SIGTERM, signal.SIGUSR1,
-           signal.SIGUSR2, signal.SIGALRM, signal.SIGVTALRM, signal.SIGPROF, signal.SIGXCPU,
-           signal.SIGPOLL, signal.SIGPWR, *range(signal.SIGRTMIN, signal.SIGRTMAX + 1))
+# The signals that end it in order: all but those that end no process, which Python ignores, or
+# which a fault raises.
+SIGNALS = signal.valid_signals() - {
+    signal.SIGCHLD, signal.SIGCONT, signal.SIGSTOP, signal.SIGTSTP, signal.SIGTTIN, signal.SIGTTOU,
+    signal.SIGURG, signal.SIGWINCH, signal.SIGPIPE, signal.SIGXFSZ, signal.SIGKILL, signal.SIGABRT,
+    signal.SIGBUS, signal.SIGFPE, signal.SIGILL, signal.SIGSEGV, signal.SIGSYS, signal.SIGTRAP}
 PERIOD, SLICE = 1000000, 1000
 PERIODS = (100000, PERIOD)
 # Parts of the time of the watchdog after which it is told again.
@@ -50,6 +52,8 @@ class Notifier:
         self.every: Fraction | None = None
         if is_ours and usec.isascii() and usec.isdigit() and int(usec):
             self.every = Fraction(int(usec), PARTS * 10**6)
+        # The time of the clock from which on the next one is due.
+        self.due = 0.0
 
     def send(self, *words: str) -> None:
         """Sends lines such as READY=1. A socket that does not take them changes nothing."""
@@ -60,8 +64,10 @@ class Notifier:
                 to.sendto("\n".join(words).encode(), self.address)
 
     def alive(self) -> None:
-        """Tells the watchdog."""
-        if self.every is not None:
+        """Tells the watchdog, if that is due."""
+        now = time.monotonic()
+        if self.every is not None and now >= self.due:
+            self.due = now + float(self.every)
             self.send("WATCHDOG=1")
 
 
@@ -73,7 +79,7 @@ class Service:
         self.notifier, self.file, self.warn = notifier, file, output.Remarks().tell
         # The signals that end it. A hangup that the caller ignores, as nohup does, ends none.
         is_ignored = signal.getsignal(signal.SIGHUP) is signal.SIG_IGN
-        self.signals = [each for each in SIGNALS if each != signal.SIGHUP or not is_ignored]
+        self.signals = SIGNALS - {signal.SIGHUP} if is_ignored else SIGNALS
         # Each signal is a byte in a pipe, and interrupts nothing.
         noted, self.note = os.pipe2(os.O_NONBLOCK | os.O_CLOEXEC)
         self.noted = select.poll()
@@ -108,6 +114,12 @@ class Service:
                 return True
             if part == left:
                 return False
+
+    def clock(self) -> int:
+        """The clock of the rounds, in nanoseconds. Each look at it is a sign of life: a round has
+        one for each group."""
+        self.notifier.alive()
+        return time.monotonic_ns()
 
     def show(self, host: Host, line: hold.Line) -> None:
         """Shows a round. A file that cannot be written ends no loop."""
@@ -197,7 +209,7 @@ def run(asked: argparse.Namespace) -> None:
         stack.callback(root.close)
         service = Service(Notifier(), metrics_file(asked, stack))
         stack.enter_context(service.begun())
-        loop = hold.Loop(engine, root, asked.source, host, kept, ways)
+        loop = hold.Loop(engine, root, asked.source, host, kept, ways, service.clock)
         hold.run(loop, times, service.wait, functools.partial(service.show, host),
                  lambda: service.notifier.send("READY=1"))
 
