@@ -49,17 +49,14 @@ class Lines:
             with self.change:
                 self.change.wait_for(lambda: self.texts)
             text = self.texts[0]
-            fault: BrokenPipeError | HostFault | None = None
             try:
                 while text:
                     text = text[os.write(self.file, text):]
-            except BrokenPipeError as error:
-                fault = error
             except OSError as error:
-                fault = HostFault(f"{self.name}: {strerror(error)}")
+                self.fault = error if isinstance(error, BrokenPipeError) else HostFault(
+                    f"{self.name}: {strerror(error)}")
             with self.change:
                 self.texts.popleft()
-                self.fault = fault
                 self.change.notify_all()
 
     def finish(self) -> None:
