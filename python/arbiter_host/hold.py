@@ -35,8 +35,8 @@ Line = dict[str, Any]
 
 # Failed readings in a row that end the loop.
 MOST_FAILED = 2
-# Rounds, and their nanoseconds, that may be missed before one. After more of both the clock has
-# jumped, or nothing ran for long.
+# Rounds, and their nanoseconds, that a wait may be longer than asked for. After more of both the
+# clock has jumped, or nothing ran for long. A round that took long is none of it.
 SECOND = 10**9
 MOST_MISSED, LONGEST_MISSED = 5, 5 * SECOND
 # Files that are open beside those of the groups.
@@ -103,10 +103,6 @@ class Written(NamedTuple):
 
     told: dict[str, Line]
     weights: dict[str, int]
-
-
-class Stopped(Exception):
-    """A signal that came while a round was told."""
 
 
 class WriteFault(HostFault):
@@ -480,7 +476,7 @@ class Loop:
         model, used = self.read()
         if is_jump:
             raise HostFault(f"{missed} rounds missed at once: nothing is written. The clock jumped,"
-                            " or the time of --read is too short")
+                            " or nothing ran")
         found = self.planned(model, used)
         self.rounds += 1
         return {"round": self.rounds, "missed": missed, "written": self.write(found),
@@ -507,15 +503,18 @@ def run(loop: Loop, times: Times, wait: Callable[[float], bool],
         loop.read()
         begin()
         interval = int(times.interval * SECOND)
-        begun, turn, failed, readings = loop.clock(), 1, 0, 1
-        while not wait((begun + turn * interval - loop.clock()) / SECOND):
-            missed = max((loop.clock() - begun) // interval - turn, 0)
+        most_late = max(MOST_MISSED * interval, LONGEST_MISSED)
+        now = begun = loop.clock()
+        turn, failed, readings = 1, 0, 1
+        while not wait(max(begun + turn * interval - now, 0) / SECOND):
+            until, now = max(begun + turn * interval, now), loop.clock()
+            missed = max((now - begun) // interval - turn, 0)
             if missed:
                 output.warn(f"{missed} rounds missed")
             if readings == times.number:
                 return
             try:
-                line = loop.round(missed, missed > max(MOST_MISSED, LONGEST_MISSED // interval))
+                line = loop.round(missed, now - until > most_late)
             except HostFault as fault:
                 failed += 1
                 if failed >= MOST_FAILED or isinstance(fault, WriteFault):
@@ -527,8 +526,6 @@ def run(loop: Loop, times: Times, wait: Callable[[float], bool],
             readings += 1
             if loop.record is None and readings == times.number:
                 return
-            turn += 1 + missed
-    except Stopped:
-        pass
+            turn, now = turn + 1 + missed, loop.clock()
     finally:
         loop.end()

@@ -15,6 +15,8 @@ from arbiter_host.options import Output
 Styled = Sequence[tuple[str, str]]
 # Remarks that are remembered, and those that are told at a time.
 MOST_TOLD, MOST_AT_ONCE = 10000, 100
+# What writes lines of standard error in place of `say`.
+errors: Callable[[str], object] | None = None
 
 
 def emit(lines: str) -> None:
@@ -87,9 +89,12 @@ def drop_output() -> None:
 def say(words: str) -> None:
     """Prints a line on standard error. Where that is gone or full nothing is printed: it must stop
     no change halfway."""
-    if sys.stderr is not None:
-        with suppress(OSError, ValueError):
-            print(f"arbiterctl: {names.shown(words)}", file=sys.stderr, flush=True)
+    line = f"arbiterctl: {names.shown(words)}"
+    with suppress(OSError, ValueError, HostFault):
+        if errors is not None:
+            errors(f"{line}\n")
+        elif sys.stderr is not None:
+            print(line, file=sys.stderr, flush=True)
 
 
 def warn(words: str) -> None:

@@ -81,13 +81,18 @@ def content(tree):
     return {str(path): path.read_text() for path in sorted(tree.rglob("*")) if path.is_file()}
 
 
-def started(ctl, world, undo, *words):
-    """A loop that runs, after it has told its first round."""
-    found = subprocess.Popen(
+def begun(ctl, world, undo, *words):
+    """A loop as a command."""
+    return subprocess.Popen(
         [sys.executable, str(PACKAGE / "arbiterctl"), "hold", str(world.tree), "--root",
          str(world.tree), "--cpus", "2", "--yes", "--read", "x100ms", "--period", "100ms",
          "--undo", str(undo), *words],
         env=ctl.environment, stdout=subprocess.PIPE, stderr=subprocess.PIPE)
+
+
+def started(ctl, world, undo, *words):
+    """A loop that runs, after it has told its first round."""
+    found = begun(ctl, world, undo, *words)
     assert json.loads(found.stdout.readline())["round"] == 1
     return found
 

@@ -8,7 +8,6 @@ import shutil
 import signal
 import subprocess
 import sys
-import time
 
 import pytest
 import trees
@@ -17,7 +16,7 @@ from arbiter_host.apply import By, Change, Settings
 from arbiter_host.faults import HostFault
 from arbiter_host.subcommands import apply as applying
 from arbiter_host.subcommands import hold as holding
-from held import FREE, World, content, limit, said, started
+from held import FREE, World, limit, said, started
 from places import PACKAGE
 
 NOBODY = 65534
@@ -254,28 +253,6 @@ def test_nobody_reads_the_warnings(world, engine, folder, monkeypatch):
     monkeypatch.undo()
     assert [world.maximum(path) for path in "abc"] == ["70000 100000", FREE, FREE]
     assert not (folder / "undo").exists()
-
-
-def is_waiting(process):
-    """Whether a process waits for a pipe."""
-    with open(f"/proc/{process.pid}/wchan", encoding="ascii") as file:
-        return "pipe" in file.read()
-
-
-def test_a_signal_while_nobody_reads(ctl, world, folder):
-    """The reader of the lines has stopped, so the loop waits to write: a signal ends it all the
-    same."""
-    before = content(world.tree)
-    loop = started(ctl, world, folder / "u")
-    fcntl.fcntl(loop.stdout, fcntl.F_SETPIPE_SZ, 4096)
-    until = time.monotonic() + 60
-    while not is_waiting(loop) and time.monotonic() < until:
-        time.sleep(0.1)
-    assert is_waiting(loop) and content(world.tree) != before
-    loop.send_signal(signal.SIGTERM)
-    assert loop.wait(20) == 0
-    assert content(world.tree) == before and not (folder / "u").exists()
-    loop.communicate()
 
 
 def test_a_hangup_that_is_ignored(ctl, world, folder):

@@ -5,6 +5,7 @@ import argparse
 import functools
 import json
 import os
+import select
 import signal
 import socket
 import time
@@ -15,7 +16,7 @@ from fractions import Fraction
 from typing import TYPE_CHECKING
 
 from arbiter import Host
-from arbiter_host import hold, looks, options, output, record, safe_files
+from arbiter_host import hold, lines, looks, options, output, record, safe_files
 from arbiter_host.faults import HostFault, UsageFault
 from arbiter_host.model import MAX_CAPACITY, MAX_DEPTH
 from arbiter_host.plan import engine_of
@@ -25,7 +26,12 @@ from arbiter_host.subcommands.base import Subcommand
 if TYPE_CHECKING:
     from arbiter_host.metrics import File
 
-SIGNALS = (signal.SIGTERM, signal.SIGINT, signal.SIGHUP)
+# The signals that end it in order: all but those that end no process, which Python ignores, or
+# which a fault raises.
+SIGNALS = signal.valid_signals() - {
+    signal.SIGCHLD, signal.SIGCONT, signal.SIGSTOP, signal.SIGTSTP, signal.SIGTTIN, signal.SIGTTOU,
+    signal.SIGURG, signal.SIGWINCH, signal.SIGPIPE, signal.SIGXFSZ, signal.SIGKILL, signal.SIGABRT,
+    signal.SIGBUS, signal.SIGFPE, signal.SIGILL, signal.SIGSEGV, signal.SIGSYS, signal.SIGTRAP}
 PERIOD, SLICE = 1000000, 1000
 PERIODS = (100000, PERIOD)
 # Parts of the time of the watchdog after which it is told again.
@@ -46,6 +52,8 @@ class Notifier:
         self.every: Fraction | None = None
         if is_ours and usec.isascii() and usec.isdigit() and int(usec):
             self.every = Fraction(int(usec), PARTS * 10**6)
+        # The time of the clock from which on the next one is due.
+        self.due = 0.0
 
     def send(self, *words: str) -> None:
         """Sends lines such as READY=1. A socket that does not take them changes nothing."""
@@ -56,8 +64,10 @@ class Notifier:
                 to.sendto("\n".join(words).encode(), self.address)
 
     def alive(self) -> None:
-        """Tells the watchdog."""
-        if self.every is not None:
+        """Tells the watchdog, if that is due."""
+        now = time.monotonic()
+        if self.every is not None and now >= self.due:
+            self.due = now + float(self.every)
             self.send("WATCHDOG=1")
 
 
@@ -69,22 +79,28 @@ class Service:
         self.notifier, self.file, self.warn = notifier, file, output.Remarks().tell
         # The signals that end it. A hangup that the caller ignores, as nohup does, ends none.
         is_ignored = signal.getsignal(signal.SIGHUP) is signal.SIG_IGN
-        self.signals = [each for each in SIGNALS if each != signal.SIGHUP or not is_ignored]
+        self.signals = SIGNALS - {signal.SIGHUP} if is_ignored else SIGNALS
+        # Each signal is a byte in a pipe, and interrupts nothing.
+        noted, self.note = os.pipe2(os.O_NONBLOCK | os.O_CLOEXEC)
+        self.noted = select.poll()
+        self.noted.register(noted, select.POLLIN)
 
     @contextmanager
-    def blocked(self) -> Iterator[None]:
-        """Blocks the signals, as while limits are written. One that is let in is a `Stopped`."""
-        def stop(*_: object) -> None:
-            raise hold.Stopped
-
-        before = signal.pthread_sigmask(signal.SIG_BLOCK, self.signals)
-        handlers = [(each, signal.signal(each, stop)) for each in self.signals]
+    def begun(self) -> Iterator[None]:
+        """Notes the signals, up to the end of the process: what stood is put back under none."""
+        signal.pthread_sigmask(signal.SIG_BLOCK, self.signals)
+        for each in self.signals:
+            signal.signal(each, lambda *_: None)
+        signal.set_wakeup_fd(self.note, warn_on_full_buffer=False)
+        # (its threads get no signal)
+        self.lines = lines.unwaited()
+        signal.pthread_sigmask(signal.SIG_UNBLOCK, self.signals)
         try:
             yield
         finally:
-            for each, handler in handlers:
-                signal.signal(each, handler)
-            signal.pthread_sigmask(signal.SIG_SETMASK, before)
+            signal.pthread_sigmask(signal.SIG_BLOCK, self.signals)
+            self.lines.finish()
+        self.lines.check()
 
     def wait(self, seconds: float) -> bool:
         """Waits, and tells the watchdog meanwhile. Returns whether a signal came."""
@@ -93,24 +109,21 @@ class Service:
             self.notifier.alive()
             left = max(until - time.monotonic(), 0)
             part = left if every is None else min(left, float(every))
-            if signal.sigtimedwait(self.signals, part) is not None:
+            if self.noted.poll(1000 * part):
                 self.notifier.send("STOPPING=1")
                 return True
             if part == left:
                 return False
 
+    def clock(self) -> int:
+        """The clock of the rounds, in nanoseconds. Each look at it is a sign of life: a round has
+        one for each group."""
+        self.notifier.alive()
+        return time.monotonic_ns()
+
     def show(self, host: Host, line: hold.Line) -> None:
-        """Shows a round. A file that cannot be written ends no loop; a signal ends the printing."""
-        try:
-            try:
-                signal.pthread_sigmask(signal.SIG_UNBLOCK, self.signals)
-                output.emit(json.dumps(line) + "\n")
-            finally:
-                signal.pthread_sigmask(signal.SIG_BLOCK, self.signals)
-        except hold.Stopped:
-            output.drop_output()
-            self.notifier.send("STOPPING=1")
-            raise
+        """Shows a round. A file that cannot be written ends no loop."""
+        self.lines.put(json.dumps(line) + "\n")
         self.notifier.send("WATCHDOG=1", f"STATUS=round {line['round']}: {len(line['groups'])}"
                            f" groups, {line['unserved']} slices unserved")
         if self.file is not None:
@@ -195,8 +208,8 @@ def run(asked: argparse.Namespace) -> None:
         kept = locked(root, asked, stack) if asked.yes else None
         stack.callback(root.close)
         service = Service(Notifier(), metrics_file(asked, stack))
-        stack.enter_context(service.blocked())
-        loop = hold.Loop(engine, root, asked.source, host, kept, ways)
+        stack.enter_context(service.begun())
+        loop = hold.Loop(engine, root, asked.source, host, kept, ways, service.clock)
         hold.run(loop, times, service.wait, functools.partial(service.show, host),
                  lambda: service.notifier.send("READY=1"))
 
