@@ -13,7 +13,7 @@ from fractions import Fraction
 from typing import Any, NamedTuple
 
 from arbiter_host import units
-from arbiter_host.faults import HostFault
+from arbiter_host.faults import HostFault, naming
 from arbiter_host.names import NOWHERE, shown
 from arbiter_host.owned import Amounts
 from arbiter_host.sources.data import below, table, tables, text
@@ -163,17 +163,20 @@ class NodeFacts:
                 raise HostFault(f"it does not tolerate the taint {shown(taint.key)}")
 
 
-def quantity(value: Any) -> Fraction:
-    """Thousandths of a CPU of a quantity; a fault where Kubernetes takes none of this form."""
+def number_of(value: Any, what: str) -> Fraction:
+    """The number of a quantity; a fault where Kubernetes takes none of this form."""
     word = json.dumps(value) if isinstance(value, (int, float, bool)) else str(value)[:60]
     match = QUANTITY.fullmatch(word)
     if not match:
-        raise HostFault(f"{shown(word)!r} is no quantity of CPU")
-    amount = Fraction(match[1]) * SUFFIXES[match[2] or ""] * 1000
-    if match[3]:
-        amount *= Fraction(10) ** int(match[3])
+        raise HostFault(f"{shown(word)!r} is no quantity of {what}")
+    return Fraction(match[1]) * SUFFIXES[match[2] or ""] * Fraction(10) ** int(match[3] or 0)
+
+
+def quantity(value: Any) -> Fraction:
+    """Thousandths of a CPU of a quantity."""
+    amount = number_of(value, "CPU") * 1000
     if amount > units.MAX_CPUS * 1000:
-        raise HostFault(f"{word!r} is above {units.MAX_CPUS} CPUs")
+        raise HostFault(f"{shown(str(value)[:60])!r} is above {units.MAX_CPUS} CPUs")
     return amount
 
 
@@ -247,10 +250,14 @@ def is_limited(containers: Sequence[Container]) -> bool:
     return bool(containers)
 
 
-def is_memory_limited(container: dict[str, Any]) -> bool:
-    """Whether a container has a limit of memory that is its request."""
-    request, limit = (below(container, "resources", key, "memory") for key in KEYS)
-    return bool(limit) and request in (None, limit)
+def memory_of(container: dict[str, Any], where: str) -> tuple[Fraction, Fraction]:
+    """The request and the limit of memory, as kubelet compares them. 0 is none; a limit without a
+    request is the request too."""
+    with naming(where):
+        request, limit = (None if value is None else number_of(value, "memory") for value in (
+            below(container, "resources", key, "memory") for key in KEYS))
+    limit = limit or Fraction(0)
+    return limit if request is None else request, limit
 
 
 def names_of(pod: dict[str, Any]) -> tuple[str, str]:
@@ -270,6 +277,7 @@ def pod_of(pod: dict[str, Any], notes: list[str]) -> Pod:
     where, told = f"{namespace}/{name}", text(pod, "status", "qosClass")
     is_whole = any({"cpu", "memory"} & table(spec, "resources", key).keys() for key in KEYS)
     raw = [spec] if is_whole else tables(spec, "initContainers") + tables(spec, "containers")
+    memory = [memory_of(each, where) for each in raw]
     return Pod(
         namespace, name,
         # The mirror of a static pod has an identifier that is not the one of its group.
@@ -278,8 +286,8 @@ def pod_of(pod: dict[str, Any], notes: list[str]) -> Pod:
         overhead=thousandths(below(spec, "overhead", "cpu"), where, notes) or 0,
         own=amounts_of(table(spec, "resources"), where, notes), is_whole=is_whole,
         told=told if told in CLASSES else "",
-        asks_memory=any(below(each, "resources", key, "memory") for each in raw for key in KEYS),
-        is_memory_equal=all(map(is_memory_limited, raw)),
+        asks_memory=any(map(any, memory)),
+        is_memory_equal=all(limit and request == limit for request, limit in memory),
         selector=pairs_of(table(spec, "nodeSelector")),
         tolerations=tuple(Toleration(
             text(each, "key"), None if text(each, "operator") == "Exists" else text(each, "value"),

@@ -356,10 +356,10 @@ def read(files: Sequence[File], _: Library, wish: Wish) -> Model:
     jobs, left = jobs_of(parts, node)
     name = node or node_of(nodes, jobs.values())
     told = Host() if wish.cpus is not None else host_of(nodes, name)
-    host = Host(told.processors, units.DEFAULT_PERIOD, 1000)
-    model = Model(wish.host(host), names_host=wish.cpus is None)
-    here = on_node(jobs.values(), name)
     want = wish.want or ("usage" if parts["sacct"] else "request")
+    host = replace(wish, want=want).host(Host(told.processors, units.DEFAULT_PERIOD, 1000))
+    model = Model(host, names_host=wish.cpus is None)
+    here = on_node(jobs.values(), name)
     if parts["sacct"] and not wish.want:
         take_allotted(here, model)
     measured: dict[str, Measured] = {}

@@ -23,6 +23,8 @@ from arbiter_host.sources.wish import File, Wish
 NOT_SET = ("", "[not set]", "infinity", "18446744073709551615")
 # A quota of systemd is a number of hundredths of a percent of one CPU.
 QUOTA = re.compile(r"([0-9]{1,9})(?:\.([0-9]{1,2}))?%")
+# CPUShares that are the default weight.
+DEFAULT_SHARES = 1024
 # Greatest quota that systemd can write, in hundredths of a percent.
 MOST_QUOTA = 10**9
 # The properties of a unit by their names.
@@ -84,9 +86,13 @@ def set_limit(group: Group, unit: Properties) -> None:
 
 
 def set_weight(group: Group, unit: Properties, notes: list[str]) -> None:
-    """Sets the weight. `idle` is the least."""
-    word = unit.get("CPUWeight", "")
+    """Sets the weight. `idle` is the least. Without one systemd makes it of CPUShares."""
+    word, shares = unit.get("CPUWeight", ""), whole(unit.get("CPUShares", ""))
     weight = 1 if word == "idle" else whole(word)
+    if word in NOT_SET and shares is not None:
+        weight = shares * units.DEFAULT_WEIGHT // DEFAULT_SHARES
+        weight = min(max(weight, units.MIN_WEIGHT), units.MAX_WEIGHT)
+        notes.append(f"{group.path}: CPUShares {shares}: weight {weight} is taken")
     if weight is not None:
         group.weight = min(max(weight, units.MIN_WEIGHT), units.MAX_WEIGHT)
     if word == "idle":
@@ -282,6 +288,6 @@ def read(files: Sequence[File], _: Library, wish: Wish) -> Model:
                         " '*.scope'` prints them")
     properties = {path: unit for path, unit in readings[0].items()
                   if path not in ("", ".") and path.count("/") < MAX_DEPTH}
-    want = wish.want or ("usage" if len(files) > 1 else "busy")
+    wish = replace(wish, want=wish.want or ("usage" if len(files) > 1 else "busy"))
     return UnitSource(wish.machine(), wish.seconds, properties, tuple(readings), "" in readings[0],
-                      want=want).model()
+                      want=wish.want).model()
