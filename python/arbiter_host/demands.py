@@ -55,6 +55,15 @@ class Use:
     values: tuple[Fraction, ...]
     wanted: Fraction = Fraction(0)
     span: Fraction | None = None
+    # The groups of which it is, such as replicas of one container.
+    groups: int = 1
+
+
+def together(uses: Sequence[Use]) -> Use:
+    """What was seen of several groups that have the same settings."""
+    spans = [each.span for each in uses if each.span is not None]
+    return Use(tuple(value for each in uses for value in each.values),
+               max(each.wanted for each in uses), max(spans, default=None), len(uses))
 
 
 def rise(before: int | None, after: int | None) -> int | None:

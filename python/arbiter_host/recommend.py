@@ -76,8 +76,9 @@ class Proposal:
     def data(self) -> dict[str, Any]:
         """What it was and is to be, as data."""
         span = self.use.span
-        return {"samples": len(self.use.values), "span_seconds": None if span is None else
-                float(span), "used_millicpu": float(self.used), "most_millicpu": float(self.most),
+        return {"samples": len(self.use.values), "of": self.use.groups,
+                "span_seconds": None if span is None else float(span),
+                "used_millicpu": float(self.used), "most_millicpu": float(self.most),
                 "throttled": self.is_throttled, "request_millicpu": self.now.request,
                 "limit_millicpu": self.now.limit,
                 "recommended": {"request_millicpu": self.then.request,
@@ -184,7 +185,7 @@ def proposal(kind: Owned, path: str, use: Use, rule: Rule) -> Proposal:
     """
     now, used, limit = kind.now(path), demands.percentile(use.values, rule.percent), None
     request = rule.with_headroom(used)
-    if now.limit is not None and rule.limit and len(use.values) > 1:
+    if now.limit is not None and rule.limit and len(use.values) > use.groups:
         greatest = max(demands.percentile(use.values, rule.limit), use.wanted)
         limit = max(rule.with_headroom(greatest), request)
     most = now.limit if limit is None else limit
@@ -194,6 +195,16 @@ def proposal(kind: Owned, path: str, use: Use, rule: Rule) -> Proposal:
     return Proposal(path, kind.title(path), used, use, now, then, words, tuple(
         each for each in kind.settings(path, then)
         if each.value != words[kind.keys.index(each.key)]))
+
+
+def by_owner(kind: Owned, uses: Mapping[str, Use]) -> dict[str, Use]:
+    """The use of each group of whose owner something was seen: all that was seen of the owner's, so
+    that they have one proposal."""
+    owners: dict[str, list[Use]] = {}
+    for path, use in uses.items():
+        owners.setdefault(kind.owner(path), []).append(use)
+    whole = {owner: demands.together(each) for owner, each in owners.items()}
+    return {path: whole[owner] for path in kind.own if (owner := kind.owner(path)) in whole}
 
 
 def asking(model: Model, asked: Sequence[Fraction | None]) -> Model:
@@ -209,10 +220,11 @@ def recommended(engine: Engine, model: Model, uses: Mapping[str, Use], rule: Rul
     kind = owned_of(model)
     if not uses:
         raise HostFault(f"nothing was seen of any {kind.noun} here: --used says what they used")
-    own = [path for path in model.groups if path in uses and (paths is None or path in paths)]
+    whole = by_owner(kind, uses)
+    own = [path for path in model.groups if path in whole and (paths is None or path in paths)]
     if not own:
         raise NothingFound(f"nothing was seen of any {kind.noun} that is chosen")
-    proposals = [proposal(kind, path, uses[path], rule) for path in own]
+    proposals = [proposal(kind, path, whole[path], rule) for path in own]
     changed = kind.changed([each for one in proposals for each in one.settings]).model()
     asked = [demands.percentile(uses[path].values, rule.percent) if path in uses else None
              for path in model.groups]

@@ -1,7 +1,7 @@
 """Settings that people own, such as requests, with which goals are met.
 
-They are raised one after another over accepted plans. A limit that is in the way is raised with what
-weighs its group.
+They are raised one after another over accepted plans. A limit that is in the way is raised with
+what weighs its group.
 """
 from __future__ import annotations
 

@@ -153,6 +153,26 @@ def test_an_idle_guaranteed_container(ctl, folder):
     assert by["x/b/c"]["set"] == ["x/b/c.request=10m", "x/b/c.limit=10m"]
 
 
+def test_replicas_of_one_owner(ctl, folder):
+    """Replicas of a Deployment have one proposal of all that was seen of them: p95 of 200m, 940m,
+    300m is 940m. A third one of which nothing is known has it too, so `apply` writes one patch."""
+    source = node_of(folder, "4")
+    found = json.loads(source.read_text())
+    first = found["items"][0]
+    for name in ("a1", "a2", "a3"):
+        found["items"].insert(0, {**first, "metadata": {
+            "name": name, "namespace": "x", "uid": name, "labels": {"pod-template-hash": "5d"},
+            "ownerReferences": [{"kind": "ReplicaSet", "name": "web-5d", "controller": True}]}})
+    source.write_text(json.dumps(found))
+    (folder / "h.csv").write_text("time,x/a1/c,x/a2/c\n1,200m,300m\n2,940m,\n")
+    by, _, _ = recommended(ctl, source, "--used", folder / "h.csv")
+    assert {name: (amounts(each), each["samples"], each["of"]) for name, each in by.items()} == {
+        f"x/a{at}/c": ((1081, None), 3, 2) for at in (1, 2, 3)}
+    sets = [word for each in by.values() for one in each["set"] for word in ("--set", one)]
+    out, _ = ctl.run("apply", source, *sets, "-o", "kubectl")
+    assert out.count("1081m") == 1 and "deployment" in out.lower()
+
+
 def test_use_below_the_least(ctl, folder):
     """10m are the least that is requested."""
     by, _, _ = recommended(ctl, node_of(folder, "2"), "--used", top_of(folder, a="1m"))

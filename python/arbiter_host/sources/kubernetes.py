@@ -280,6 +280,10 @@ class PodSource(Measurable):
     def title(self, path: str) -> str:
         return self.plain.groups[path].title
 
+    def owner(self, path: str) -> str:
+        pod, number, _ = self.part(path)
+        return f"{pod.owner}/{pod.parts[number].name}" if pod.owner else path
+
     def part(self, path: str) -> tuple[Pod, int, Amounts]:
         """The pod of a container, its number there, and its request and limit."""
         place, number = self.built[1][path]

@@ -21,6 +21,8 @@ from arbiter_host.sources.systemd import slice_folder
 
 TOP = "kubepods"
 KEYS = ("requests", "limits")
+# Kinds that make pods of a template.
+TEMPLATED = ("Deployment", "StatefulSet", "DaemonSet", "ReplicaSet", "ReplicationController")
 CLASSES = {"Guaranteed": TOP, "Burstable": f"{TOP}/burstable", "BestEffort": f"{TOP}/besteffort"}
 # Names of kubelet's groups, by either of its drivers.
 KUBELET = re.compile(r"kubepods([-.].*)?")
@@ -85,6 +87,8 @@ class Pod:
     selector: tuple[tuple[str, str], ...] = ()
     tolerations: tuple[Toleration, ...] = ()
     labels: tuple[tuple[str, str], ...] = ()
+    # What makes it of a template: kind, namespace and name; empty for nothing.
+    owner: str = ""
 
     @property
     def title(self) -> str:
@@ -271,6 +275,18 @@ def pairs_of(labels: dict[str, Any]) -> tuple[tuple[str, str], ...]:
     return tuple(sorted((key, text(labels, key)) for key in labels))
 
 
+def owner_of(metadata: dict[str, Any], namespace: str) -> str:
+    """What makes a pod of a template; empty for nothing. A ReplicaSet with the pod's hash behind
+    its name is its Deployment's."""
+    owner = next((each for each in tables(metadata, "ownerReferences")
+                  if each.get("controller") is True), None)
+    kind, name = text(owner, "kind"), text(owner, "name")
+    mark = text(metadata, "labels", "pod-template-hash")
+    if kind == "ReplicaSet" and mark and name.endswith(f"-{mark}"):
+        kind, name = "Deployment", name.removesuffix(f"-{mark}")
+    return f"{kind} {namespace}/{name}" if kind in TEMPLATED and name else ""
+
+
 def pod_of(pod: dict[str, Any], notes: list[str]) -> Pod:
     """A pod as kubelet reckons with it."""
     metadata, spec, (namespace, name) = table(pod, "metadata"), table(pod, "spec"), names_of(pod)
@@ -292,7 +308,7 @@ def pod_of(pod: dict[str, Any], notes: list[str]) -> Pod:
         tolerations=tuple(Toleration(
             text(each, "key"), None if text(each, "operator") == "Exists" else text(each, "value"),
             text(each, "effect")) for each in tables(spec, "tolerations")),
-        labels=pairs_of(table(metadata, "labels")))
+        labels=pairs_of(table(metadata, "labels")), owner=owner_of(metadata, namespace))
 
 
 def node_facts(node: dict[str, Any] | None) -> NodeFacts:
