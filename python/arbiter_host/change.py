@@ -5,6 +5,7 @@ from collections.abc import Iterator, Sequence
 from contextlib import contextmanager
 from dataclasses import replace
 
+from arbiter import Host
 from arbiter_host import demands, names, output, owned, units
 from arbiter_host.faults import HostFault, UsageFault
 from arbiter_host.model import Group, Model, check_settings, checked
@@ -104,7 +105,14 @@ def made_again(model: Model, words: Sequence[str]) -> Model:
     return after if after.host == model.host else after.with_host(model.host)
 
 
-def on_host(model: Model, words: Sequence[str]) -> Model:
+def on_host(model: Model, host: Host) -> Model:
+    """The model on another host."""
+    if host == model.host:
+        return model
+    return model.with_host(host) if model.owned is None else model.owned.on_host(host).model()
+
+
+def on_named_host(model: Model, words: Sequence[str]) -> Model:
     """The model on another host, by words such as `.cpus=8`."""
     host = model.host
     for word in words:
@@ -112,14 +120,13 @@ def on_host(model: Model, words: Sequence[str]) -> Model:
         with naming(word):
             host = replace(host, **{hostfile.HOST_KEYS[key]: hostfile.whole(taken(key, value))
                                     if key == "cpus" else units.parse_time(value)})
-    host = checked(host)
-    return model.with_host(host) if model.owned is None else model.owned.on_host(host).model()
+    return on_host(model, checked(host))
 
 
 def changed(model: Model, words: Sequence[str]) -> Model:
     """A copy of a model with the changes: of the host, then of what people own, then others."""
     of_host = [word for word in words if is_host(word)]
-    model = on_host(model, of_host) if of_host else model
+    model = on_named_host(model, of_host)
     words = [word for word in words if not is_host(word)]
     own = [word for word in words if is_owned(word)]
     rest = [word for word in words if not is_owned(word)]

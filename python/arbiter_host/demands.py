@@ -37,8 +37,10 @@ class Measured:
     request: Fraction | None = None
     # Number of its tasks where it was read.
     tasks: int | None = None
-    # Thousandths of a CPU that it used at one time or more, as others have measured it.
+    # Thousandths of a CPU that it used at one time or more, as others have measured it, and the
+    # seconds from the first to the last of them; None where that is not told.
     told: tuple[Fraction, ...] = ()
+    span: Fraction | None = None
 
 
 # The place of a group among what a source has read.
@@ -47,11 +49,21 @@ Place = tuple[int, int]
 
 @dataclass(frozen=True)
 class Use:
-    """What was seen of a group: thousandths in each sample, and what it wanted at least where its
-    limit has throttled it."""
+    """What was seen of a group: thousandths in each sample, what it wanted at least where its limit
+    has throttled it, and the seconds from first to last; None where that is not told."""
 
     values: tuple[Fraction, ...]
     wanted: Fraction = Fraction(0)
+    span: Fraction | None = None
+    # The groups of which it is, such as replicas of one container.
+    groups: int = 1
+
+
+def together(uses: Sequence[Use]) -> Use:
+    """What was seen of several groups that have the same settings."""
+    spans = [each.span for each in uses if each.span is not None]
+    return Use(tuple(value for each in uses for value in each.values),
+               max(each.wanted for each in uses), max(spans, default=None), len(uses))
 
 
 def rise(before: int | None, after: int | None) -> int | None:
@@ -117,10 +129,11 @@ def use_of(group: Group, measured: Measured, host: Host, seconds: Fraction) -> U
     values = used(measured, seconds)
     if not values:
         return None
+    span = measured.span if measured.told else seconds * len(values)
     if not sum(rises(measured.readings, "throttled")):
-        return Use(tuple(values))
+        return Use(tuple(values), span=span)
     counted = replace(measured, readings=[each._replace(pressure=0) for each in measured.readings])
-    return Use(tuple(values), pressed(group, counted, host, seconds))
+    return Use(tuple(values), pressed(group, counted, host, seconds), span)
 
 
 def wanted(want: str, group: Group, measured: Measured, host: Host,

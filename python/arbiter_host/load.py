@@ -110,7 +110,7 @@ def read_tree(options: argparse.Namespace, paths: Sequence[str]) -> Model:
     if times.number == 1 and len(paths) == 1 and want in demands.OF_USE:
         raise UsageFault(f"--want {want}: use is measured from one reading to the next: --read"
                          " 2x1s")
-    return cgroups.read(paths, by_options.machine(options), times, want)
+    return cgroups.read(paths, by_options.machine(options, want), times, want)
 
 
 def read_files(options: argparse.Namespace, kind: str, files: Sequence[File],

@@ -2,6 +2,7 @@
 from __future__ import annotations
 
 from collections.abc import Sequence
+from contextlib import suppress
 from dataclasses import dataclass, field, replace
 from fractions import Fraction
 from typing import TYPE_CHECKING
@@ -19,6 +20,8 @@ MAX_PROCESSORS = 64
 MAX_CAPACITY = 64000
 MAX_GROUPS = 16384
 MAX_DEPTH = 64
+# Periods of measured use, the one with the finest slices first.
+FINE = (units.MAX_PERIOD, 500000, 200000)
 
 
 def checked(host: Host) -> Host:
@@ -32,6 +35,15 @@ def checked(host: Host) -> Host:
     if not 1 <= host.processors <= MAX_CAPACITY:
         raise HostFault(f"CPUs {host.processors}: not 1 to {MAX_CAPACITY}", 2)
     planned(host)
+    return host
+
+
+def fine(host: Host) -> Host:
+    """A host of as many CPUs with slices of 1 ms and a period of 1 s, or else the longest that can
+    be planned. Use is in microseconds: a slice of 10m would hide what is below it."""
+    for period in FINE:
+        with suppress(HostFault):
+            return checked(Host(host.processors, period, 1000))
     return host
 
 

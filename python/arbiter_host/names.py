@@ -210,3 +210,9 @@ def pattern(text: str) -> re.Pattern[str]:
 def pattern_of_end(text: str) -> re.Pattern[str]:
     """The pattern of paths that end with a text. In it `*` stands for any letters but a slash."""
     return re.compile("(?:.*/)?" + shape(text, "[^/]"), re.DOTALL)
+
+
+def slice_folder(name: str) -> str:
+    """The folder of a slice: `a-b.slice` stands in `a.slice`."""
+    parts = name.removesuffix(".slice").split("-")
+    return "/".join("-".join(parts[:count]) + ".slice" for count in range(1, len(parts) + 1))

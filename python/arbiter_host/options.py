@@ -162,7 +162,8 @@ TABLE = (
     Option(("--goal",), "goal", "change", ("tune",), "what each group that matches is to get at"
            " least: web=2cpu, 'runner@*=1500m'; may be said again", "GROUP=AMOUNT", is_many=True),
     Option(("--target",), "target", "change", ("recommend",), "the percentile of the use that is"
-           " requested, p1 to p100 or max (default p95)", "pN", default="p95"),
+           " requested, p1 to p100 or max; behind a comma that of the limit, as in p95,max (default"
+           " p95: limits stay)", "pN[,pN]", default="p95"),
     Option(("--headroom",), "headroom", "change", ("recommend",), "what is put on top of it, in"
            " percent of it (default 15)", "PERCENT", default="15"),
     Option(("--alert",), "alert", "alerts", ("top",), "[GROUP:]starved, throttled>5% (of its"

@@ -152,6 +152,10 @@ class Owned:
         """The name of a group, for people."""
         return path
 
+    def owner(self, path: str) -> str:
+        """What makes a group: all that one has made have the same settings."""
+        return path
+
     def now(self, path: str) -> Amounts:
         """The request and the limit of a group; None where it has none, or is not told of one."""
         group = self.plain.groups[path]

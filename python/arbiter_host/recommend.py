@@ -1,8 +1,9 @@
 """Proposes requests and limits for containers and units from what they used.
 
 The request is a percentile of the use and some headroom, as krr and the vertical pod autoscaler
-take it. The limit is the greatest use, or what a throttled container wanted, and the headroom. What
-each container then gets and is guaranteed is that of plans that the proved check accepted.
+take it. Where limits are asked for, one is the greatest use of several samples, or what a throttled
+container wanted, and the headroom. What each container then gets and is guaranteed is that of plans
+that the proved check accepted.
 """
 from __future__ import annotations
 
@@ -21,6 +22,7 @@ from arbiter_host.owned import Amounts, Owned, Setting
 from arbiter_host.plan import Engine, Plan, Planned, guarantees, plan
 from arbiter_host.sources import usage
 from arbiter_host.sources.samples import History
+from arbiter_host.sources.used import span
 
 # The least request that is proposed, in thousandths of a CPU, as krr has it.
 LEAST = 10
@@ -30,10 +32,16 @@ MOST_HEADROOM = 10
 
 @dataclass(frozen=True)
 class Rule:
-    """The percentile of the use that is requested, and the part that is put on top of it."""
+    """The percentile of the use that is requested, the part that is put on top of it, and the
+    percentile of limits; None where none are proposed."""
 
     percent: int = 95
     headroom: Fraction = Fraction(15, 100)
+    limit: int | None = None
+
+    def rank(self, count: int) -> int:
+        """The place of the percentile among so many samples in order, from 1 on."""
+        return max(math.ceil(count * self.percent / 100), 1)
 
     def with_headroom(self, used: Fraction) -> int:
         """Whole thousandths of a use with the headroom, rounded up."""
@@ -47,9 +55,9 @@ class Proposal:
     path: str
     title: str
     used: Fraction
-    most: Fraction
-    is_throttled: bool
+    use: Use
     now: Amounts
+    # Without a limit it keeps its own.
     then: Amounts
     # The settings as people write them: what weighs it and what limits it, now.
     words: tuple[str, str]
@@ -57,9 +65,20 @@ class Proposal:
     settings: tuple[Setting, ...]
 
     @property
+    def most(self) -> Fraction:
+        return max(self.use.values)
+
+    @property
+    def is_throttled(self) -> bool:
+        return self.use.wanted > 0
+
+    @property
     def data(self) -> dict[str, Any]:
         """What it was and is to be, as data."""
-        return {"used_millicpu": float(self.used), "most_millicpu": float(self.most),
+        span = self.use.span
+        return {"samples": len(self.use.values), "of": self.use.groups,
+                "span_seconds": None if span is None else float(span),
+                "used_millicpu": float(self.used), "most_millicpu": float(self.most),
                 "throttled": self.is_throttled, "request_millicpu": self.now.request,
                 "limit_millicpu": self.now.limit,
                 "recommended": {"request_millicpu": self.then.request,
@@ -91,6 +110,27 @@ class Recommendation:
     noun: str
     keys: tuple[str, str]
 
+    @property
+    def percentile(self) -> str:
+        """What the percentile is of so many samples, the fewest and the most of a group."""
+        counts = sorted({len(each.proposal.use.values) for each in self.rows})
+        spans = [each.proposal.use.span or 0 for each in self.rows]
+        many = " to ".join(map(str, dict.fromkeys([counts[0], counts[-1]])))
+        over = f" over {span_words(max(spans))}" if max(spans) else ""
+        ranks = [self.rule.rank(count) for count in (counts[0], counts[-1])]
+        whole = [rank == count for rank, count in zip(ranks, (counts[0], counts[-1]))]
+        means = ("the one that there is" if counts[-1] == 1 else "the greatest of them"
+                 if all(whole) else f"number {ranks[-1]} of {counts[-1]} in order")
+        return (f"p{self.rule.percent} of {many} sample{'s' if counts[-1] > 1 else ''}{over}"
+                f" is {means}")
+
+
+def span_words(seconds: Fraction | int) -> str:
+    """A time in its greatest unit."""
+    of, name = next(((of, name) for of, name in ((86400, "d"), (3600, "h"), (60, "min"))
+                     if seconds >= of), (1, "s"))
+    return f"{units.decimal(Fraction(seconds, of), 1)} {name}"
+
 
 def owned_of(model: Model) -> Owned:
     """What people own of a model's source; a fault where nothing is proposed to it."""
@@ -102,14 +142,16 @@ def owned_of(model: Model) -> Owned:
 
 
 def rule_of(target: str, headroom: str) -> Rule:
-    """The rule of two words such as `p95` and `15%`."""
-    match = TARGET.fullmatch("p100" if target == "max" else target)
-    if not match or not 1 <= int(match.group(1)) <= 100:
-        raise UsageFault(f"--target {names.shown(target)}: p1 to p100, or max")
+    """The rule of two words such as `p95`, or `p95,max` with limits, and `15%`."""
+    percents = [int(match.group(1)) for word in target.split(",", 1)
+                if (match := TARGET.fullmatch("p100" if word == "max" else word))]
+    if len(percents) <= target.count(",") or not all(1 <= each <= 100 for each in percents):
+        raise UsageFault(f"--target {names.shown(target)}: p1 to p100, or max; with limits two of"
+                         " them, such as p95,max")
     parsed = units.number_and_unit(headroom)
     if parsed is None or parsed[1] not in ("%", "") or parsed[0] > MOST_HEADROOM * 100:
         raise UsageFault(f"--headroom {names.shown(headroom)}: 0% to {MOST_HEADROOM * 100}%")
-    return Rule(int(match.group(1)), parsed[0] / 100)
+    return Rule(percents[0], parsed[0] / 100, *percents[1:])
 
 
 def of_history(model: Model, history: History, unit: str,
@@ -118,8 +160,9 @@ def of_history(model: Model, history: History, unit: str,
 
     An empty cell is no sample.
     """
-    kind, values = owned_of(model), dict[str, list[Fraction]]()
-    missing, samples = [], [each.demands(unit, model.host) for each in history.samples]
+    kind, values = owned_of(model), dict[str, list[tuple[str, Fraction]]]()
+    missing, samples = [], [(each.name, each.demands(unit, model.host))
+                            for each in history.samples]
     for column in history.columns:
         paths = kind.named(mapping.get(column, column))
         if len(paths) != 1:
@@ -128,25 +171,40 @@ def of_history(model: Model, history: History, unit: str,
         if paths[0] in values:
             raise HostFault(f"column {names.shown(column)}: another one is of the same"
                             f" {kind.noun}")
-        values[paths[0]] = [each[column] for each in samples if column in each]
+        values[paths[0]] = [(name, each[column]) for name, each in samples if column in each]
     told = [f"columns of no {kind.noun} here, {usage.some(missing)}"] if missing else []
-    return {path: Use(tuple(each)) for path, each in values.items() if each}, told
+    return {path: Use(tuple(demand for _, demand in each), span=span(each[0][0], each[-1][0]))
+            for path, each in values.items() if each}, told
 
 
 def proposal(kind: Owned, path: str, use: Use, rule: Rule) -> Proposal:
-    """The request and the limit of one group. One without a limit gets none.
+    """The request of one group, and a limit where limits are asked for, it has one, and it was seen
+    more than once. Else it keeps its own, and requests no more than that.
 
     In a guaranteed pod the request is the limit, so that its class stays.
     """
-    now = kind.now(path)
-    used, most = demands.percentile(use.values, rule.percent), max(use.values)
-    request, limit = rule.with_headroom(used), None
-    if now.limit is not None:
-        limit = max(rule.with_headroom(max(most, use.wanted)), request)
-        request = limit if kind.is_guaranteed(path) else request
-    then = Amounts(request, limit)
-    return Proposal(path, kind.title(path), used, most, use.wanted > 0, now, then,
-                    kind.words(path), tuple(kind.settings(path, then)))
+    now, used, limit = kind.now(path), demands.percentile(use.values, rule.percent), None
+    request = rule.with_headroom(used)
+    if now.limit is not None and rule.limit and len(use.values) > use.groups:
+        greatest = max(demands.percentile(use.values, rule.limit), use.wanted)
+        limit = max(rule.with_headroom(greatest), request)
+    most = now.limit if limit is None else limit
+    if most is not None:
+        request = most if kind.is_guaranteed(path) else min(request, most)
+    then, words = Amounts(request, limit), kind.words(path)
+    return Proposal(path, kind.title(path), used, use, now, then, words, tuple(
+        each for each in kind.settings(path, then)
+        if each.value != words[kind.keys.index(each.key)]))
+
+
+def by_owner(kind: Owned, uses: Mapping[str, Use]) -> dict[str, Use]:
+    """The use of each group of whose owner something was seen: all that was seen of the owner's, so
+    that they have one proposal."""
+    owners: dict[str, list[Use]] = {}
+    for path, use in uses.items():
+        owners.setdefault(kind.owner(path), []).append(use)
+    whole = {owner: demands.together(each) for owner, each in owners.items()}
+    return {path: whole[owner] for path in kind.own if (owner := kind.owner(path)) in whole}
 
 
 def asking(model: Model, asked: Sequence[Fraction | None]) -> Model:
@@ -162,10 +220,11 @@ def recommended(engine: Engine, model: Model, uses: Mapping[str, Use], rule: Rul
     kind = owned_of(model)
     if not uses:
         raise HostFault(f"nothing was seen of any {kind.noun} here: --used says what they used")
-    own = [path for path in model.groups if path in uses and (paths is None or path in paths)]
+    whole = by_owner(kind, uses)
+    own = [path for path in model.groups if path in whole and (paths is None or path in paths)]
     if not own:
         raise NothingFound(f"nothing was seen of any {kind.noun} that is chosen")
-    proposals = [proposal(kind, path, uses[path], rule) for path in own]
+    proposals = [proposal(kind, path, whole[path], rule) for path in own]
     changed = kind.changed([each for one in proposals for each in one.settings]).model()
     asked = [demands.percentile(uses[path].values, rule.percent) if path in uses else None
              for path in model.groups]
@@ -196,6 +255,7 @@ def as_data(advice: Recommendation) -> dict[str, Any]:
             "settings": {key: {"now": now, "then": then.get(key)}
                          for key, now in zip(advice.keys, one.words)}})
     return {"percent": advice.rule.percent, "headroom": float(advice.rule.headroom),
+            "percentile": advice.percentile,
             "engine": advice.after.by, "requests_millicpu": requests[0],
             "recommended_requests_millicpu": requests[1],
             "allocatable_millicpu": advice.allocatable, f"{advice.noun}s": rows}

@@ -1,6 +1,7 @@
 """Settings that people own, such as requests, with which goals are met.
 
-They are raised one after another over accepted plans.
+They are raised one after another over accepted plans. A limit that is in the way is raised with
+what weighs its group.
 """
 from __future__ import annotations
 
@@ -19,19 +20,24 @@ from arbiter_host.plan import Plan
 # At most so many settings are raised one by one.
 MOST_RAISES = 200
 RAISED = "one after another, each the least beside the others; not proved to be the least"
+LIFTED = "; a limit that is in the way is raised too"
 
 
 @dataclass(frozen=True)
 class Raised:
-    """Settings of a source that weigh some rows, and the plan with them."""
+    """Settings of a source that weigh some rows, and limits of these; and the plan with them."""
 
     goals: Goals
     source: Owned
-    settings: dict[int, Setting]
+    settings: dict[int, tuple[Setting, ...]]
+
+    @property
+    def every(self) -> list[Setting]:
+        return [each for some in self.settings.values() for each in some]
 
     @property
     def model(self) -> Model:
-        return owned.remade(self.goals.before.model, self.source, list(self.settings.values()))
+        return owned.remade(self.goals.before.model, self.source, self.every)
 
     def plan(self) -> Plan:
         return self.goals.plan_of(self.model)
@@ -44,31 +50,57 @@ class Raised:
 
     def with_value(self, row: int, of: Range, value: int) -> Raised:
         setting = Setting(self.goals.before.groups[row].path, of.key, of.written(value))
-        return replace(self, settings={**self.settings, row: setting})
+        others = [each for each in self.settings.get(row, ()) if each.key != of.key]
+        return replace(self, settings={**self.settings, row: (*others, setting)})
 
-    def range_of(self, goal: Goal) -> tuple[int, Range] | str:
-        """The row and the values of the setting that a goal can be met by, beside the others; or
-        why there is none."""
+    def ranges(self, row: int) -> list[Range]:
+        """The values of the settings of a row, beside the others."""
+        changed = self.source.changed(self.every)
+        return changed.ranges(list(changed.plain.groups)[row - 1])
+
+    def least(self, goal: Goal, row: int, of: Range) -> int | None:
+        """The least value of a setting of a row that meets one goal."""
+        return search.least_of(of.parts, lambda each: self.goals.amount(
+            self.with_value(row, of, each).plan(), goal.group.row) >= goal.amount)
+
+    def row_of(self, goal: Goal) -> int | str:
+        """The row of the setting that a goal can be met by, or why there is none."""
         meant, where = self.source.meant(goal.group.path), shown(goal.group.path)
         if len(meant) != 1:
             return f"{where} has no such setting of its own"
         row = self.goals.before.by_path()[meant[0]].row
         if row in self.goals.kept:
             return f"{where} falls short, and its setting is kept"
-        changed = self.source.changed(list(self.settings.values()))
-        return row, changed.weighing(list(changed.plain.groups)[row - 1])
+        return row
 
     def raised(self, goal: Goal) -> Raised | str:
         """The same with the least value that meets one goal, or why there is none."""
-        known = self.range_of(goal)
-        if isinstance(known, str):
-            return known
-        row, of = known
-        value = search.least_of(of.parts, lambda each: self.goals.amount(
-            self.with_value(row, of, each).plan(), goal.group.row) >= goal.amount)
-        if value is None:
-            return f"{shown(goal.group.path)}: no {of.key} reaches its goal ({of.most})"
-        return self.with_value(row, of, value)
+        row = self.row_of(goal)
+        if isinstance(row, str):
+            return row
+        of = self.ranges(row)[0]
+        value = self.least(goal, row, of)
+        if value is not None:
+            return self.with_value(row, of, value)
+        return self.lifted(goal, row) or (
+            f"{shown(goal.group.path)}: no {of.key} reaches its goal ({of.most})")
+
+    def lifted(self, goal: Goal, row: int) -> Raised | None:
+        """The same with the least value that meets one goal under the greatest limit, and then the
+        least limit beside it; None where the row has no limit, or none helps."""
+        limit = self.ranges(row)[1]
+        if limit.now == "-" or not limit.parts:
+            return None
+        wide = self.with_value(row, limit, limit.parts[-1][1])
+        if self.goals.amount(wide.plan(), goal.group.row) < goal.amount:
+            of = wide.ranges(row)[0]
+            value = wide.least(goal, row, of)
+            if value is None:
+                return None
+            wide = wide.with_value(row, of, value)
+        limit = wide.ranges(row)[1]
+        most = wide.least(goal, row, limit)
+        return None if most is None else wide.with_value(row, limit, most)
 
     def weighed(self, weights: Sequence[int]) -> Raised | None:
         """The same with the least settings that give groups some weights at least, and no other
@@ -92,9 +124,9 @@ class Raised:
         return list(after.groups.values())[row - 1].weight >= weight
 
     def changes(self) -> list[NewSetting]:
-        return [NewSetting(setting.path, setting.key, now, setting.value)
-                for setting in (self.settings[row] for row in sorted(self.settings))
-                if (now := self.source.weighing(setting.path).now) != setting.value]
+        return [NewSetting(path, key, of.now, value)
+                for _, some in sorted(self.settings.items()) for path, key, value in some
+                for of in self.source.ranges(path) if of.key == key and of.now != value]
 
 
 def raised(start: Raised) -> Raised | str:
@@ -123,8 +155,9 @@ def by_settings(goals: Goals, weights: Way | Unmet) -> Way | str | None:
     if isinstance(known, str):
         return known
     rows, more = goals.needed(sorted(known.settings), known.plan_with, "settings")
-    known, told = known.only(rows), RAISED + more
-    after = known.plan()
-    if isinstance(weights, Way) and after.weights == weights.plan.weights:
+    known = known.only(rows)
+    after, is_lifted = known.plan(), source.keys[1] in {each.key for each in known.every}
+    told = RAISED + more + (LIFTED if is_lifted else "")
+    if isinstance(weights, Way) and after.weights == weights.plan.weights and not is_lifted:
         told = weights.told
     return goals.way(after, known.changes(), told)

@@ -184,11 +184,11 @@ def test_nodes_that_take_no_such_pod(ctl):
 
 
 def test_usage_of_a_cluster(ctl, folder):
-    """Each node has the use of its pods: n1 308 slices, and n2 70. A pod that waits asks anew."""
+    """Each node has the use of its pods: n1 3.067 CPUs, and n2 0.7. A pod that waits asks anew."""
     top = (FIXTURES / "top.txt").read_text() + "prod api-0 main 700m 9Mi\nteam far main 1m 9Mi\n"
     (folder / "top").write_text(top)
     found, err = planned(ctl, CLUSTER, "--used", folder / "top")
-    assert [(each["host"], each["wanted"]) for each in found["hosts"]] == [("n1", 308), ("n2", 70)]
+    assert [(each["host"], each["wanted"]) for each in found["hosts"]] == [("n1", 3067), ("n2", 700)]
     assert ("used by pods that no node here has: 2: kube-system/coredns-5d78-4x2, team/far" in err)
     job = found["pending"][0]
     assert (job["host"], job["wants_cpus"], job["gets_cpus"]) == ("n2", 1, 1)
@@ -203,7 +203,7 @@ def test_usage_of_a_cluster(ctl, folder):
 def test_a_history_of_a_cluster(ctl, folder):
     """Two samples of 300m and 500m: their mean by itself, the greatest by --want peak."""
     (folder / "h.csv").write_text("time,prod/api-0/main\n1,300m\n2,500m\n")
-    for words, slices in (((), 40), (("--want", "peak"), 50)):
+    for words, slices in (((), 400), (("--want", "peak"), 500)):
         found, _ = planned(ctl, CLUSTER, "--used", folder / "h.csv", *words, status=1)
         assert [(each["host"], each["wanted"]) for each in found["hosts"]] == [("n2", slices)]
 

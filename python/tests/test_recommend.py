@@ -50,24 +50,24 @@ def top_of(folder, **used):
 def test_who_is_short_and_what_is_guaranteed(ctl, folder):
     """900m and 600m and 15% are 1035m and 690m: 1059 and 706 shares, weights 41 and 27.
 
-    Of 100 slices these are 60 and 40. With weights 4 and 12 b has its 60 and a the rest. Where all
-    others ask, best effort takes 1, the pods have 60 and 39, and their pause containers 1 each.
+    Of 1000 slices these are 603 and 397. With weights 4 and 12 b has its 600 and a the rest. Where
+    all others ask, best effort takes 14, and pause containers 1 of 42 and 1 of 28 parts.
     """
     words = (node_of(folder, "1"), "--used", top_of(folder, a="900m", b="600m"))
     by, found, err = recommended(ctl, *words)
     assert [amounts(by[name]) for name in ("x/a/c", "x/b/c")] == [(1035, None), (690, None)]
     assert [(each["gets_now_millicpu"], each["gets_millicpu"], each["guaranteed_millicpu"])
-            for each in by.values()] == [(400, 600, 590), (600, 400, 380)]
+            for each in by.values()] == [(400, 603, 581), (600, 397, 377)]
     assert (found["requests_millicpu"], found["recommended_requests_millicpu"],
             found["allocatable_millicpu"]) == (400, 1725, 1000)
     assert "the pods request 1725m of the 1000m that the node has for them" in err
     assert by["x/a/c"]["set"] == ["x/a/c.request=1035m"]
     out, _ = ctl.run("recommend", *words)
-    assert "p95 of at most 1 sample, and 15% on top; the proved check accepted the plan" in out
+    assert "p95 of 1 sample is the one that there is; 15% on top; the proved check accepted" in out
     assert "short when each uses this at once: 2 (x/a/c, x/b/c)" in out
     assert "requests of all pods: 400m now, 1725m then, of 1000m that the node has" in out
-    assert out.split("\n")[-2].split() == ["600m", "600m", "300m", "690m", "-", "-", "400m",
-                                           "380m", "x/b/c"]
+    assert out.split("\n")[-2].split() == ["600m", "600m", "300m", "690m", "-", "-", "397m",
+                                           "377m", "x/b/c"]
 
 
 def test_what_is_proposed_can_be_compared(ctl, folder):
@@ -77,7 +77,7 @@ def test_what_is_proposed_can_be_compared(ctl, folder):
     sets = [word for each in by.values() for one in each["set"] for word in ("--set", one)]
     out, _ = ctl.run("diff", *words, *sets, "-o", "json")
     gets = {each["group"]: each["gets"]["millicpu"] for each in json.loads(out)["after"]["groups"]}
-    assert [gets[f"kubepods/burstable/x:{name}/c"] for name in "ab"] == [600, 400]
+    assert [gets[f"kubepods/burstable/x:{name}/c"] for name in "ab"] == [603, 397]
 
 
 def test_containers_that_are_chosen(ctl, folder):
@@ -106,7 +106,7 @@ def test_percentiles_of_a_history(ctl, folder, target, headroom, a, b):
     """Nearest ranks of the samples that are there; a pod of one container stands for it."""
     (folder / "h.csv").write_text(HISTORY)
     by, _, err = recommended(ctl, node_of(folder, "2", "1"), "--used", folder / "h.csv",
-                             "--target", target, "--headroom", headroom)
+                             "--target", f"{target},max", "--headroom", headroom)
     assert (amounts(by["x/a/c"]), amounts(by["x/b/c"])) == (a, b) and "warning" not in err
 
 
@@ -116,9 +116,10 @@ def test_histories_are_one(ctl, folder):
     (folder / "1.csv").write_text("\n".join(lines[:11]))
     (folder / "2.csv").write_text("\n".join([lines[0], *lines[11:]]))
     (folder / "3.csv").write_text("time,other,x/*\n1,5m,7m\n")
-    by, _, err = recommended(ctl, node_of(folder, "2", "1"), *(
+    by, found, err = recommended(ctl, node_of(folder, "2", "1"), "--target", "p95,max", *(
         word for name in "123" for word in ("--used", folder / f"{name}.csv")))
     assert amounts(by["x/a/c"]) == (219, 230)
+    assert found["percentile"] == "p95 of 19 to 20 samples is number 19 of 20 in order"
     assert "used by containers that are not here, 2: other, x/*" in err
 
 
@@ -133,6 +134,45 @@ def test_names_of_measurements(ctl, folder, name, wanted):
     assert list(by) == [wanted] and "not here" not in err
 
 
+def test_an_idle_guaranteed_container(ctl, folder):
+    """One moment of 5m proposes neither a request nor a limit of 10m; a week of it does, if asked.
+    """
+    source = node_of(folder, "2", "300m")
+    pods = json.loads(source.read_text())
+    pods["items"][1]["status"] = {"qosClass": "Guaranteed"}
+    source.write_text(json.dumps(pods))
+    by, _, _ = recommended(ctl, source, "--used", top_of(folder, b="5m"), "--target", "p95,max")
+    assert by["x/b/c"]["set"] == [] and by["x/b/c"]["samples"] == 1
+    days = "".join(f"2026-11-0{day} 00:00:00,5m\n" for day in range(1, 9))
+    (folder / "h.csv").write_text("time,x/b/c\n" + days)
+    words = (source, "--used", folder / "h.csv")
+    by, found, _ = recommended(ctl, *words)
+    assert by["x/b/c"]["set"] == [] and by["x/b/c"]["span_seconds"] == 7 * 86400
+    assert found["percentile"] == "p95 of 8 samples over 7 d is the greatest of them"
+    by, _, _ = recommended(ctl, *words, "--target", "p95,max")
+    assert by["x/b/c"]["set"] == ["x/b/c.request=10m", "x/b/c.limit=10m"]
+
+
+def test_replicas_of_one_owner(ctl, folder):
+    """Replicas of a Deployment have one proposal of all that was seen of them: p95 of 200m, 940m,
+    300m is 940m. A third one of which nothing is known has it too, so `apply` writes one patch."""
+    source = node_of(folder, "4")
+    found = json.loads(source.read_text())
+    first = found["items"][0]
+    for name in ("a1", "a2", "a3"):
+        found["items"].insert(0, {**first, "metadata": {
+            "name": name, "namespace": "x", "uid": name, "labels": {"pod-template-hash": "5d"},
+            "ownerReferences": [{"kind": "ReplicaSet", "name": "web-5d", "controller": True}]}})
+    source.write_text(json.dumps(found))
+    (folder / "h.csv").write_text("time,x/a1/c,x/a2/c\n1,200m,300m\n2,940m,\n")
+    by, _, _ = recommended(ctl, source, "--used", folder / "h.csv")
+    assert {name: (amounts(each), each["samples"], each["of"]) for name, each in by.items()} == {
+        f"x/a{at}/c": ((1081, None), 3, 2) for at in (1, 2, 3)}
+    sets = [word for each in by.values() for one in each["set"] for word in ("--set", one)]
+    out, _ = ctl.run("apply", source, *sets, "-o", "kubectl")
+    assert out.count("1081m") == 1 and "deployment" in out.lower()
+
+
 def test_use_below_the_least(ctl, folder):
     """10m are the least that is requested."""
     by, _, _ = recommended(ctl, node_of(folder, "2"), "--used", top_of(folder, a="1m"))
@@ -142,29 +182,37 @@ def test_use_below_the_least(ctl, folder):
 def test_classes(ctl):
     """A guaranteed pod stays so: its limit is its request. Best effort becomes burstable, told.
 
-    1000m, 40m, 640m, 812m, 480m and 95m with 15% on top. The init container of db-0 keeps 2000m.
+    40m, 812m and 95m with 15% on top. The others request no more than their limits, as nginx 1000m
+    and app 500m. The init container of db-0 keeps 2000m.
     """
     by, found, err = recommended(ctl, PODS, NODE, "--used", FIXTURES / "top.txt")
     assert {name.split("/")[-1]: amounts(each) for name, each in by.items()} == {
-        "nginx": (1150, 1150), "metrics": (46, 46), "postgres": (736, 736), "report": (934, None),
-        "app": (552, 552), "envoy": (110, None)}
-    assert found["recommended_requests_millicpu"] == 1196 + 2000 + 934 + 912
+        "nginx": (1000, None), "metrics": (46, None), "postgres": (1000, None),
+        "report": (934, None), "app": (500, None), "envoy": (110, None)}
+    assert by["prod/db-0/postgres"]["set"] == []
+    assert found["recommended_requests_millicpu"] == 1046 + 2000 + 934 + 860
     assert "batch/report-x: Burstable and no more BestEffort" in err and "db-0" not in err
 
 
 def test_a_throttled_container(ctl, folder):
-    """Throttled in half of its periods at 1000m it wanted 2000m at least: a limit of 2300m."""
+    """Throttled in half of its periods at 1000m it wanted 2000m at least: a limit of 2300m. From
+    one reading to the next no limit is proposed."""
     pod = ("kubepods.slice/kubepods-burstable.slice/kubepods-burstable-pod00000001_0b1c_4d2e_8f3a_"
            "0123456789ab.slice")
     nginx = f"{pod}/cri-containerd-{'a1' * 32}.scope"
-    for copy, factor in (("a", 0), ("b", 1)):
+    for copy, factor in (("a", 0), ("b", 1), ("c", 2)):
         trees.root2(folder / copy)
         for above in reversed(Path(nginx).parents[:-1]):
             trees.group2(folder / copy / above, usage=3 * 10**6 * factor)
         trees.group2(folder / copy / nginx, usage=3 * 10**6 * factor, periods=100 * factor,
                      throttled=50 * factor, waited=9 * 10**6 * factor)
-    words = (PODS, NODE, "--used", folder / "a", "--used", folder / "b", "--read", "x10s")
-    by, _, _ = recommended(ctl, *words)
+    words = (PODS, NODE, "--target", "p95,max", "--read", "x10s", "--used", folder / "a", "--used",
+             folder / "b")
+    assert amounts(recommended(ctl, *words)[0]["prod/web-7c9f/nginx"]) == (345, None)
+    assert "limits that stay: 1 (of one sample none is proposed)" in ctl.run("recommend", *words)[0]
+    words += ("--used", folder / "c")
+    by, found, _ = recommended(ctl, *words)
+    assert found["percentile"] == "p95 of 2 samples over 20 s is the greatest of them"
     assert amounts(by["prod/web-7c9f/nginx"]) == (345, 2300)
     assert by["prod/web-7c9f/nginx"]["throttled"] is True
     out, _ = ctl.run("recommend", *words)
@@ -172,15 +220,18 @@ def test_a_throttled_container(ctl, folder):
 
 
 @pytest.mark.parametrize("target, headroom, wanted", [
-    ("p95", "15%", (95, Fraction(15, 100))), ("max", "0", (100, 0)), ("p1", "1000%", (1, 10)),
+    ("p95", "15%", (95, Fraction(15, 100), None)), ("max", "0", (100, 0, None)),
+    ("p1", "1000%", (1, 10, None)), ("p50,max", "0", (50, 0, 100)), ("p95,p99", "0", (95, 0, 99)),
 ])
 def test_rules(target, headroom, wanted):
     rule = recommend.rule_of(target, headroom)
-    assert (rule.percent, rule.headroom) == wanted
+    assert (rule.percent, rule.headroom, rule.limit) == wanted
 
 
 @pytest.mark.parametrize("target, headroom", [
-    ("p0", "15%"), ("p101", "15%"), ("95", "15%"), ("p9.5", "15%"), ("\x1b", "15%"), ("", "15%"),
+    ("p0", "15%"), ("p101", "15%"), ("95", "15%"), ("p9.5", "15%"),
+    ("p95,", "15%"), (",p95", "15%"), ("p95,p0", "15%"), ("p1,p2,p3", "15%"),
+    ("\x1b", "15%"), ("", "15%"),
     ("p95", "-1%"), ("p95", "x"), ("p95", "1001%"), ("p95", "15m"), ("p95", "1e99%"),
 ])
 def test_bad_rules(target, headroom):
@@ -214,7 +265,8 @@ def test_containers_of_docker(ctl, folder):
         {"Id": name * 64, "Name": f"/{name}", "Config": {"Image": "b"}, "HostConfig": config}
         for name, config in (("a", {}), ("b", {"CpuShares": 2048, "NanoCpus": 10**9}))]))
     (folder / "h.csv").write_text("time,a,b\n1,500m,300m\n2,500m,300m\n")
-    words = (folder / "d.json", "--cpus", "1", "--used", folder / "h.csv")
+    words = (folder / "d.json", "--cpus", "1", "--used", folder / "h.csv", "--target",
+             "p95,max")
     by, found, err = recommended(ctl, *words)
     assert {name: each["settings"] for name, each in by.items()} == {
         "system.slice/a": {"cpu-shares": {"now": "-", "then": "588"},
@@ -236,11 +288,12 @@ def test_containers_of_docker(ctl, folder):
 
 
 def test_stats_of_docker(ctl, folder):
-    """125.37% and 15% are 1442m, 1476 shares, and the limit is 1442m. job is not in the stats."""
-    by, _, _ = recommended(ctl, FIXTURES / "docker.json", "--cpus", "4", "--used",
-                           FIXTURES / "stats.json")
-    assert by["system.slice/web"]["set"] == ["system.slice/web.cpu-shares=1476",
-                                             "system.slice/web.cpus=1.442"]
+    """125.37% and 15% are 1442m, 1476 shares. One moment makes no limit. job is not in the stats.
+    """
+    by, found, _ = recommended(ctl, FIXTURES / "docker.json", "--cpus", "4", "--target",
+                               "p95,max", "--used", FIXTURES / "stats.json")
+    assert by["system.slice/web"]["set"] == ["system.slice/web.cpu-shares=1476"]
+    assert by["system.slice/web"]["samples"] == 1
     assert set(by) == {"system.slice/web", "system.slice/db"}
 
 
@@ -267,10 +320,10 @@ def test_units(ctl, folder):
     words = (units_of(folder, "1.show", 0), units_of(folder, "2.show", 1), "--read", "x10s",
              "--cpus", "4")
     found = json.loads(ctl.run("recommend", *words, "-o", "json")[0])["units"]
-    assert unit_settings(found) == {"a.service": (("100", "35"), ("50%", "34.5%")),
+    assert unit_settings(found) == {"a.service": (("100", "35"), ("50%", None)),
                                     "b.service": (("100", "138"), ("-", None))}
     out, _ = ctl.run("recommend", *words)
-    assert out.split("\n")[4].split() == ["used", "most", "CPUWeight", "then", "CPUQuota", "then",
+    assert out.split("\n")[5].split() == ["used", "most", "CPUWeight", "then", "CPUQuota", "then",
                                           "gets", "guaranteed", "unit"]
     _, err = ctl.run("recommend", words[0], "--cpus", "4", status=1)
     assert "nothing was seen of any unit here: --used says what they used" in err
@@ -285,5 +338,5 @@ def test_units_of_a_tree(ctl, folder):
         trees.group2(folder / copy / "plain", usage=factor)
     found = json.loads(ctl.run("recommend", folder / "a", folder / "b", "--read", "x10s", "--cpus",
                                "4", "-o", "json")[0])["units"]
-    assert unit_settings(found) == {"a.service": (("100", "35"), ("50%", "34.5%")),
+    assert unit_settings(found) == {"a.service": (("100", "35"), ("50%", None)),
                                     "b.service": (("100", "138"), ("-", None))}

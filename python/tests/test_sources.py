@@ -791,3 +791,65 @@ def test_podman(engine):
     group = model.groups["machine.slice/pod-web"]
     assert of(group) == (100, 50000, 100000)
     assert group.place == f"machine.slice/libpod-{'05' * 32}.scope"
+
+
+@pytest.mark.parametrize("weight, shares, wanted", [
+    ("[not set]", "512", 50), ("[not set]", "2", 1), ("[not set]", "1023", 99),
+    ("[not set]", "262144", 10000), ("[not set]", "[not set]", 100), ("300", "512", 300),
+    ("idle", "512", 1), ("[not set]", str(2**64 - 1), 100),
+])
+def test_shares_of_units(ctl, weight, shares, wanted):
+    """systemd makes a weight of 100 of 1024 shares, rounded down, where a unit has no CPUWeight."""
+    unit = f"Id=a.service\nControlGroup=/a.service\nCPUShares={shares}\nCPUWeight={weight}\n"
+    out, _ = ctl.run("export", "--from", "systemd", "-", "--cpus", "4", "-o", "json",
+                     given=unit.encode())
+    assert json.loads(out)["groups"]["a.service"].get("weight", 100) == wanted
+
+
+@pytest.mark.parametrize("request_, limit, wanted", [
+    ("1Gi", "1024Mi", "Guaranteed"), ("1Gi", "1073741824", "Guaranteed"),
+    (1073741824, "1Gi", "Guaranteed"), ("1e9", "1G", "Guaranteed"), ("1Gi", "1G", "Burstable"),
+    (None, "1Gi", "Guaranteed"), ("0", "1Gi", "Burstable"), ("1Gi", "0", "Burstable"),
+])
+def test_memory_is_compared_as_kubelet_does(request_, limit, wanted):
+    """By what quantities are, however they are written. 0 is none."""
+    found = {"cpu": "1"}
+    memory = {"requests": {**found, **({} if request_ is None else {"memory": request_})},
+              "limits": {**found, "memory": limit}}
+    pod = {"metadata": {"name": "p"}, "spec": {"containers": [{"name": "c", "resources": memory}]}}
+    assert kubernetes.pod_of(pod, []).quality == wanted
+
+
+def test_a_request_of_no_memory():
+    pod = {"metadata": {"name": "p"}, "spec": {"containers": [
+        {"name": "c", "resources": {"requests": {"memory": "0"}}}]}}
+    assert kubernetes.pod_of(pod, []).quality == "BestEffort"
+    pod["spec"]["containers"][0]["resources"] = {"limits": {"memory": "lots"}}
+    with pytest.raises(HostFault, match="default/p: 'lots' is no quantity of memory"):
+        kubernetes.pod_of(pod, [])
+
+
+@pytest.mark.parametrize("item, words", [
+    ({"kind": "Pod", "metadata": None, "spec": {"containers": []}}, "a pod without metadata"),
+    ({"kind": "Pod", "metadata": {"name": "x"}}, "default/x: a pod without spec"),
+    (7, "item 3 is no object"),
+])
+def test_an_object_that_cannot_be_read(ctl, folder, item, words):
+    """It ends the command by name, and is not left out: of one node and of a cluster."""
+    cluster = json.loads((FIXTURES / "cluster.json").read_text())
+    node = json.loads((FIXTURES / "node.json").read_text())
+    pod = json.loads((FIXTURES / "pods.json").read_text())["items"][0]
+    for items in ([node, pod, item], [*cluster["items"], item]):
+        (folder / "c.json").write_text(json.dumps({"kind": "List", "items": items}))
+        _, err = ctl.run("explain", folder / "c.json", status=1)
+        assert words in err or words == "item 3 is no object" and " is no object" in err
+
+
+@pytest.mark.parametrize("key, value", [("NanoCpus", "2e9"), ("CpuShares", 512.5),
+                                        ("CpuQuota", True), ("CpuPeriod", [1])])
+def test_a_setting_of_docker_that_cannot_be_read(ctl, key, value):
+    """It is refused by name, and is not none."""
+    found = json.loads((FIXTURES / "docker.json").read_text())
+    found[0]["HostConfig"][key] = value
+    _, err = ctl.run("explain", "-", "--cpus", "4", given=json.dumps(found).encode(), status=1)
+    assert f"{key} " in err and "is no whole number" in err

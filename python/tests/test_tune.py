@@ -363,6 +363,41 @@ def test_requests(ctl, folder):
     assert ["request", "100m", "182m", path] in [line.split() for line in out.split("\n")]
 
 
+def test_a_limit_in_the_way(ctl, folder):
+    """Under its limit of 300m a has no 400m: request and limit are raised together, and said.
+
+    Without the limit 182m are the least, and the limit has to be the 400m.
+    """
+    source = node_of(folder)
+    found = json.loads(source.read_text())
+    found["items"][0]["spec"]["containers"][0]["resources"]["limits"] = {"cpu": "300m"}
+    source.write_text(json.dumps(found))
+    words = ["--want", "busy"]
+    path = "kubepods/burstable/x:a/c"
+    way = asked(ctl, source, "x/a/c=400m", words=words)["settings"]
+    assert [(each["setting"], each["now"], each["then"]) for each in way["changes"]] == [
+        ("request", "100m", "182m"), ("limit", "300m", "400m")]
+    assert way["set"] == [f"{path}.request=182m", f"{path}.limit=400m"]
+    assert way["then_millicpu"] == [400] and tune_settings.LIFTED in way["told"]
+    sets = [word for each in way["set"] for word in ("--set", each)]
+    out, _ = ctl.run("diff", source, *words, *sets, "-o", "json")
+    gets = {each["group"]: each["gets"]["millicpu"] for each in json.loads(out)["after"]["groups"]}
+    assert gets[path] == 400
+    # A limit that is kept stays in the way.
+    assert not asked(ctl, source, "x/a/c=400m", words=[*words, "-g", "x/b/c"])["met"]
+    out, _ = ctl.run("tune", source, *words, "--goal", "x/a=400m")
+    assert ["limit", "300m", "400m", path] in [line.split() for line in out.split("\n")]
+
+
+def test_a_quota_in_the_way(ctl, folder):
+    """A unit of 30% that is to have half: CPUQuota 50%, and no other weight."""
+    (folder / "u.show").write_text("CPUQuotaPerSecUSec=300ms\n" + unit("a.service", 100)
+                                   + unit("b.service", 100))
+    way = asked(ctl, folder / "u.show", "a.service=500m", words=["--cpus", "1"])["settings"]
+    assert [(each["setting"], each["now"], each["then"]) for each in way["changes"]] == [
+        ("CPUQuota", "30%", "50%")]
+
+
 def test_requests_that_are_not_found(ctl, folder):
     """a's request is kept: then b's limit of 600m gives a its 400m.
 

@@ -49,7 +49,7 @@ def test_usage_from_standard_input(ctl):
     # A source that is loaded twice has it twice.
     words = (PODS, NODE, "--used", "-", "--set", ".cpus=3", "-o", "json")
     out, _ = ctl.run("diff", *words, given=data)
-    assert json.loads(out)["after"]["wanted"]["millicpu"] == 3080
+    assert json.loads(out)["after"]["wanted"]["millicpu"] == 3067
 
 
 def test_usage_without_namespaces_or_containers(ctl, folder):
@@ -101,9 +101,35 @@ def test_usage_of_podman(ctl, folder):
 
 
 def test_explain_has_use_and_what_is_short(ctl):
-    """On 3 CPUs what was used does not fit: 308 slices, each amount rounded up."""
+    """On 3 CPUs what was used, 3.067, does not fit."""
     out, _ = ctl.run("explain", PODS, NODE, "--used", FIXTURES / "top.txt", "--cpus", "3")
-    assert "3.00 of 3.00 CPUs served, 3.08 wanted" in out
+    assert "3.000 of 3.000 CPUs served, 3.067 wanted" in out
+
+
+def many_of(folder, count, containers, cpus):
+    """So many pods with containers that used some thousandths, on a node; what they used."""
+    lines = "".join(f"x p{at} {name} {used}m 1Mi\n" for at in range(count)
+                    for name, used in containers.items())
+    (folder / "top").write_text("NAMESPACE POD NAME CPU(cores) MEMORY(bytes)\n" + lines)
+    pods = [{"kind": "Pod", "metadata": {"name": f"p{at}", "namespace": "x", "uid": f"u{at}"},
+             "spec": {"containers": [{"name": name} for name in containers]}}
+            for at in range(count)]
+    node = {"kind": "Node", "status": {"capacity": {"cpu": cpus}, "allocatable": {"cpu": cpus}}}
+    (folder / "n.json").write_text(json.dumps({"kind": "List", "items": [*pods, node]}))
+    return folder / "n.json", "--used", folder / "top"
+
+
+@pytest.mark.parametrize("count, containers, cpus, wanted", [
+    (110, {"a": 12, "b": 2}, 8, 1540), (7, {"a": 1141}, 8, 7987), (1, {"a": 1}, 100, 2),
+    (1, {"a": 1}, 600, 10),
+])
+def test_no_host_is_full_by_rounding(ctl, folder, count, containers, cpus, wanted):
+    """A slice is a thousandth up to 64 CPUs, two of it up to 128, and 10m above 320."""
+    words = many_of(folder, count, containers, cpus)
+    found = json.loads(ctl.run("explain", *words, "-o", "json")[0])
+    assert found["wanted"]["millicpu"] == wanted
+    found = json.loads(ctl.run("explain", *words, "--period", "100ms", "-o", "json")[0])
+    assert found["wanted"]["millicpu"] >= 10 * count * len(containers)
 
 
 @pytest.mark.parametrize("text, words", [

@@ -104,7 +104,7 @@ complete -c arbiterctl -n '__fish_seen_subcommand_from recommend' -s l -l select
 complete -c arbiterctl -n '__fish_seen_subcommand_from recommend' -s o -l output -x -a 'text json' -d 'the form, and the file that is written: text, json (default: the first of them on standard output); may be said again'
 complete -c arbiterctl -n '__fish_seen_subcommand_from recommend' -l unit -x -a 'cpu m % slices us' -d 'unit of a history (default cpu)'
 complete -c arbiterctl -n '__fish_seen_subcommand_from recommend' -s v -l verbose -d 'say on standard error how long it took'
-complete -c arbiterctl -n '__fish_seen_subcommand_from recommend' -l target -x -d 'the percentile of the use that is requested, p1 to p100 or max (default p95)'
+complete -c arbiterctl -n '__fish_seen_subcommand_from recommend' -l target -x -d 'the percentile of the use that is requested, p1 to p100 or max; behind a comma that of the limit, as in p95,max (default p95: limits stay)'
 complete -c arbiterctl -n '__fish_seen_subcommand_from recommend' -l headroom -x -d 'what is put on top of it, in percent of it (default 15)'
 complete -c arbiterctl -n '__fish_seen_subcommand_from recommend' -l from -x -a 'script toml json cgroup kubernetes systemd docker slurm' -d 'what the source is (default: found from its name and its first bytes)'
 complete -c arbiterctl -n '__fish_seen_subcommand_from recommend' -l want -x -a 'usage peak p95 psi limit request busy' -d 'what the demands are taken from (default: usage of cgroups and with --used, request of pods, limit of containers, busy of units, what a script or host file says)'

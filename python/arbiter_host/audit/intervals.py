@@ -21,14 +21,6 @@ AWAY = "groups while nothing was measured"
 MOST_COUNTED = 400_000
 
 
-def fine(host: Host) -> Host:
-    """A host of as many CPUs, with a period of 1 s and slices of 1 ms where a plan can be so fine.
-    Use is in microseconds. A slice of 10m would hide what is below it."""
-    return Host(host.processors, MICROSECONDS, 1000) if host.processors <= 64 else host
-
-
-
-
 def collected(seen: Iterable[Look], count: int = 0) -> list[Look]:
     """Looks as a list, of which so many are to come. Equal settings are kept once, and looks at
     a tree are named by the seconds since the first."""

@@ -14,7 +14,7 @@ from arbiter_host import demands, load, names
 from arbiter_host.faults import HostFault, UsageFault, strerror
 from arbiter_host.fleet.work import HostFile
 from arbiter_host.sources import kubernetes, pods
-from arbiter_host.sources.data import loads, table, tables, text
+from arbiter_host.sources.data import below as found_below, loads, table, text
 from arbiter_host.sources.usage import Used, some
 
 # A line of a script, by which it is no list.
@@ -77,7 +77,9 @@ def items_of(path: str, data: bytes) -> list[dict[str, Any]]:
     """The objects of JSON with several nodes; none of any other file."""
     if data[:64].lstrip(b"\xef\xbb\xbf \t\r\n")[:1] != b"{" or len(NODE.findall(data)) < 2:
         return []
-    items = tables(loads(data, names.shown(path)), "items")
+    found = loads(data, names.shown(path))
+    items = (kubernetes.items_of(found, names.shown(path))
+             if isinstance(found_below(found, "items"), list) else [])
     return items if sum(each.get("kind") == "Node" for each in items) > 1 else []
 
 

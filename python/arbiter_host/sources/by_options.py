@@ -2,6 +2,7 @@
 from __future__ import annotations
 
 import argparse
+from dataclasses import replace
 
 from arbiter import Host
 from arbiter_host import looks, units
@@ -26,9 +27,9 @@ def of_host(options: argparse.Namespace) -> Wish:
     return Wish(options.cpus, period, slice_)
 
 
-def machine(options: argparse.Namespace) -> Host:
-    """This machine with slices of 1 ms, with the options in its place."""
-    return of_host(options).machine()
+def machine(options: argparse.Namespace, want: str = "") -> Host:
+    """This machine with slices of 1 ms, with the options in its place, for a rule of demands."""
+    return replace(of_host(options), want=want).machine()
 
 
 def times_of(options: argparse.Namespace) -> looks.Times:

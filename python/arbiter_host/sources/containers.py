@@ -22,6 +22,8 @@ from arbiter_host.sources.wish import File, Wish
 NANO = 10**9
 # docker takes no fewer CPUs, in thousandths.
 LEAST_CPUS = 10
+# The settings of a container that are read.
+NUMBERS = ("CpuShares", "NanoCpus", "CpuQuota", "CpuPeriod")
 # Letters of an identifier that docker prints.
 SHORT_ID = 12
 # A container as it was printed.
@@ -47,7 +49,7 @@ def place_of(container: Inspected, driver: str) -> tuple[str, str]:
     name = f"{'docker' if is_docker else 'libpod'}-{identifier}.scope"
     parent = text(container, "HostConfig", "CgroupParent").strip("/")
     if parent.endswith(".slice") and "/" not in parent and driver == "systemd":
-        parent = systemd.slice_folder(parent)
+        parent = names.slice_folder(parent)
     default = "machine.slice"
     if is_docker:
         default = "system.slice" if driver == "systemd" else "docker"
@@ -56,6 +58,11 @@ def place_of(container: Inspected, driver: str) -> tuple[str, str]:
 
 def set_limit(group: Group, config: Inspected, notes: list[str]) -> None:
     """Sets quota and period: NanoCpus, else CpuQuota of CpuPeriod."""
+    for key in NUMBERS:
+        value = config.get(key)
+        if value is not None and (isinstance(value, bool) or not isinstance(value, int)):
+            word = names.shown(names.cut(str(value), 40))
+            raise HostFault(f"{names.shown(group.path)}: {key} {word!r} is no whole number")
     nano, quota = number(config, "NanoCpus"), number(config, "CpuQuota")
     period = number(config, "CpuPeriod") or units.DEFAULT_PERIOD
     if nano > 0:

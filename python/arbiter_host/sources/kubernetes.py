@@ -20,11 +20,11 @@ from arbiter_host.faults import HostFault, NoHost
 from arbiter_host.model import Group, Model, check_count, checked
 from arbiter_host.names import NOWHERE, shown
 from arbiter_host.owned import Amounts, Owned, Range, Setting
-from arbiter_host.sources.data import below, loads, table, tables, text
+from arbiter_host.sources.data import below, loads, table, text
 from arbiter_host.sources.measurable import Measurable
 from arbiter_host.sources.pods import (CLASSES, TOP, Container, NodeFacts, Pod, folder_at,
-                                       folder_of, node_facts, pod_of, requested, scope_of,
-                                       thousandths)
+                                       folder_of, names_of, node_facts, pod_of, requested,
+                                       scope_of, thousandths)
 from arbiter_host.sources.usage import Used, of_metrics
 from arbiter_host.sources.wish import File, Wish
 
@@ -47,10 +47,12 @@ def made_by(maker: dict[str, Any]) -> dict[str, Any]:
 
 def items_of(data: Any, name: str) -> list[dict[str, Any]]:
     """The objects of a file: a list's items, or the one object. What makes pods stands for one."""
-    if isinstance(data, list):
-        return [each for each in data if isinstance(each, dict)]
-    if isinstance(below(data, "items"), list):
-        return tables(data, "items")
+    items = data if isinstance(data, list) else below(data, "items")
+    if isinstance(items, list):
+        for at, each in enumerate(items, 1):
+            if not isinstance(each, dict):
+                raise HostFault(f"{name}: item {at} is no object")
+        return items
     if below(data, "kind") in ("Pod", "Node"):
         return [data]
     if below(data, "kind") in MAKERS:
@@ -59,7 +61,12 @@ def items_of(data: Any, name: str) -> list[dict[str, Any]]:
 
 
 def is_pod(item: dict[str, Any]) -> bool:
-    """Whether an object is a pod; items of a list need not say so."""
+    """Whether an object is a pod; items of a list need not say so. A fault where one that does has
+    not what each pod has."""
+    missing = [key for key in ("metadata", "spec") if not isinstance(item.get(key), dict)]
+    if missing and item.get("kind") == "Pod":
+        name = "/".join(names_of(item))
+        raise HostFault(f"{shown(name)}: a pod without {missing[0]}: it cannot be read")
     return item.get("kind", "Pod") == "Pod" and isinstance(item.get("spec"), dict)
 
 
@@ -272,6 +279,10 @@ class PodSource(Measurable):
 
     def title(self, path: str) -> str:
         return self.plain.groups[path].title
+
+    def owner(self, path: str) -> str:
+        pod, number, _ = self.part(path)
+        return f"{pod.owner}/{pod.parts[number].name}" if pod.owner else path
 
     def part(self, path: str) -> tuple[Pod, int, Amounts]:
         """The pod of a container, its number there, and its request and limit."""

@@ -69,7 +69,7 @@ class Measurable(Owned):
             elif places[0] in known:
                 raise HostFault(f"{name}: {entry.title}: two numbers for what one container used")
             else:
-                known[places[0]] = Measured(told=entry.amounts)
+                known[places[0]] = Measured(told=entry.amounts, span=entry.span)
         told = f"{name}: used by containers that are not here, {some(missing)}"
         if not known:
             raise HostFault(told)

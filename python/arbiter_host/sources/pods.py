@@ -13,14 +13,15 @@ from fractions import Fraction
 from typing import Any, NamedTuple
 
 from arbiter_host import units
-from arbiter_host.faults import HostFault
-from arbiter_host.names import NOWHERE, shown
+from arbiter_host.faults import HostFault, naming
+from arbiter_host.names import NOWHERE, shown, slice_folder
 from arbiter_host.owned import Amounts
 from arbiter_host.sources.data import below, table, tables, text
-from arbiter_host.sources.systemd import slice_folder
 
 TOP = "kubepods"
 KEYS = ("requests", "limits")
+# Kinds that make pods of a template.
+TEMPLATED = ("Deployment", "StatefulSet", "DaemonSet", "ReplicaSet", "ReplicationController")
 CLASSES = {"Guaranteed": TOP, "Burstable": f"{TOP}/burstable", "BestEffort": f"{TOP}/besteffort"}
 # Names of kubelet's groups, by either of its drivers.
 KUBELET = re.compile(r"kubepods([-.].*)?")
@@ -85,6 +86,8 @@ class Pod:
     selector: tuple[tuple[str, str], ...] = ()
     tolerations: tuple[Toleration, ...] = ()
     labels: tuple[tuple[str, str], ...] = ()
+    # What makes it of a template: kind, namespace and name; empty for nothing.
+    owner: str = ""
 
     @property
     def title(self) -> str:
@@ -163,17 +166,20 @@ class NodeFacts:
                 raise HostFault(f"it does not tolerate the taint {shown(taint.key)}")
 
 
-def quantity(value: Any) -> Fraction:
-    """Thousandths of a CPU of a quantity; a fault where Kubernetes takes none of this form."""
+def number_of(value: Any, what: str) -> Fraction:
+    """The number of a quantity; a fault where Kubernetes takes none of this form."""
     word = json.dumps(value) if isinstance(value, (int, float, bool)) else str(value)[:60]
     match = QUANTITY.fullmatch(word)
     if not match:
-        raise HostFault(f"{shown(word)!r} is no quantity of CPU")
-    amount = Fraction(match[1]) * SUFFIXES[match[2] or ""] * 1000
-    if match[3]:
-        amount *= Fraction(10) ** int(match[3])
+        raise HostFault(f"{shown(word)!r} is no quantity of {what}")
+    return Fraction(match[1]) * SUFFIXES[match[2] or ""] * Fraction(10) ** int(match[3] or 0)
+
+
+def quantity(value: Any) -> Fraction:
+    """Thousandths of a CPU of a quantity."""
+    amount = number_of(value, "CPU") * 1000
     if amount > units.MAX_CPUS * 1000:
-        raise HostFault(f"{word!r} is above {units.MAX_CPUS} CPUs")
+        raise HostFault(f"{shown(str(value)[:60])!r} is above {units.MAX_CPUS} CPUs")
     return amount
 
 
@@ -247,10 +253,14 @@ def is_limited(containers: Sequence[Container]) -> bool:
     return bool(containers)
 
 
-def is_memory_limited(container: dict[str, Any]) -> bool:
-    """Whether a container has a limit of memory that is its request."""
-    request, limit = (below(container, "resources", key, "memory") for key in KEYS)
-    return bool(limit) and request in (None, limit)
+def memory_of(container: dict[str, Any], where: str) -> tuple[Fraction, Fraction]:
+    """The request and the limit of memory, as kubelet compares them. 0 is none; a limit without a
+    request is the request too."""
+    with naming(where):
+        request, limit = (None if value is None else number_of(value, "memory") for value in (
+            below(container, "resources", key, "memory") for key in KEYS))
+    limit = limit or Fraction(0)
+    return limit if request is None else request, limit
 
 
 def names_of(pod: dict[str, Any]) -> tuple[str, str]:
@@ -264,12 +274,25 @@ def pairs_of(labels: dict[str, Any]) -> tuple[tuple[str, str], ...]:
     return tuple(sorted((key, text(labels, key)) for key in labels))
 
 
+def owner_of(metadata: dict[str, Any], namespace: str) -> str:
+    """What makes a pod of a template; empty for nothing. A ReplicaSet with the pod's hash behind
+    its name is its Deployment's."""
+    owner = next((each for each in tables(metadata, "ownerReferences")
+                  if each.get("controller") is True), None)
+    kind, name = text(owner, "kind"), text(owner, "name")
+    mark = text(metadata, "labels", "pod-template-hash")
+    if kind == "ReplicaSet" and mark and name.endswith(f"-{mark}"):
+        kind, name = "Deployment", name.removesuffix(f"-{mark}")
+    return f"{kind} {namespace}/{name}" if kind in TEMPLATED and name else ""
+
+
 def pod_of(pod: dict[str, Any], notes: list[str]) -> Pod:
     """A pod as kubelet reckons with it."""
     metadata, spec, (namespace, name) = table(pod, "metadata"), table(pod, "spec"), names_of(pod)
     where, told = f"{namespace}/{name}", text(pod, "status", "qosClass")
     is_whole = any({"cpu", "memory"} & table(spec, "resources", key).keys() for key in KEYS)
     raw = [spec] if is_whole else tables(spec, "initContainers") + tables(spec, "containers")
+    memory = [memory_of(each, where) for each in raw]
     return Pod(
         namespace, name,
         # The mirror of a static pod has an identifier that is not the one of its group.
@@ -278,13 +301,13 @@ def pod_of(pod: dict[str, Any], notes: list[str]) -> Pod:
         overhead=thousandths(below(spec, "overhead", "cpu"), where, notes) or 0,
         own=amounts_of(table(spec, "resources"), where, notes), is_whole=is_whole,
         told=told if told in CLASSES else "",
-        asks_memory=any(below(each, "resources", key, "memory") for each in raw for key in KEYS),
-        is_memory_equal=all(map(is_memory_limited, raw)),
+        asks_memory=any(map(any, memory)),
+        is_memory_equal=all(limit and request == limit for request, limit in memory),
         selector=pairs_of(table(spec, "nodeSelector")),
         tolerations=tuple(Toleration(
             text(each, "key"), None if text(each, "operator") == "Exists" else text(each, "value"),
             text(each, "effect")) for each in tables(spec, "tolerations")),
-        labels=pairs_of(table(metadata, "labels")))
+        labels=pairs_of(table(metadata, "labels")), owner=owner_of(metadata, namespace))
 
 
 def node_facts(node: dict[str, Any] | None) -> NodeFacts:

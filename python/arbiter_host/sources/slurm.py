@@ -80,8 +80,8 @@ class SlurmJob:
 
     @property
     def parts(self) -> tuple[str, str, str]:
-        """User, name and number."""
-        return self.user or "unknown", self.name or "unnamed", self.identifier
+        """User, name and number: that of a task of an array has the array's."""
+        return self.user or "unknown", self.name or "unnamed", self.alias or self.identifier
 
     @property
     def title(self) -> str:
@@ -199,6 +199,12 @@ def step_of(row: dict[str, str], nodes: Sequence[str]) -> JobStep:
     return step
 
 
+def alias_in(row: Mapping[str, str], identifier: str) -> str:
+    """What a row of sacct calls a job beside its number; empty where it is no other."""
+    match = IDENTIFIER.fullmatch(row.get("JobID", ""))
+    return match[1] if match and match[1] != identifier else ""
+
+
 def take_row(row: dict[str, str], jobs: dict[str, SlurmJob], aliases: Mapping[str, str]) -> bool:
     """Takes a row of sacct. Returns whether it is of something that runs."""
     word = row.get("JobIDRaw") or row.get("JobID") or ""
@@ -209,6 +215,7 @@ def take_row(row: dict[str, str], jobs: dict[str, SlurmJob], aliases: Mapping[st
         return False
     name = aliases.get(match[1], match[1])
     job = jobs.setdefault(name, SlurmJob(name, is_raw=name.isdigit()))
+    job.alias = job.alias or alias_in(row, job.identifier)
     nodes = hosts_of(row.get("NodeList", "").replace("None assigned", "")) or job.nodes
     step = step_of(row, nodes)
     if match[2]:
@@ -254,10 +261,11 @@ def jobs_of(files: Mapping[str, list[File]], node: str) -> tuple[dict[str, Slurm
         for where, row in rows_of(data, name):
             with naming(where):
                 left += not take_row(row, jobs, aliases)
+    named = jobs | {job.alias: job for job in jobs.values() if job.alias}
     for name, data in files["sstat"]:
         for where, row in rows_of(data, name):
             with naming(where):
-                take_used(row, jobs)
+                take_used(row, named)
     return jobs, left
 
 
@@ -356,10 +364,10 @@ def read(files: Sequence[File], _: Library, wish: Wish) -> Model:
     jobs, left = jobs_of(parts, node)
     name = node or node_of(nodes, jobs.values())
     told = Host() if wish.cpus is not None else host_of(nodes, name)
-    host = Host(told.processors, units.DEFAULT_PERIOD, 1000)
-    model = Model(wish.host(host), names_host=wish.cpus is None)
-    here = on_node(jobs.values(), name)
     want = wish.want or ("usage" if parts["sacct"] else "request")
+    host = replace(wish, want=want).host(Host(told.processors, units.DEFAULT_PERIOD, 1000))
+    model = Model(host, names_host=wish.cpus is None)
+    here = on_node(jobs.values(), name)
     if parts["sacct"] and not wish.want:
         take_allotted(here, model)
     measured: dict[str, Measured] = {}

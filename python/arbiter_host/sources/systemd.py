@@ -23,6 +23,8 @@ from arbiter_host.sources.wish import File, Wish
 NOT_SET = ("", "[not set]", "infinity", "18446744073709551615")
 # A quota of systemd is a number of hundredths of a percent of one CPU.
 QUOTA = re.compile(r"([0-9]{1,9})(?:\.([0-9]{1,2}))?%")
+# CPUShares that are the default weight.
+DEFAULT_SHARES = 1024
 # Greatest quota that systemd can write, in hundredths of a percent.
 MOST_QUOTA = 10**9
 # The properties of a unit by their names.
@@ -30,17 +32,11 @@ Properties = Mapping[str, str]
 UNIT = re.compile(r"[A-Za-z0-9:_.\\@-]+\.(service|slice|scope)")
 
 
-def slice_folder(name: str) -> str:
-    """The folder of a slice: `a-b.slice` stands in `a.slice`."""
-    parts = name.removesuffix(".slice").split("-")
-    return "/".join("-".join(parts[:count]) + ".slice" for count in range(1, len(parts) + 1))
-
-
 def unit_of(folder: str) -> str:
     """The unit of the system whose group a folder is by its path; empty where it is none. What is
     below a service is that service's, such as the units of a user's manager."""
     def is_slice(path: str) -> bool:
-        return path.endswith(".slice") and slice_folder(path.rpartition("/")[2]) == path
+        return path.endswith(".slice") and names.slice_folder(path.rpartition("/")[2]) == path
 
     above, _, name = folder.rpartition("/")
     is_unit = all(map(UNIT.fullmatch, folder.split("/"))) and (not above or is_slice(above))
@@ -84,9 +80,13 @@ def set_limit(group: Group, unit: Properties) -> None:
 
 
 def set_weight(group: Group, unit: Properties, notes: list[str]) -> None:
-    """Sets the weight. `idle` is the least."""
-    word = unit.get("CPUWeight", "")
+    """Sets the weight. `idle` is the least. Without one systemd makes it of CPUShares."""
+    word, shares = unit.get("CPUWeight", ""), whole(unit.get("CPUShares", ""))
     weight = 1 if word == "idle" else whole(word)
+    if word in NOT_SET and shares is not None:
+        weight = shares * units.DEFAULT_WEIGHT // DEFAULT_SHARES
+        weight = min(max(weight, units.MIN_WEIGHT), units.MAX_WEIGHT)
+        notes.append(f"{group.path}: CPUShares {shares}: weight {weight} is taken")
     if weight is not None:
         group.weight = min(max(weight, units.MIN_WEIGHT), units.MAX_WEIGHT)
     if word == "idle":
@@ -282,6 +282,6 @@ def read(files: Sequence[File], _: Library, wish: Wish) -> Model:
                         " '*.scope'` prints them")
     properties = {path: unit for path, unit in readings[0].items()
                   if path not in ("", ".") and path.count("/") < MAX_DEPTH}
-    want = wish.want or ("usage" if len(files) > 1 else "busy")
+    wish = replace(wish, want=wish.want or ("usage" if len(files) > 1 else "busy"))
     return UnitSource(wish.machine(), wish.seconds, properties, tuple(readings), "" in readings[0],
-                      want=want).model()
+                      want=wish.want).model()

@@ -46,6 +46,8 @@ class Used(NamedTuple):
     pod: str = ""
     container: str = ""
     identifier: str = ""
+    # Seconds from the first amount to the last; None where that is not told.
+    span: Fraction | None = None
 
     @property
     def word(self) -> str:
@@ -122,8 +124,8 @@ def of_text(data: bytes, name: str) -> Iterator[Used]:
         if is_stats:
             yield from of_stats(row, where)
         else:
-            yield Used((amount_of(row["cpu"][:MAX_TEXT], where),), *(
-                text(row, key) for key in ("namespace", "pod", "container")))
+            yield Used((amount_of(row["cpu"][:MAX_TEXT], where),), text(row, "namespace"),
+                       text(row, "pod"), text(row, "container"))
 
 
 def of_metrics(items: Sequence[dict[str, Any]], name: str) -> Iterator[Used]:

@@ -9,7 +9,9 @@ import argparse
 import functools
 import os
 from collections.abc import Callable, Sequence
+from contextlib import suppress
 from dataclasses import replace
+from datetime import datetime
 from fractions import Fraction
 
 from arbiter_host import demands, looks, options as table, plain_files, units
@@ -131,12 +133,25 @@ def entries(options: argparse.Namespace) -> list[Used]:
             return found
     unit = options.unit if options.asked == "recommend" else "cpu"
     host, mapping = by_options.machine(options), mapped(options.map)
-    values: dict[str, list[Fraction]] = {}
+    values: dict[str, list[tuple[str, Fraction]]] = {}
     for sample in history(options).samples:
         for column, demand in sample.demands(unit, host).items():
-            values.setdefault(mapping.get(column, column), []).append(demand)
-    return [Used(tuple(each), *column.split("/")) if column.count("/") == 2
-            else Used(tuple(each), container=column) for column, each in values.items()]
+            values.setdefault(mapping.get(column, column), []).append((sample.name, demand))
+    found = []
+    for column, each in values.items():
+        namespace, pod, container = (column.split("/") if column.count("/") == 2
+                                     else ("", "", column))
+        found.append(Used(tuple(demand for _, demand in each), namespace, pod, container,
+                          span=span(each[0][0], each[-1][0])))
+    return found
+
+
+def span(first: str, last: str) -> Fraction | None:
+    """Seconds from one sample to another, by their names; None where these are no times."""
+    with suppress(ValueError, TypeError):
+        since = datetime.fromisoformat(last) - datetime.fromisoformat(first)
+        return Fraction(abs(since.total_seconds()))
+    return None
 
 
 def measured_by(options: argparse.Namespace) -> Callable[[Measurable], Owned]:

@@ -10,7 +10,7 @@ from typing import TYPE_CHECKING
 from arbiter import Host
 from arbiter_host import demands, units
 from arbiter_host.faults import UsageFault
-from arbiter_host.model import Model, checked
+from arbiter_host.model import Model, checked, fine
 
 if TYPE_CHECKING:
     from arbiter_host.owned import Owned
@@ -48,10 +48,16 @@ class Wish:
         return not self.cpus == self.period == self.slice is None
 
     def host(self, told: Host) -> Host:
-        """The host that a source tells, with what is asked for in its place."""
-        return checked(Host(told.processors if self.cpus is None else self.cpus,
+        """The host that a source tells, with what is asked for in its place. Use is planned by
+        slices as fine as can be."""
+        host = checked(Host(told.processors if self.cpus is None else self.cpus,
                             told.period_us if self.period is None else self.period,
                             told.slice_us if self.slice is None else self.slice))
+        return self.of_use(host) if self.want in demands.OF_USE else host
+
+    def of_use(self, host: Host) -> Host:
+        """A host for measured use: with slices as fine as can be, unless others are asked for."""
+        return fine(host) if self.period is self.slice is None else host
 
     def machine(self) -> Host:
         """This machine with slices of 1 ms, with what is asked for in its place."""

@@ -4,7 +4,6 @@ from __future__ import annotations
 import argparse
 import os
 
-from arbiter import Host
 from arbiter_host import load, looks, options, progress, text
 from arbiter_host.audit import answer, intervals, ranges
 from arbiter_host.audit.answer import Ranked
@@ -18,12 +17,6 @@ from arbiter_host.sources import by_options, prometheus, used
 from arbiter_host.subcommands.base import Subcommand, found_engine, source_name
 
 
-def host_of(asked: argparse.Namespace, host: Host) -> Host:
-    """The host of the plans: as fine as can be, unless an option names it."""
-    is_named = asked.period is not None or asked.slice is not None
-    return host if is_named else intervals.fine(host)
-
-
 def of_range(asked: argparse.Namespace) -> tuple[list[Look], list[str], set[int]]:
     """The looks of a range of Prometheus, what is told of them, and those after a gap."""
     if not asked.source:
@@ -34,7 +27,8 @@ def of_range(asked: argparse.Namespace) -> tuple[list[Look], list[str], set[int]
     kind = asked.kind or load.kind_of(*files[0])
     model = load.model_of(used.without(asked, kind), files, found_engine(asked))
     load.warn(model, source_name(asked.source))
-    looks_, notes = ranges.looks(server, model.with_host(host_of(asked, model.host)))
+    looks_, notes = ranges.looks(server, model.with_host(
+        by_options.of_host(asked).of_use(model.host)))
     return intervals.collected(looks_), notes, ranges.gaps(looks_)
 
 
@@ -60,7 +54,7 @@ def of_trees(asked: argparse.Namespace) -> list[Look]:
             raise UsageFault(f"{shown(folder)}: no folder: a source that is no tree takes --used")
     options.check(asked, "cgroup")
     times = times_of(asked, len(folders) == 1)
-    host = host_of(asked, by_options.machine(asked))
+    host = by_options.machine(asked, "usage")
     seen = looks.looks_at(folders, host, times, has_threads=True)
     return intervals.collected(seen, times.number or 0 if len(folders) == 1 else len(folders))
 

@@ -11,7 +11,7 @@ from arbiter_host.names import cut, few, short, shown
 from arbiter_host.output import Styled
 from arbiter_host.plan import Engine
 from arbiter_host.recommend import Advised, Recommendation
-from arbiter_host.sources import used
+from arbiter_host.sources import by_options, used
 from arbiter_host.sources.register import READERS
 from arbiter_host.subcommands.base import Subcommand, found_engine, source_name
 
@@ -43,21 +43,24 @@ def run(options: argparse.Namespace) -> None:
     model = loaded(options, by)
     uses = uses_of(options, model)
     load.warn(model, source_name(options.source))
+    model = change.on_host(model, by_options.of_host(options).of_use(model.host))
     advice = recommend.recommended(by, model, uses, rule, choosing.chosen(model, options))
     change.warned(model, advice.after.model)
-    count = max((len(use.values) for use in uses.values()), default=0)
-    output.write_forms(outputs, {"text": lambda: lines_of(advice, count),
+    output.write_forms(outputs, {"text": lambda: lines_of(advice),
                                  "json": lambda: output.json_text(recommend.as_data(advice))})
 
 
-def heading(advice: Recommendation, short_: list[str], count: int) -> Styled:
+def heading(advice: Recommendation, short_: list[str]) -> Styled:
     """The lines above the table. They are red where the node has less than all pods request, and
     where groups are short."""
     headroom = float(advice.rule.headroom * 100)
-    many = f"{count} sample" + ("s" if count > 1 else "")
     lines = [(text.host_words(advice.after), ""),
-             (f"p{advice.rule.percent} of at most {many}, and {headroom:g}% on top; the proved"
-              " check accepted the plan", "")]
+             (f"{advice.percentile}; {headroom:g}% on top; the proved check accepted the plan", "")]
+    kept = sum(each.proposal.then.limit is None and each.proposal.now.limit is not None
+               for each in advice.rows)
+    if kept:
+        why = "of one sample none is proposed" if advice.rule.limit else "--target p95,max"
+        lines.append((f"limits that stay: {kept} ({why})", ""))
     if advice.requests is not None:
         (now, then), most = advice.requests, advice.allocatable
         of_node = "" if most is None else f", of {most}m that the node has"
@@ -81,14 +84,14 @@ def row(advice: Recommendation, each: Advised) -> list[str]:
             cut(short(shown(one.title)), 100)]
 
 
-def lines_of(advice: Recommendation, count: int) -> Styled:
+def lines_of(advice: Recommendation) -> Styled:
     """The lines of `recommend`. A container that is short then is red."""
     rows = [["used", "most", advice.keys[0], "then", advice.keys[1], "then", "gets", "guaranteed",
              advice.noun], *(row(advice, each) for each in advice.rows)]
     is_short = [each.after.gets < each.after.want for each in advice.rows]
     short_ = [shown(each.proposal.title) for each in compress(advice.rows, is_short)]
     note = [("* throttled at its limit: it wanted more than it used", "")]
-    return [*heading(advice, short_, count),
+    return [*heading(advice, short_),
             *zip(text.table(rows, (len(rows[0]) - 1,)),
                  ["bold", *("red" if each else "" for each in is_short)]),
             *(note if any(each.proposal.is_throttled for each in advice.rows) else [])]

@@ -37,8 +37,9 @@ def reader(asked: argparse.Namespace,
     by, paths = found_engine(asked), asked.source or [looks.HOST_TREE]
     if len(paths) == 1 and os.path.isdir(paths[0]) and asked.kind in (None, "cgroup"):
         options.check(asked, "cgroup")
-        tree = looks.Tree(paths[0], by_options.machine(asked), time.monotonic)
-        return top.Watched(by, tree, asked.want or "psi").round, 1
+        want = asked.want or "psi"
+        tree = looks.Tree(paths[0], by_options.machine(asked, want), time.monotonic)
+        return top.Watched(by, tree, want).round, 1
     if "-" in paths:
         raise UsageFault("standard input is read once: top takes files or a folder")
     measured = [each.words for each in wanted if each.key in MEASURED]
