@@ -17,7 +17,7 @@ from arbiter_host.audit import answer, causes, intervals, page, ranges
 from arbiter_host.audit.intervals import Cell, Interval
 from arbiter_host.demands import Reading
 from arbiter_host.faults import HostFault
-from arbiter_host.model import Group, Model
+from arbiter_host.model import Group, Model, fine
 from arbiter_host.sources import prometheus
 from laboratory import firm, kept
 from places import PACKAGE
@@ -138,8 +138,8 @@ def test_slices_that_are_asked_for(ctl, folder):
 
 
 def test_a_great_host_has_the_slices_of_its_source():
-    assert intervals.fine(Host(64, 100000, 1000)) == Host(64, SECOND, 1000)
-    assert intervals.fine(Host(65, 100000, 1000)) == Host(65, 100000, 1000)
+    assert fine(Host(64, 100000, 1000)) == Host(64, SECOND, 1000)
+    assert fine(Host(65, 100000, 1000)) == Host(65, 500000, 1000)
 
 
 # holes
@@ -566,7 +566,7 @@ def kept_audit(engine, name):
     found = kept.kept()
     runs = [run for run in found["runs"] if run["host"] == name]
     model = firm.host_of(found["hosts"][name])
-    model = model.with_host(intervals.fine(model.host))
+    model = model.with_host(fine(model.host))
     seen = [kept_look(at, model, runs) for at in range(len(runs) + 1)]
     return intervals.audited(engine, seen, "psi", set(), lambda: None), [
         {path: 100 * (had - share) for path, (share, had) in run["groups"].items()}

@@ -188,7 +188,8 @@ def test_usage_of_a_cluster(ctl, folder):
     top = (FIXTURES / "top.txt").read_text() + "prod api-0 main 700m 9Mi\nteam far main 1m 9Mi\n"
     (folder / "top").write_text(top)
     found, err = planned(ctl, CLUSTER, "--used", folder / "top")
-    assert [(each["host"], each["wanted"]) for each in found["hosts"]] == [("n1", 3067), ("n2", 700)]
+    assert [(each["host"], each["wanted"]) for each in found["hosts"]] == [
+        ("n1", 3067), ("n2", 700)]
     assert ("used by pods that no node here has: 2: kube-system/coredns-5d78-4x2, team/far" in err)
     job = found["pending"][0]
     assert (job["host"], job["wants_cpus"], job["gets_cpus"]) == ("n2", 1, 1)

@@ -264,7 +264,7 @@ def test_top_without_a_terminal(ctl, folder):
     trees.root2(folder)
     trees.group2(folder / "web", usage=5)
     out, _ = ctl.run("top", folder, "-o", "text", "--read", "3x10ms", "--cpus", "2", "--all")
-    assert out.count("2 CPUs, period 100 ms") == 2 and out.count("  web") == 2
+    assert out.count("2 CPUs, period 1000 ms") == 2 and out.count("  web") == 2
 
 
 @pytest.mark.parametrize("columns, lines, ending", [

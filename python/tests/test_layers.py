@@ -7,8 +7,8 @@ from places import PACKAGE
 
 # From the lowest on. A folder stands for all its modules.
 LAYERS = {
-    "base": "faults names options progress search safe_files atomic_files plain_files output units"
-            " model demands owned plan text svg html",
+    "base": "faults names options progress search safe_files atomic_files plain_files output lines"
+            " units model demands owned plan text svg html",
     "sources": "sources cgroup2 hunger looks load change choosing",
     "answers": "balancer placement explain diff report picture series",
     "setting": "apply record",

@@ -13,7 +13,7 @@ from places import PACKAGE
 
 REAL, EXAMPLES = PACKAGE / "tests/fixtures/real", PACKAGE.parent / "examples/hosts"
 HOST = Host(4, 100000, 1000)
-TRAIN, LOOSE, SWEEP = "alice:train:2", "bob:loose:4", "bob:sweep:5"
+TRAIN, LOOSE, SWEEP = "alice:train:2", "bob:loose:4", "bob:sweep:3_1"
 
 
 def place(name):
@@ -49,7 +49,7 @@ def test_jobs_of_a_queue():
     assert model.groups[SWEEP].place == f"{slurm.TOP}/job_5"
     assert model.notes == [
         "jobs and steps that do not run, left out: 3",
-        "allotted cores of their own: alice/train/2, bob/sweep/5, bob/loose/4: where Slurm binds"
+        "allotted cores of their own: alice/train/2, bob/sweep/3_1, bob/loose/4: where Slurm binds"
         " tasks to them (TaskPlugin), what others leave idle does not reach a job"]
 
 

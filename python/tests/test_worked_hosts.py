@@ -115,7 +115,8 @@ def host_copies(folder):
             whole = 4800000 if path == "system.slice" else usage
             trees.group2(folder / copy / path, usage=whole * factor, **entry, **told)
         trees.put(folder / copy / "user.slice/user-1000.slice", cpu_stat="usage_usec 5")
-    return ["export", folder / "one", folder / "two", "--read", "x10s", "--cpus", "4"]
+    return ["export", folder / "one", folder / "two", "--read", "x10s", "--cpus", "4",
+            "--period", "100ms"]
 
 
 def test_host_of_services(ctl, folder):
