@@ -39,7 +39,7 @@ PACKAGES = ["lib/arbiter/arbiter", "lib/arbiter/arbiter_host"]
 MODULES = {f"lib/arbiter/{path.relative_to(ROOT / 'python')}":
            (str(path.relative_to(ROOT)), 0o644)
            for name in PACKAGES for path in (ROOT / "python" / name.rpartition("/")[2]).rglob("*")
-           if path.suffix in (".py", ".typed", ".html", ".css", ".js")}
+           if path.suffix in (".py", ".typed", ".html", ".css", ".js", ".toml")}
 INSTALLED = {*FILES, *LINKS, *MODULES}
 
 
