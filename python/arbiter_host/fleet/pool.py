@@ -34,6 +34,8 @@ EACH = 2
 MOST_DEATHS = 12
 # Seconds that a scheduler may take to be found.
 ASK_SECONDS = 15.0
+# Seconds after which the end of a pool is late.
+LATE_SECONDS = 1.0
 GONE = "the scheduler went away"
 
 
@@ -77,11 +79,17 @@ def processes(count: int) -> Iterator[Executor]:
         raise
     finally:
         # Before 3.12 Python waits without an end for its thread that hands calls on, where no
-        # process is left that takes them (gh-94777). That thread may be closing it too.
-        calls: Any = getattr(executor, "_call_queue", None)
-        with suppress(OSError):
-            calls._reader.close()
-        executor.shutdown(cancel_futures=True)
+        # process is left that takes them (gh-94777). Closed while that thread closes it too, it
+        # would wait as well: so only one that is late is freed.
+        inside: Any = executor
+        thread, calls = inside._executor_manager_thread, inside._call_queue
+        executor.shutdown(wait=False, cancel_futures=True)
+        if thread is not None:
+            thread.join(LATE_SECONDS)
+            if thread.is_alive():
+                with suppress(OSError):
+                    calls._reader.close()
+            thread.join()
         if before is None:
             os.environ.pop("PYTHONSAFEPATH", None)
 
