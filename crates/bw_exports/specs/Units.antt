@@ -8,6 +8,7 @@ use Rattle.bw_files.specs.declared.fault.FileFault.{FileFault}
 use Rattle.bw_files.specs.Faults.{file_fault_number}
 use Rattle.bw_files.specs.Reading.{burst_in, period_in}
 use Rattle.bw_columns.specs.Demand.{slices_for}
+use Rattle.bw_columns.specs.PeriodLimits.{limit_by}
 
 -- the number of a refused value, else another number
 abbrev pub refused_or : Result ℕ FileFault → ℕ → ℕ
@@ -25,3 +26,9 @@ abbrev pub demand_refusal : Shape → ℕ → ℕ
 demand_refusal shape thousandths =
     option_map_or host_fault_number (host_refusal shape)
     (if nat_lt MAX_DEMAND (slices_for shape thousandths) then 9 else 0)
+
+-- the number of the first refusal of a host, then of the settings of a group, 0 for none
+abbrev pub limit_refusal : Shape → ℕ → ℕ → ℕ → ℕ → ℕ
+limit_refusal shape quota_us own_period_us burst_us carry =
+    option_map_or host_fault_number (host_refusal shape)
+    (refused_or (limit_by shape quota_us own_period_us burst_us carry) 0)
