@@ -5,6 +5,7 @@ counters that `period` shows.
 """
 import random
 from array import array
+from dataclasses import replace
 from fractions import Fraction
 from math import floor
 from typing import List, Optional
@@ -48,7 +49,7 @@ def test_period_limit(module, words, limit):
 
 
 @pytest.mark.parametrize("number, host, words", [
-    (1, HOST._replace(processors=0), (0, 0, MOST)), (3, HOST._replace(slice_us=7), (0, 0, MOST)),
+    (1, replace(HOST, processors=0), (0, 0, MOST)), (3, replace(HOST, slice_us=7), (0, 0, MOST)),
     (13, HOST, (999, 0, MOST)), (14, HOST, (10**15 + 1, 0, MOST)), (15, HOST, (1000, 999, MOST)),
     (15, HOST, (None, 1000001, 0)), (14, HOST, (1000, 1000, 10**15 + 1)),
     (14, HOST, (None, 1000, 10**15 + 1)),
@@ -130,7 +131,7 @@ def test_refused_book(module):
     rows = [arbiter.Row(), arbiter.Row(0, weight=0)]
     counters = arbiter.Counters.zeros(2)
     same(number_of(module.book, HOST, rows, [None, None], [0, 0], counters), (6, 1))
-    host = HOST._replace(period_us=999)
+    host = replace(HOST, period_us=999)
     same(number_of(module.book, host, rows, [None, None], [0, 0], counters), (2, None))
     assert not any(map(any, counters))
 

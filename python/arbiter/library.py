@@ -256,18 +256,21 @@ class Library:
         return Script(Columns(*(each[:count.value] for each in tree)), told, quotas, periods,
                       bursts, carries, list(zip(at[:refused.value], faults[:refused.value])))
 
+    def of_host(self, name: str, host: Host, *words: int) -> int:
+        """The number that a conversion for a host gives."""
+        found, given_ = c.U64(), [in_range(word, 64, name) for word in words]
+        number = getattr(self.calls, f"arbiter_{name}")(*self.host(host), *given_,
+                                                        ctypes.byref(found))
+        if number:
+            raise self.refused(number)
+        return found.value
+
     def slices(self, host: Host, usec: int, own_period_us: int = 100000) -> int:
         """The whole slices of one period that a quota or burst allows, rounded down.
 
         It is in microseconds of its own period.
         """
-        slices = c.U64()
-        number = self.calls.arbiter_slices(*self.host(host), in_range(usec, 64, "quota or burst"),
-                                           in_range(own_period_us, 64, "period"),
-                                           ctypes.byref(slices))
-        if number:
-            raise self.refused(number)
-        return slices.value
+        return self.of_host("slices", host, usec, own_period_us)
 
     def period_limit(self, host: Host, quota: int | None, own_period_us: int = 100000,
                      burst: int = 0, carry: int = 0) -> int | None:
@@ -276,14 +279,9 @@ class Library:
         Quota and burst are in microseconds of its own period, and the carry is the slices of its
         limit that the last period left: the quota plus the carry, at most the quota plus the burst.
         """
-        limit = c.U64()
-        words = (number_or_none(quota, c.NO_LIMIT, "quota"), own_period_us, burst, carry)
-        number = self.calls.arbiter_period_limit(
-            *self.host(host), *(in_range(word, 64, "quota, period, burst or carry")
-                                for word in words), ctypes.byref(limit))
-        if number:
-            raise self.refused(number)
-        return None if limit.value == c.NO_LIMIT else limit.value
+        limit = self.of_host("period_limit", host, number_or_none(quota, c.NO_LIMIT, "quota"),
+                             own_period_us, burst, carry)
+        return None if limit == c.NO_LIMIT else limit
 
     def book(self, host: Host, rows: Rows, quotas: Sequence[int | None], used: Sequence[int],
              counters: Counters) -> list[int]:
@@ -293,20 +291,15 @@ class Library:
         of its limit without what was carried in. Refused as a plan is, and by 50 WrongLength.
         """
         columns = Columns.of(rows)
-        quotas = [number_or_none(quota, c.NO_LIMIT, "quota") for quota in quotas]
+        own = [number_or_none(quota, c.NO_LIMIT, "quota") for quota in quotas]
         carries = zeros(U64, len(columns))
-        self.ask("book", host, columns, *given(
-            column(U64, quotas, "quota"), column(U64, used, "use"), carries, *counters))
+        self.ask("book", host, columns, *given(column(U64, own, "quota"),
+                                               column(U64, used, "use"), carries, *counters))
         return carries.tolist()
 
     def demand(self, host: Host, thousandths: int) -> int:
         """The slices of one period that thousandths of a CPU take, rounded up."""
-        slices = c.U64()
-        number = self.calls.arbiter_demand(*self.host(host), in_range(thousandths, 64, "demand"),
-                                           ctypes.byref(slices))
-        if number:
-            raise self.refused(number)
-        return slices.value
+        return self.of_host("demand", host, thousandths)
 
     def weight_of_shares(self, shares: int, conversion: str = "linear") -> int:
         """The `cpu.weight` that container runtimes write for `cpu.shares`.

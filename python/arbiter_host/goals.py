@@ -12,7 +12,6 @@ from arbiter_host.faults import HostFault, UsageFault
 from arbiter_host.model import Model
 from arbiter_host.names import parent_path, shown
 from arbiter_host.plan import Plan, Planned, plan
-from arbiter_host.units import Slices
 
 NO_CHANGE = "all goals are met as it stands: nothing changes"
 # At most so many changes are left out one by one.
@@ -170,7 +169,7 @@ def goal_of(word: str) -> tuple[str, Fraction]:
 
 def goals_of(before: Plan, words: Sequence[str]) -> tuple[Goal, ...]:
     """The goals that words name, one for each group that matches, in the order of the words."""
-    slices, groups = Slices(before.engine.library, before.model.host), before.by_path()
+    slices, groups = before.model.conversions(before.engine.library), before.by_path()
     goals = [Goal(groups[each.path], slices.demand(thousandths), thousandths)
              for pattern, thousandths in map(goal_of, words)
              for each in demands.matching(before.model, pattern)]

@@ -102,14 +102,10 @@ class Group:
         """Quota and period as `cpu.max` has them."""
         return f"{'max' if self.quota is None else self.quota} {self.period}"
 
-    def limit_slices(self, slices: Slices) -> int | None:
-        """The limit of the next period, in slices: the quota with what was saved up."""
-        if self.quota is None:
-            return None
-        quota = slices.limit(self.quota, self.period)
-        if self.burst == 0:
-            return quota
-        return min(self.saved + quota, quota + slices.limit(self.burst, self.period))
+    @property
+    def bandwidth(self) -> tuple[int | None, int, int, int]:
+        """The words of `Slices.limit`. What is saved up counts only with a burst."""
+        return self.quota, self.period, self.burst, self.saved if self.burst else 0
 
 
 @dataclass
@@ -150,16 +146,20 @@ class Model:
             below[names.parent_path(path)].append(path)
         return below
 
+    def conversions(self, library: Library) -> Slices:
+        """Conversions for the host, those of the source if its host is the same."""
+        if self.slices is None or not self.slices.are_of(self.host):
+            self.slices = Slices(library, self.host)
+        return self.slices
+
     def rows(self, library: Library) -> list[Row]:
         """The rows that the planner takes, the root first."""
-        slices = self.slices
-        if slices is None or not slices.are_of(self.host):
-            slices = Slices(library, self.host)
+        slices = self.conversions(library)
         place, rows = {"": 0}, [Row(None, units.DEFAULT_WEIGHT, None, 0)]
         for path, group in self.groups.items():
             place[path] = len(rows)
             rows.append(Row(place[path.rpartition("/")[0]], group.weight,
-                            group.limit_slices(slices), slices.demand(group.usable)))
+                            slices.limit(*group.bandwidth), slices.demand(group.usable)))
         return rows
 
     def with_host(self, host: Host) -> Model:

@@ -9,12 +9,12 @@ from __future__ import annotations
 import functools
 from collections.abc import Callable, Iterator, Sequence
 from contextlib import contextmanager
-from dataclasses import dataclass, field
+from dataclasses import dataclass, field, replace
 from fractions import Fraction
 from typing import NamedTuple
 
 import arbiter
-from arbiter import (Certificate, Columns, Figures, Host, Kind, Library, Refused, Row,
+from arbiter import (Certificate, Columns, Counters, Figures, Host, Kind, Library, Refused, Row,
                      Unavailable)
 from arbiter_host import progress, units
 from arbiter.found import TO_DO
@@ -32,6 +32,13 @@ class Answer(NamedTuple):
     certificate: Certificate
     limiting: list[int]
     figures: Figures
+
+
+class Booked(NamedTuple):
+    """What a period leaves of each limit, in slices, and its counters."""
+
+    carries: list[int]
+    counters: Counters
 
 
 @contextmanager
@@ -73,6 +80,14 @@ class Engine:
             figures = self.library.figures(host, columns)
         return Answer(columns, amounts, certificate, limiting, figures)
 
+    def book(self, host: Host, answer: Answer, quotas: Sequence[int | None]) -> Booked:
+        """What a period of a plan leaves and counts. Quotas are in slices."""
+        counters = Counters.zeros(len(answer.columns))
+        with asking("the counters of a period"):
+            # (neither depends on the number of CPUs, and the planner takes at most 64)
+            return Booked(self.library.book(replace(host, processors=1), answer.columns, quotas,
+                                            answer.amounts, counters), counters)
+
 
 def engine_of(path: str | None = None, changes: bool = False) -> Engine:
     """The engine over the library of a path, else over the first that is found. One that changes a
@@ -104,8 +119,6 @@ class Planned:
     # Sum of the weights of its children that can use a slice, and their number.
     active_weight: int
     active: int
-    # Slices that its own limit withholds.
-    withheld: int
     children: list[Planned] = field(default_factory=list)
     depth: int = 0
 
@@ -272,10 +285,10 @@ def planned_of(rows: Sequence[Row], model: Model, answer: Answer) -> list[Planne
     entries: list[tuple[str, Group | None]] = [(".", None), *model.groups.items()]
     figures = answer.figures
     groups = [Planned(place, path, row.parent, row.weight, row.limit, row.demand, gets, group,
-                      want, bool(tight), active_weight, active, withheld)
-              for place, ((path, group), row, gets, want, tight, active_weight, active, withheld)
+                      want, bool(tight), active_weight, active)
+              for place, ((path, group), row, gets, want, tight, active_weight, active)
               in enumerate(zip(entries, rows, answer.amounts, figures.wants, figures.tights,
-                               figures.active_weights, figures.actives, figures.withheld))]
+                               figures.active_weights, figures.actives))]
     groups[0].limit = model.host.capacity
     for group in groups[1:]:
         above = groups[group.parent or 0]

@@ -13,13 +13,13 @@ from collections.abc import Callable, Iterator, Mapping, Sequence
 from dataclasses import dataclass
 from fractions import Fraction
 
+from arbiter import Counters
 from arbiter_host import demands, svg, text, units
 from arbiter_host.faults import HostFault, UsageFault
 from arbiter_host.model import Model
 from arbiter_host.names import cut, short, shown
-from arbiter_host.plan import Engine, Plan, plan
+from arbiter_host.plan import Answer, Booked, Engine, Plan, plan
 from arbiter_host.sources.samples import History
-from arbiter_host.units import Slices
 
 FLAGS = (("T", "throttled", "#b4231f"), ("t", "throttled, not by its limit", "#d97706"),
          ("B", "burst", "#7c3aed"), ("S", "starved", "#111827"))
@@ -50,19 +50,21 @@ class SampleCell:
     # Microseconds wanted above the limit.
     withheld: int = 0
 
-    def count(self, gets: int, wants: int, limit: int | None, is_throttled: bool, withheld: int,
-              quota: int | None, times: int) -> None:
-        """Adds so many periods. The quota is the limit without what was saved up."""
+    def count(self, answer: Answer, row: int, limit: int | None, counters: Counters, times: int
+              ) -> None:
+        """Adds so many periods of a plan, with the counters of one."""
+        gets, wants, is_throttled = answer.amounts[row], answer.figures.wants[row], (
+            counters.nr_throttled[row])
         if limit is not None and (self.limit is not None or self.periods == 0):
             self.limit = (self.limit or 0) + limit * times
         self.periods += times
         self.gets += gets * times
         self.wants += wants * times
         self.throttled += times * is_throttled
-        self.elsewhere += times * (is_throttled and limit is not None and gets < limit)
+        self.elsewhere += times * is_throttled * (limit is not None and gets < limit)
         self.starved += times * (wants > 0 and gets == 0)
-        self.withheld += times * withheld * is_throttled
-        self.bursts += times * (quota is not None and gets > quota)
+        self.withheld += times * counters.throttled_usec[row]
+        self.bursts += times * counters.nr_bursts[row]
 
     def mean(self, slices: int) -> Fraction:
         """A sum as a mean over the periods."""
@@ -139,43 +141,44 @@ def sample_periods(usec: int, period: int) -> int:
     return count
 
 
-def quota_slices(model: Model, engine: Engine, path: str) -> int | None:
-    """The quota of a group without what was saved up."""
-    group = model.groups.get(path)
-    if group is None or group.quota is None:
-        return None
-    return Slices(engine.library, model.host).limit(group.quota, group.period)
+def quotas_of(model: Model, engine: Engine) -> list[int | None]:
+    """The quota of each row in slices, without what was saved up."""
+    limit = model.conversions(engine.library).limit
+    return [None, *(limit(each.quota, each.period) for each in model.groups.values())]
 
 
-def periods_of(engine: Engine, model: Model, count: int) -> Iterator[tuple[Plan, int]]:
+def periods_of(engine: Engine, model: Model, count: int) -> Iterator[tuple[Plan, Booked, int]]:
     """The plans of so many periods with the same demands, each with how often it holds.
 
     What is saved up decides the next period, so that from a state that was there before on the
     periods repeat.
     """
     seen: dict[tuple[int, ...], int] = {}
-    plans: list[Plan] = []
+    periods: list[tuple[Plan, Booked]] = []
+    quotas = quotas_of(model, engine)
     for left in range(count, 0, -1):
         state = tuple(group.saved for group in model.groups.values())
         if state in seen:
-            cycle = plans[seen[state]:]
+            cycle = periods[seen[state]:]
             times, more = divmod(left, len(cycle))
-            yield from ((each, times + (place < more)) for place, each in enumerate(cycle)
+            yield from ((*each, times + (place < more)) for place, each in enumerate(cycle)
                         if times or place < more)
-            settle(cycle[more - 1], model)
+            settle(cycle[more - 1][1], model)
             return
-        if len(plans) >= MOST_DISTINCT:
+        if len(periods) >= MOST_DISTINCT:
             raise HostFault(f"a sample with more than {MOST_DISTINCT} distinct periods")
-        seen[state] = len(plans)
-        plans.append(plan(engine, model.copy()))
-        yield plans[-1], 1
-        settle(plans[-1], model)
+        seen[state] = len(periods)
+        made = plan(engine, model.copy())
+        booked = engine.book(model.host, made.answer, quotas)
+        periods.append((made, booked))
+        yield made, booked, 1
+        settle(booked, model)
 
 
-def settle(plan_: Plan, model: Model) -> None:
-    """Keeps what each group leaves of its limit in a plan for the next period of the model."""
-    for group in plan_.groups[1:]:
-        model.groups[group.path].saved = 0 if group.limit is None else group.limit - group.gets
+def settle(booked: Booked, model: Model) -> None:
+    """Keeps what each group leaves of its limit for the next period of the model."""
+    for group, carry in zip(model.groups.values(), booked.carries[1:], strict=True):
+        group.saved = carry
 
 
 def run(engine: Engine, model: Model, history: History, unit: str, chosen: Sequence[str],
@@ -184,16 +187,14 @@ def run(engine: Engine, model: Model, history: History, unit: str, chosen: Seque
     groups: dict[str, list[SampleCell]] = {
         path: [] for path in chosen or path_of.values() or ["."]}
     model, last = model.copy(), None
-    quotas = [quota_slices(model, engine, path) for path in groups]
+    row_of = {path: row for row, path in enumerate([".", *model.groups])}
     for _, asked in history.demands(unit, model.host):
         set_demands(model, path_of, asked)
         cells = [SampleCell() for _ in groups]
-        for last, times in periods_of(engine, model, periods):
-            by_path = last.by_path()
-            for path, quota, cell in zip(groups, quotas, cells):
-                group = by_path[path]
-                cell.count(group.gets, group.want, group.limit, group.is_throttled,
-                           group.withheld * model.host.slice_us, quota, times)
+        for last, booked, times in periods_of(engine, model, periods):
+            for path, cell in zip(groups, cells):
+                row = row_of[path]
+                cell.count(last.answer, row, last.groups[row].limit, booked.counters, times)
         for path, cell in zip(groups, cells):
             groups[path].append(cell)
         tick()

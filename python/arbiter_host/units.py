@@ -13,6 +13,8 @@ from arbiter import Host, Library, Refused
 from arbiter_host.faults import HostFault
 
 MAX_DEMAND = 1000000
+# Most limits that are kept.
+MAX_KEPT = 65536
 # Number of a demand that is too large.
 TOO_LARGE = 9
 MAX_QUOTA = 10**15
@@ -91,21 +93,23 @@ class Slices:
 
     def __init__(self, library: Library, host: Host) -> None:
         self.library, self.host = library, Host(1, host.period_us, host.slice_us)
-        self.limits: dict[tuple[int, int], int] = {}
+        self.limits: dict[tuple[int | None, int, int, int], int | None] = {}
         self.demands: dict[tuple[int, int], int] = {}
 
     def are_of(self, host: Host) -> bool:
         """Whether they are those of a host."""
         return (self.host.period_us, self.host.slice_us) == (host.period_us, host.slice_us)
 
-    def limit(self, usec: int, own_period: int) -> int:
-        """Slices that a quota or burst allows, rounded down."""
-        key = (usec, own_period)
+    def limit(self, quota: int | None, period: int, burst: int = 0, saved: int = 0) -> int | None:
+        """Slices that a group may use in its next period, of which some are saved up."""
+        key = (quota, period, burst, saved)
         if key not in self.limits:
+            if len(self.limits) >= MAX_KEPT:
+                self.limits.clear()
             try:
-                self.limits[key] = self.library.slices(self.host, usec, own_period)
+                self.limits[key] = self.library.period_limit(self.host, *key)
             except (Refused, OverflowError) as error:
-                raise HostFault(f"{usec} microseconds in {own_period}: {error}") from error
+                raise HostFault(f"{quota} microseconds in {period}: {error}") from error
         return self.limits[key]
 
     def demand(self, thousandths: Fraction) -> int:

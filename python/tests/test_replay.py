@@ -10,7 +10,6 @@ from arbiter import Host
 from arbiter_host import series
 from arbiter_host.faults import HostFault
 from arbiter_host.model import Group, Model
-from arbiter_host.plan import plan
 from arbiter_host.sources import samples
 from hypothesis import HealthCheck, given, settings
 from hypothesis import strategies as st
@@ -60,9 +59,8 @@ def counted(engine, model, periods):
     """What each group gets in so many periods, one after another."""
     total = [0] * (len(model.groups) + 1)
     for _ in range(periods):
-        found = plan(engine, model.copy())
-        total = [one + group.gets for one, group in zip(total, found.groups)]
-        series.settle(found, model)
+        (found, _, _), = series.periods_of(engine, model, 1)
+        total = [one + gets for one, gets in zip(total, found.answer.amounts)]
     return total
 
 
@@ -87,8 +85,8 @@ def test_repeated_periods_are_periods(engine, quota, burst, before, after, perio
                 sums.append(run(engine, model, periods))
             else:
                 total = [0, 0, 0]
-                for found, times in series.periods_of(engine, model, periods):
-                    total = [each + group.gets * times for each, group in zip(total, found.groups)]
+                for found, _, times in series.periods_of(engine, model, periods):
+                    total = [each + gets * times for each, gets in zip(total, found.answer.amounts)]
                 sums.append(total)
         model.notes = sums
     assert one.notes == two.notes

@@ -75,6 +75,7 @@ class Accepted:
     # The paths of the groups, `.` first.
     paths: Sequence[str]
     answer: Answer
+    engine: Engine
 
     @property
     def gets(self) -> Sequence[int]:
@@ -108,7 +109,7 @@ def accepted(engine: Engine, host: Host, plan: SentPlan) -> Accepted:
     if not all(isinstance(each, str) for each in plan.paths):
         raise TypeError(plan.paths)
     return Accepted(host, plan.paths, engine.accepted(
-        host, *unpacked(plan.data, len(plan.paths))))
+        host, *unpacked(plan.data, len(plan.paths))), engine)
 
 
 def explained(_: Job, plans: Iterator[Accepted], told: dict[str, Any]) -> dict[str, Any]:
@@ -173,22 +174,18 @@ def placed(job: Job, plans: Iterator[Accepted], told: dict[str, Any]) -> dict[st
     return {"before": before.sums, "pods": pods}
 
 
-def counted(plan: Accepted, path: str, cell: SampleCell, quota: int | None, times: int) -> None:
-    """Adds the periods of one plan to the cell of a group."""
-    figures, row = plan.answer.figures, plan.paths.index(path)
-    cell.count(plan.gets[row], plan.wants[row], plan.limit(row), row > 0 and bool(
-        figures.tights[row]), figures.withheld[row] * plan.host.slice_us, quota, times)
-
-
 def replayed(_: Job, plans: Iterator[Accepted], told: dict[str, Any]) -> dict[str, Any]:
     """The sums of each group over all samples."""
-    samples = []
+    samples, quotas = [], dict(zip(told["columns"], told["quotas"], strict=True))
     for counts in told["times"]:
         cells = {path: SampleCell() for path in told["columns"]}
         for times in counts:
             plan = next(plans)
-            for (path, cell), quota in zip(cells.items(), told["quotas"], strict=True):
-                counted(plan, path, cell, quota, times)
+            counters = plan.engine.book(plan.host, plan.answer,
+                                        list(map(quotas.get, plan.paths))).counters
+            for path, cell in cells.items():
+                row = plan.paths.index(path)
+                cell.count(plan.answer, row, plan.limit(row), counters, times)
         samples.append(cells)
     return {"samples": len(samples), "unknown": list(map(str, told["unknown"])),
             "groups_of_columns": [

@@ -170,13 +170,14 @@ def replayed(job: Job, model: Model, engine: Engine, history: History) -> Asked:
     for _, asked in history.demands(job.unit, model.host):
         series.set_demands(model, path_of, asked)
         counts: Counter[Plan] = Counter()
-        for made, count in series.periods_of(engine, model, periods):
+        for made, _, count in series.periods_of(engine, model, periods):
             counts[made] += count
         plans += map(sent, counts)
         times.append(list(counts.values()))
+    quotas = dict(zip([".", *model.groups], series.quotas_of(model, engine)))
     columns = list(path_of.values())
-    return plans, {"columns": columns, "times": times, "unknown": missing, "quotas": [
-        series.quota_slices(model, engine, path) for path in columns]}
+    return plans, {"columns": columns, "times": times, "unknown": missing,
+                   "quotas": [quotas[path] for path in columns]}
 
 
 ACTIONS = {"explain": explained, "diff": compared, "place": placed}

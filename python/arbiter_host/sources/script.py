@@ -99,10 +99,10 @@ def add_groups(model: Model, script: Script, slices: Slices) -> None:
             tree.parents, script.names, tree.weights, tree.limits, tree.demands, script.quotas,
             script.periods, script.bursts, script.carries):
         paths.append(f"{paths[parent]}/{name}" if paths and parent else name)
-        if quota != NO_LIMIT and burst == 0:
-            slices.limits[quota, period] = limit
-        model.groups[paths[-1]] = Group(paths[-1], weight, None if quota == NO_LIMIT else quota,
-                                        period, burst, demands[demand], None, carry)
+        group = Group(paths[-1], weight, None if quota == NO_LIMIT else quota, period, burst,
+                      demands[demand], None, carry)
+        slices.limits[group.bandwidth] = None if limit == NO_LIMIT else limit
+        model.groups[paths[-1]] = group
     del model.groups[""]
 
 
