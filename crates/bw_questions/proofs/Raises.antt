@@ -1,8 +1,9 @@
 -- Raises: each is at most what any weights that meet the goals have, and no sum of weights falls.
-use Rattle.std.proofs.Common.{◌≡◌, ◌≢◌, ℕ, zero, suc, ◌-◌, ◌+◌, ◌<◌, ◌≤◌, List, [], ◌∷◌, Bool}
-use Rattle.std.proofs.Common.{true, false, Option, None, Some, length, refl, ap, sym, ◌∙◌, arith, inl, inr}
+use Rattle.std.proofs.Common.{◌≡◌, ◌≢◌, ℕ, zero, suc, ◌-◌, ◌+◌, ◌*◌, ◌<◌, ◌≤◌, List, [], ◌∷◌}
+use Rattle.std.proofs.Common.{Bool, true, false, Option, None, Some, length, refl, ap, sym, ◌∙◌, arith, inl, inr}
 use Rattle.std.proofs.Common.{get_or-set_same, get_or-set_other}
 use Rattle.std.specs.Prelude.{slice_index_or, slice_set}
+use Rattle.std.proofs.Math.Nat.{mul-le-mul_left}
 use Rattle.std.proofs.lemmas.Bool.{cases_lt, cases_eq}
 use Rattle.std.proofs.lemmas.List.{length-set}
 use Rattle.bw_model.specs.declared.row.Row.{Row}
@@ -16,6 +17,7 @@ use Rattle.bw_questions.specs.declared.tuned.measure.Measure.{Measure}
 use Rattle.bw_questions.specs.declared.tuned.tuning.Conflict.{Conflict}
 use Rattle.bw_questions.specs.Change.{with_weight}
 use Rattle.bw_questions.specs.Least.{IsLeast}
+use Rattle.bw_questions.specs.Plans.{plans_of_raises}
 use Rattle.bw_questions.specs.Raising.{IsTooMuch}
 use Rattle.bw_questions.specs.Tune.{goal_at, AreGoals, IsMet, IsReweighted, IsNoLighter}
 use Rattle.bw_questions.specs.Tune.{IsTuned, IsLeastRaise, AreMet, AreMarkedMet}
@@ -83,6 +85,53 @@ reweighted_more start current goals one k w below found first last =
           weight_other current (goal_at goals k).group
           (weighed current (goal_at goals k).group w) inside h (λ same. out k below (sym same));
     })
+
+-- what the weights of the goals' groups can rise yet, in all
+abbrev pub spare_of : List Row → List Goal → ℕ
+spare_of rows [] = 0
+spare_of rows (goal ∷ goals) = (MAX_WEIGHT - weight_of rows goal.group) + spare_of rows goals
+
+pub spare_of-most : (rows : List Row) (goals : List Goal)
+    → spare_of rows goals ≤ MAX_WEIGHT * length goals
+spare_of-most rows [] = omega arith
+spare_of-most rows (goal ∷ goals) = omega (arith, spare_of-most rows goals)
+
+spare_of-no_more : (before after : List Row)
+    → ((h : ℕ) → weight_of before h ≤ weight_of after h) → (goals : List Goal)
+    → spare_of after goals ≤ spare_of before goals
+spare_of-no_more before after all [] = omega arith
+spare_of-no_more before after all (goal ∷ goals) =
+    omega (arith, all goal.group, spare_of-no_more before after all goals)
+
+spare_of-less : (before after : List Row)
+    → ((h : ℕ) → weight_of before h ≤ weight_of after h) → (goals : List Goal) (k : ℕ)
+    → k < length goals
+    → weight_of before (goal_at goals k).group < weight_of after (goal_at goals k).group
+    → weight_of after (goal_at goals k).group ≤ MAX_WEIGHT
+    → spare_of after goals < spare_of before goals
+spare_of-less before after all [] k below more last = absurd (omega (arith, below))
+spare_of-less before after all (goal ∷ goals) zero below more last =
+    omega (arith, more, last, spare_of-no_more before after all goals)
+spare_of-less before after all (goal ∷ goals) (suc k) below more last =
+    omega (
+      arith,
+      all goal.group,
+      spare_of-less before after all goals k (omega (arith, below)) more last,
+    )
+
+-- One raise more: its plans are no more than what it takes off.
+pub raise_counted : (n before after spare left limit : ℕ)
+    → before + (n + 14) * spare ≤ limit → after ≤ before + (n + 14) → left < spare
+    → after + (n + 14) * left ≤ limit
+raise_counted n before after spare left limit so_far more less =
+    omega (arith, so_far, more, mul-le-mul_left (n + 14) less)
+
+-- The plans of all raises, and of one turn more.
+pub raises_counted : (n first before after spare : ℕ)
+    → before + (n + 14) * spare ≤ first + (n + 14) * (MAX_WEIGHT * n)
+    → after ≤ before + (n + 14) → after ≤ first + plans_of_raises n
+unfolding plans_of_raises
+raises_counted n first before after spare so_far more = omega (arith, so_far, more)
 
 -- What stands at each turn: the weights are at most those of all that meet the marked goals.
 pub record IsBelow (measure : Measure) (start : Groups) (goals : List Goal) (current : Groups)
@@ -289,6 +338,25 @@ module _ (measure : Measure) (start : Groups) (goals : List Goal) (current : Gro
                 )
           ];
     }
+
+    -- A raise leaves less to raise.
+    pub raise-spare : (w : ℕ) → weight_of current.rows (goal_at goals k).group < w → w ≤ MAX_WEIGHT
+        → spare_of (with_weight current (goal_at goals k).group w).rows goals
+        < spare_of current.rows goals
+    raise-spare w more last =
+        let here = weight_here current (goal_at goals k).group
+        (weighed current (goal_at goals k).group w) g_in in
+        spare_of-less current.rows (with_weight current (goal_at goals k).group w).rows
+        (λ h. elim (cases_eq h (goal_at goals k).group) [
+          | inl same ↦ rw same (omega (arith, more, here))
+          | inr apart ↦
+              omega (
+                arith,
+                weight_other current (goal_at goals k).group
+                    (weighed current (goal_at goals k).group w) g_in h apart,
+              )
+        ])
+        goals k below (omega (arith, more, here)) (omega (arith, last, here))
 
     -- Where no weight meets the goal, it is too much beside the marked ones.
     pub raise-IsTooMuch : IsLeast (λ n. IsMet measure

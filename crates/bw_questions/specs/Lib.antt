@@ -7,6 +7,7 @@ pub mod HeldLaws
 pub mod HeldRule
 pub mod Laws
 pub mod Least
+pub mod Plans
 pub mod Raising
 pub mod Reading
 pub mod Reasons

@@ -21,11 +21,11 @@ returns-clause-ok c =
     let good : AreGoals c.args.instance.now.rows c.args.goals.now =
     rw (no_value _ c.in_default.not-Some) at c.refusal.ensures.none in
     let too_much : IsTooMuch c.args.measure c.args.instance.now c.args.goals.now
-    c.in-Unmet.field-0 = rw c.in-Unmet.is at c.in_ok-tuned.ensures in
+    c.in-Unmet.field-0 = rw c.in-Unmet.is at c.in_ok-tuned.ensures.raising in
     light-IsTuning c.args.instance.now c.in_ok-light-in-Unmet.light c.args.goals.now
     c.rows-rows.ensures.valid good c.in_ok-light-in-Unmet.ensures.weights
     c.in_ok-light-in-Unmet.ensures.least c.args.measure c.in-Unmet.field-0 too_much
-    c.in_ok-tuning-in-Unmet.tuning c.in_ok-tuning-in-Unmet.ensures
+    c.in_ok-tuning-in-Unmet.tuning c.in_ok-tuning-in-Unmet.ensures.raising
 
 pub returns-in-Some-2-clause-ok : goal.returns-in-Some-2-clause-ok
 returns-in-Some-2-clause-ok c =
