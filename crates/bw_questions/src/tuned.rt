@@ -1,7 +1,7 @@
 //! Weights under which several goals are met at once.
 ghost use Rattle.std.specs.Prelude.{◌+◌, ◌*◌, IfOk, IfErr, OnOk, length};
 ghost use Rattle.bw_questions.specs.Plans.{ArePlans, plans_of_raises};
-ghost use Rattle.bw_questions.specs.Tune.{AreGoals, IsTuning, NamesTheExcess};
+ghost use Rattle.bw_questions.specs.Tune.{AreGoals, IsTuning, NamesTheExcess, NamesTheShort};
 ghost use Rattle.bw_questions.specs.Fault.{IsTuneRefused};
 
 mod excess;
@@ -33,7 +33,8 @@ pub use tuning::{Conflict, Tuning};
 /// weights do not meet all goals, they are the least of all from 1 on.
 ///
 /// If no weights meet all goals, the answer is [`Tuning::Unmet`], with goals that cannot be met
-/// together. If they ask for more than the plan serves in all, those are the first that do.
+/// together. If they ask for more than the plan serves in all, those are the first that do. Else
+/// each of them falls short under some weights. Other goals may conflict too.
 ///
 /// # Cost
 ///
@@ -58,6 +59,7 @@ pub fn tune(
     ensures goals { OnOk result (AreGoals instance.now.rows goals.now) }
     ensures ok { IfOk result (IsTuning measure instance.now goals.now) }
     ensures excess { IfOk result (NamesTheExcess instance.now goals.now) }
+    ensures short { IfOk result (NamesTheShort measure instance.now goals.now) }
     ensures err { IfErr result (IsTuneRefused instance.now.rows goals.now) }
     ensures plans { ArePlans (1 + 2 * plans_of_raises (length goals.now)) plans.old.steps
         plans.new.steps }

@@ -1,7 +1,7 @@
 //! Laws of the rule, each the contract of a function that does no work of its own.
 ghost use Rattle.bw_questions.specs.HeldLaws.{NoneBelowItsGuarantee, GuaranteeIsAdmitted};
 ghost use Rattle.bw_questions.specs.HeldLaws.{NoneAboveItsLimit, AskedIsAdmittedAsPlanned};
-ghost use Rattle.bw_questions.specs.HeldLaws.{LimitsAdmitThePlan};
+ghost use Rattle.bw_questions.specs.HeldLaws.{LesserIsAdmitted, LimitsAdmitThePlan};
 ghost use Rattle.bw_questions.specs.Rounds.{WantsGiveThePlan, PlanStays, NothingElseStays};
 ghost use Rattle.bw_questions.specs.Rounds.{PlanIsReached};
 
@@ -17,6 +17,14 @@ pub fn none_below_its_guarantee()
 /// Law: a leaf that wants at most its guarantee is admitted whole, whatever was read.
 pub fn guarantee_is_admitted()
     ensures { GuaranteeIsAdmitted }
+{
+    there_is_one_plan();
+}
+
+/// Law: whatever was read, a leaf is admitted at least the lesser of what it wants now and of its
+/// guarantee. So it is while wants move.
+pub fn lesser_is_admitted()
+    ensures { LesserIsAdmitted }
 {
     there_is_one_plan();
 }

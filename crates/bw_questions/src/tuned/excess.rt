@@ -1,7 +1,7 @@
 //! Goals that ask for more than the host serves.
 ghost use Rattle.std.specs.Prelude.{◌≡◌, ◌+◌, IfOk, IfSome, IfNone};
 ghost use Rattle.bw_questions.specs.declared.tuned.measure.Measure.{Measure};
-ghost use Rattle.bw_questions.specs.Tune.{AreGoals, IsConflict, NamesTheExcess};
+ghost use Rattle.bw_questions.specs.Tune.{AreGoals, IsConflict, IsExcess, NamesTheExcess};
 
 use super::goal::Goal;
 use super::tuning::{Conflict, Tuning};
@@ -29,6 +29,8 @@ pub(crate) fn excess(
         (measure : Measure) → IsConflict measure instance.now goals.now conflict)) }
     ensures first { IfOk result (λ found. IfSome found (λ conflict.
         NamesTheExcess instance.now goals.now (Tuning.Unmet conflict))) }
+    ensures much { IfOk result (λ found. IfSome found (λ conflict.
+        IsExcess instance.now goals.now conflict.goal)) }
     ensures none { IfOk result (λ found. IfNone found
         ((tuning : Tuning) → NamesTheExcess instance.now goals.now tuning)) }
     ensures plans { plans.new.steps ≡ plans.old.steps + 1 }

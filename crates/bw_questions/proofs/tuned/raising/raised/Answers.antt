@@ -1,6 +1,7 @@
 -- The goals of `raised` that are answered by hand.
 use Rattle.std.proofs.Math.Nat.{mul-le-mul_left}
-use Rattle.std.proofs.Common.{◌≡◌, ◌<◌, ◌≤◌, ◌+◌, ◌*◌, None, Some, length, refl, arith, rules}
+use Rattle.std.proofs.Common.{◌≡◌, ◌<◌, ◌≤◌, ◌+◌, ◌*◌, None, Some, false, length, replicate, refl}
+use Rattle.std.proofs.Common.{arith, rules}
 use Rattle.bw_model.specs.declared.limits.TheConstants.{MIN_WEIGHT, MAX_WEIGHT}
 use Rattle.bw_model.specs.Groups.{row_of, weight_of}
 use Rattle.bw_questions.specs.Change.{with_weight}
@@ -25,6 +26,14 @@ returns-in_default-2-clause-raising c =
     c.loop-together.together.items c.in-Some.place found.0 c.loop-together.invariant.below
     c.there_is_one_plan.ensures c.others_weights_give_nothing.ensures c.rows-rows.ensures.valid
     c.requires none _ refl refl
+
+pub loop-together-init : goal.loop-together-init
+loop-together-init c =
+    let none : c.in_ok-together.together.items ≡ replicate (length c.args.goals.now) false =
+    search rules in
+    rw c.in_ok-current.ensures
+    (below_self c.args.measure c.args.start.now c.args.goals.now c.in_ok-together.together.items
+    c.rows-rows.ensures.valid none)
 
 pub loop-together-smaller : goal.loop-together-smaller
 loop-together-smaller c =
