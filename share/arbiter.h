@@ -98,6 +98,8 @@ uint32_t arbiter_check_text(const uint8_t *text, size_t text_length, uint32_t *r
 
 /* Reads a script, as `arbiter run` does on this host, and writes the groups after its last line and the refused lines. Lines that
  * only ask for an answer change nothing. Each `period` serves the plan where every leaf uses its slices, without a thread.
+ * `hash_key` is a number that whoever writes the script cannot know, as of getrandom: one who knows it can choose names that take
+ * long. No answer depends on it.
  *
  * Groups stand in order of creation, the root first, one entry in each of the eight columns that begin with `parents`. The first
  * four, cut to `count` entries, are what arbiter_plan takes: a limit is that of the next period. A quota and a burst are in
@@ -111,7 +113,8 @@ uint32_t arbiter_check_text(const uint8_t *text, size_t text_length, uint32_t *r
  * Answers 50 where the eight columns differ in length, or the two of refused lines do; then 1 to 3; then 71, or 50 where a column
  * is too short. For a text with n newlines n + 2 groups, and never more than 16384, text_length + 1 bytes of names, and n + 1
  * refused lines have room. What stands behind the written entries is as it was. */
-uint32_t arbiter_script(uint64_t processors, uint64_t period_us, uint64_t slice_us, const uint8_t *text, size_t text_length,
+uint32_t arbiter_script(uint64_t processors, uint64_t period_us, uint64_t slice_us, uint64_t hash_key,
+                        const uint8_t *text, size_t text_length,
                         uint32_t *parents, size_t parents_length, uint64_t *weights, size_t weights_length,
                         uint64_t *limits, size_t limits_length, uint64_t *demands, size_t demands_length,
                         uint64_t *quotas, size_t quotas_length, uint64_t *periods, size_t periods_length,

@@ -142,10 +142,10 @@ int main(void)
         return 40;
     if (arbiter_check(1, 100000, 5000, parents, 3, weights, 3, limits, 3, asks, 3, amounts, 3, flags, 3, nums, 3, dens, 3, places, 3, &row) != 0)
         return 41;
-    if (arbiter_script(1, 100000, 5000, (const uint8_t *)script, sizeof script - 1, up, 3, heavy, 3, capped, 3, asked, 3, quotas, 3, periods, 3,
+    if (arbiter_script(1, 100000, 5000, 7, (const uint8_t *)script, sizeof script - 1, up, 3, heavy, 3, capped, 3, asked, 3, quotas, 3, periods, 3,
                        bursts, 3, carries, 2, (uint8_t *)path, 7, line, 1, fault, 1, &count, &names_count, &refused_count) != 50 || count != 1)
         return 42;
-    if (arbiter_script(1, 100000, 5000, (const uint8_t *)script, sizeof script - 1, up, 3, heavy, 3, capped, 3, asked, 3, quotas, 3, periods, 3,
+    if (arbiter_script(1, 100000, 5000, 7, (const uint8_t *)script, sizeof script - 1, up, 3, heavy, 3, capped, 3, asked, 3, quotas, 3, periods, 3,
                        bursts, 3, carries, 3, (uint8_t *)path, 7, line, 1, fault, 1, &count, &names_count, &refused_count) != 0)
         return 43;
     path[7] = 0;

@@ -111,7 +111,7 @@ static uint32_t call(int which)
     case 8: return arbiter_least_processors(ROWS, 4, 15, &rest);
     case 9: return arbiter_figures(ROWS, wants, 5, mosts, 5, tights, 5, actives, 5, active_weights, 5, withheld, 5);
     case 10: return arbiter_hold(ROWS, hungry, 5, caps, 5, asks, 5, amounts, 5, flags, 5, nums, 5, dens, 5, places, 5);
-    case 11: return arbiter_script(1, 100000, 5000, (const uint8_t *)script, sizeof script - 1, above, 5, columns[0], 5,
+    case 11: return arbiter_script(1, 100000, 5000, 7, (const uint8_t *)script, sizeof script - 1, above, 5, columns[0], 5,
                                   columns[1], 5, columns[2], 5, columns[3], 5, columns[4], 5, columns[5], 5, columns[6], 5,
                                   names, sizeof names, lines, 5, faults, 5, &count, &names_count, &refused_count);
     case 12: return arbiter_tune(1, 100000, 5000, parents, 5, greatest, 5, limits, 5, demands, 5, goal_groups, 2,

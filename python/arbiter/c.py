@@ -39,7 +39,7 @@ WORDS: dict[str, list[Any]] = {
     "least_limit": TREE + [U32, U64, WRITTEN],
     "least_processors": TREE + [U32, U64, WRITTEN],
     "refused_row": COLUMN * 4 + [WRITTEN],
-    "script": HOST + COLUMN + ROOM * 11 + [WRITTEN] * 3,
+    "script": HOST + [U64] + COLUMN + ROOM * 11 + [WRITTEN] * 3,
     "slices": HOST + [U64, U64, WRITTEN],
     "demand": HOST + [U64, WRITTEN],
     "weight_of_shares": [U64, U32],

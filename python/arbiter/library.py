@@ -246,7 +246,8 @@ class Library:
         names, at, faults = zeros(U8, len(text) + 1), zeros(U64, lines), zeros(U32, lines)
         count, length, refused = c.U32(), c.U64(), c.U64()
         number = self.calls.arbiter_script(
-            *self.host(host), *given(array(U8, text), *tree, *settings, names, at, faults),
+            *self.host(host), int.from_bytes(os.urandom(8), "big"),
+            *given(array(U8, text), *tree, *settings, names, at, faults),
             ctypes.byref(count), ctypes.byref(length), ctypes.byref(refused))
         if number:
             raise self.refused(number)

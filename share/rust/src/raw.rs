@@ -1,6 +1,8 @@
 //! The calls of `arbiter.h`, on slices. Each call has what the header asks: lengths that are those of the slices, pointers that
 //! are not null (a slice has none), and no memory that is written and read at once (a `&mut` overlaps nothing).
 use crate::{Certificate, Fault, Group, Host, Level, Reason, RefusedLine, Row, Script};
+use std::collections::hash_map::RandomState;
+use std::hash::{BuildHasher, Hasher};
 
 const NO_PARENT: u32 = u32::MAX;
 pub(crate) const NO_LIMIT: u64 = u64::MAX;
@@ -27,7 +29,7 @@ extern "C" {
                      nums: *const u64, nums_length: usize, dens: *const u64, dens_length: usize,
                      places: *const u32, places_length: usize, row: *mut u32) -> u32;
     fn arbiter_check_text(text: *const u8, text_length: usize, row: *mut u32) -> u32;
-    fn arbiter_script(processors: u64, period_us: u64, slice_us: u64, text: *const u8, text_length: usize,
+    fn arbiter_script(processors: u64, period_us: u64, slice_us: u64, hash_key: u64, text: *const u8, text_length: usize,
                       parents: *mut u32, parents_length: usize, weights: *mut u64, weights_length: usize,
                       limits: *mut u64, limits_length: usize, demands: *mut u64, demands_length: usize,
                       quotas: *mut u64, quotas_length: usize, periods: *mut u64, periods_length: usize,
@@ -421,9 +423,11 @@ impl Told {
 
     #[rustfmt::skip]
     pub(crate) fn read(&mut self, host: Host, text: &[u8]) -> u32 {
+        // Random keys of the standard library, by which whoever wrote the text cannot choose names.
+        let hash_key = RandomState::new().build_hasher().finish();
         // SAFETY: as above
         unsafe {
-            arbiter_script(host.processors, host.period_us, host.slice_us, text.as_ptr(), text.len(),
+            arbiter_script(host.processors, host.period_us, host.slice_us, hash_key, text.as_ptr(), text.len(),
                            self.parents.as_mut_ptr(), self.parents.len(), self.weights.as_mut_ptr(), self.weights.len(),
                            self.limits.as_mut_ptr(), self.limits.len(), self.demands.as_mut_ptr(), self.demands.len(),
                            self.quotas.as_mut_ptr(), self.quotas.len(), self.periods.as_mut_ptr(), self.periods.len(),
