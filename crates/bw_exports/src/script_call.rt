@@ -36,8 +36,8 @@ fn are_even(
 ///
 /// The host is that of [`crate::plan_call::arbiter_plan`]. `hash_key` is a number that whoever
 /// writes the script cannot know: one who does can choose names that take long. No answer depends
-/// on it. A line that only asks for an answer changes nothing. Each leaf uses the slices of its periods: `period` leaves of the limit of each
-/// group what the plan does not give it.
+/// on it. A line that only asks for an answer changes nothing. Each leaf uses the slices of its
+/// periods: `period` leaves of the limit of each group what the plan does not give it.
 ///
 /// The answer is 0 if all columns are written. Group g of `count` groups, in order of creation, is
 /// entry g of `parents`, `weights`, `limits` and `demands`, as `arbiter_plan` takes them, with the
