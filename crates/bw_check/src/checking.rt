@@ -18,9 +18,9 @@ use std::alloc::{AllocError, Global};
 /// Whether the certificate shows that the amounts, in slices, are the plan; else the first fault by
 /// its number, then by its row.
 ///
-/// Amounts, flags and levels may be any numbers. A visit of a row is counted for each turn of a loop
-/// over the rows. There are at most 13 visits of each row, and two at least where the certificate is
-/// accepted.
+/// Amounts, flags and levels may be any numbers. A visit of a row is counted for each turn of a
+/// loop over the rows. There are at most 13 visits of each row, and two at least where the
+/// certificate is accepted.
 ///
 /// # Errors
 /// `AllocError` if memory was refused.

@@ -7,7 +7,8 @@ use Rattle.bw_model.specs.Plan.{IsPlan}
 use Rattle.bw_questions.specs.Guarantee.{IsGuaranteed}
 use Rattle.bw_questions.specs.HeldRule.{IsRound, everyone, is_hungry, own_limit, round_of}
 use Rattle.bw_questions.specs.HeldRule.{with_eighth}
-use Rattle.bw_questions.specs.Reading.{IsSameButDemands, IsTrueReading, limit_at, admitted_at, admitted}
+use Rattle.bw_questions.specs.Reading.{IsSameButDemands, IsTrueReading, limit_at, admitted_at}
+use Rattle.bw_questions.specs.Reading.{admitted}
 
 -- No leaf is limited below its guarantee, whatever it wants and whatever was read. The guarantee is
 -- the least that its want gets while the others ask for anything.

@@ -62,4 +62,4 @@ returns-clause-short c =
     light-short c.args.instance.now c.in_ok-light-in-Unmet.light c.args.goals.now
     c.rows-rows.ensures.valid good c.in_ok-light-in-Unmet.ensures.weights
     c.in_ok-light-in-Unmet.ensures.least c.args.measure c.in_ok-tuning-in-Unmet.tuning
-    c.in_ok-tuning-in-Unmet.ensures
+    c.in_ok-tuning-in-Unmet.ensures.raising

@@ -27,14 +27,6 @@ returns-in_default-2-clause-raising c =
     c.there_is_one_plan.ensures c.others_weights_give_nothing.ensures c.rows-rows.ensures.valid
     c.requires none _ refl refl
 
-pub loop-together-init : goal.loop-together-init
-loop-together-init c =
-    let none : c.in_ok-together.together.items ≡ replicate (length c.args.goals.now) false =
-    search rules in
-    rw c.in_ok-current.ensures
-    (below_self c.args.measure c.args.start.now c.args.goals.now c.in_ok-together.together.items
-    c.rows-rows.ensures.valid none)
-
 pub loop-together-smaller : goal.loop-together-smaller
 loop-together-smaller c =
     let found : (c.in-Some.place < length c.args.goals.now)
@@ -177,11 +169,12 @@ returns-in_err-current-2-clause-plans c = record {
 
 pub loop-together-init : goal.loop-together-init
 loop-together-init c =
-    let long : length c.in_ok-together.together.items ≡ length c.args.goals.now = search rules in
+    let none : c.in_ok-together.together.items ≡ replicate (length c.args.goals.now) false =
+    search rules in
     record {
       below = rw c.in_ok-current.ensures
           (below_self c.args.measure c.args.start.now c.args.goals.now
-          c.in_ok-together.together.items c.rows-rows.ensures.valid long);
+          c.in_ok-together.together.items c.rows-rows.ensures.valid none);
       no_fewer = omega arith;
       few = omega (
         arith,
