@@ -167,5 +167,12 @@ int main(void)
         return 52;
     if (arbiter_version(words, sizeof words) != 5 || arbiter_name(71, words, sizeof words) != 11)
         return 53;
+    const uint64_t ran[1] = {500000000};
+    uint64_t two[2];
+    uint32_t is_hungry;
+    if (arbiter_reading(1, 100000, 5000, 1000000000, 500000, 500000, 1, 0, ran, 1, ran, 1, two, two + 1, &is_hungry) != 0 || is_hungry != 1)
+        return 55;
+    if (arbiter_written(1, 100000, 5000, 10, ARBITER_NO_LIMIT, 0, 1, two, two + 1) != 0)
+        return 56;
     return turn == 0 ? 0 : 54;
 }

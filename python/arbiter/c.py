@@ -34,6 +34,8 @@ WORDS: dict[str, list[Any]] = {
     "figures": TREE + ROOM * 6,
     "tune": TREE + COLUMN * 2 + [U32] + ROOM * 2 + [WRITTEN],
     "hold": TREE + COLUMN + ROOM * 7,
+    "reading": HOST + [U64] * 3 + [U32] * 2 + COLUMN * 2 + [WRITTEN] * 3,
+    "written": HOST + [U64] * 3 + [U32] + [WRITTEN] * 2,
     "guarantee": TREE + [U32, WRITTEN],
     "least_weight": TREE + [U32, U64, WRITTEN],
     "least_limit": TREE + [U32, U64, WRITTEN],

@@ -17,13 +17,13 @@ from dataclasses import dataclass, replace
 from fractions import Fraction
 from typing import Any, NamedTuple
 
-from arbiter import Columns, Host, Row
+from arbiter import Columns, Host, Reading, Row
 from arbiter_host import apply, cgroup2, hunger, looks, output, safe_files, units
 from arbiter_host.apply import BURST, WEIGHT, Back, By, Change, Settings
 from arbiter_host.demands import rise
 from arbiter_host.faults import HostFault
 from arbiter_host.looks import Counted, Times
-from arbiter_host.model import MAX_DEPTH, Group, Model, planned
+from arbiter_host.model import MAX_DEPTH, Group, Model, up_to_64_cpus, planned
 from arbiter_host.names import shown
 from arbiter_host.plan import Engine, asking
 from arbiter_host.record import Record
@@ -41,12 +41,6 @@ SECOND = 10**9
 MOST_MISSED, LONGEST_MISSED = 5, 5 * SECOND
 # Files that are open beside those of the groups.
 SPARE_FILES = 64
-# A quota stands that is up to this part of it above the limit of the rule; half as much is written
-# above it. The kernel gives a new quota at each writing, so a group could use two in a period.
-MOST_ABOVE = 64
-# A weight is as the part d of a CPU that a task is to have, to 1.01 - d, in hundredths: a whole CPU
-# has the greatest weight, half of one about 100.
-WHOLE = 101
 
 
 class Ways(NamedTuple):
@@ -80,28 +74,12 @@ class Kept:
     planned: int | None = None
 
 
-class LeafUse(NamedTuple):
-    """What a leaf used in a round, and whether it would have used more, in thousandths of a CPU."""
-
-    thousandths: Fraction
-    hungry: bool
-    # The most that a hungry leaf could have used; None if its tasks do not tell.
-    most: Fraction | None = None
-
-    def asks_for_all(self, processors: int) -> bool:
-        """Whether it asks for everything: a hungry leaf whose tasks could have used the host."""
-        return self.hungry and (self.most is None or self.most >= 1000 * processors)
-
-    @property
-    def asked(self) -> Fraction:
-        """What it asks for, if that is not everything."""
-        return self.thousandths if self.most is None else self.most
-
-
 class Written(NamedTuple):
-    """What a round writes: the line of each leaf, which has its limit, and all weights, by path."""
+    """What a round writes, by path: the line of each leaf, its quota, None for its own limit, and
+    all weights."""
 
     told: dict[str, Line]
+    quotas: dict[str, int | None]
     weights: dict[str, int]
 
 
@@ -141,14 +119,6 @@ def own_settings(group: Group, old: Settings) -> None:
 def bounded(weight: int) -> int:
     """A weight in the kernel's range."""
     return min(max(weight, units.MIN_WEIGHT), units.MAX_WEIGHT)
-
-
-def leaf_weight(limit: int, most: int) -> int:
-    """The weight of a leaf that may use `limit` of the `most` slices of its tasks: 1 to 10000, the
-    nearest whole number to 100 d / (1.01 - d) with d = limit / most."""
-    amount = min(limit, most)
-    part, rest = 10000 * amount, WHOLE * most - 100 * amount
-    return bounded((2 * part + rest) // (2 * rest))
 
 
 def tree_weights(model: Model, leaves: Mapping[str, int]) -> dict[str, int]:
@@ -275,7 +245,7 @@ class Loop:
                                 " over these (--force)")
         self.is_checked = True
 
-    def read(self) -> tuple[Model, dict[str, LeafUse]]:
+    def read(self) -> tuple[Model, dict[str, Reading]]:
         """The groups as they stand, and what each leaf used since the last reading of it. New
         groups are opened, those that went are closed."""
         look = self.tree.look()
@@ -294,7 +264,7 @@ class Loop:
             is_same = path in there and model.groups[path].identity == kept.identity
             if not is_same or kept.is_leaf != there[path]:
                 self.drop(path, model)
-        used, faults = dict[str, LeafUse](), list[HostFault]()
+        used, faults = dict[str, Reading](), list[HostFault]()
         for path, is_leaf in there.items():
             if path not in self.groups:
                 self.take_up(model.groups[path], is_leaf)
@@ -310,8 +280,8 @@ class Loop:
             raise faults[0]
         return model, used
 
-    def read_group(self, path: str) -> LeafUse:
-        """What a group used since its last reading, and whether it would have used more."""
+    def read_group(self, path: str) -> Reading:
+        """What a group used since its last reading, and what it asks for."""
         kept = self.groups[path]
         self.look(kept, path)
         before, kept.counted = kept.counted, self.counted(kept.folder, kept.is_leaf, kept.counted)
@@ -319,72 +289,67 @@ class Loop:
         if span.risen.usage is None or span.seconds <= 0:
             raise HostFault(f"{shown(kept.folder)}: its reading is older than the last: nothing is"
                             " written")
-        if not span.is_hungry(has_limit):
-            return LeafUse(span.used, False)
-        return LeafUse(span.used, True, span.most_wanted(has_limit))
+        with asking(shown(kept.folder)):
+            return span.reading(self.engine.library, self.host, has_limit)
 
-    def rows(self, model: Model, amounts: dict[str, Fraction]) -> list[Row]:
-        """The rows of the operator's own settings and of amounts in thousandths of a CPU."""
+    def rows(self, model: Model) -> list[Row]:
+        """The rows of the operator's own settings, which ask for nothing."""
         for path, kept in self.groups.items():
             group = model.groups[path]
             own_settings(group, kept.old)
             group.burst, group.saved = 0, 0
-            group.demand = amounts.get(path, Fraction(0))
         return model.rows(self.engine.library)
 
-    def planned(self, model: Model, used: dict[str, LeafUse]) -> Written:
+    def planned(self, model: Model, used: dict[str, Reading]) -> Written:
         """The limits and weights of the next round, whose plan the proved check accepted."""
-        rows = self.rows(model, {path: each.thousandths for path, each in used.items()})
-        asks = self.rows(model, {path: each.asked for path, each in used.items()})
-        host = planned(self.host)
-        for_all = [False, *(path in used and used[path].asks_for_all(host.processors)
-                            for path in model.groups)]
+        rows, host, library = self.rows(model), planned(self.host), self.engine.library
+        places = {path: row for row, path in enumerate(model.groups, 1) if path in used}
+        asks, for_all = list(rows), [False] * len(rows)
+        for path, row in places.items():
+            each = used[path]
+            for_all[row] = each.asked == units.MAX_DEMAND
+            asks[row] = rows[row]._replace(demand=each.used if for_all[row] else each.asked)
         with asking("no limits"):
-            held = self.engine.library.hold(host, Columns.of(asks), for_all)
+            held = library.hold(host, Columns.of(asks), for_all)
         asked = [row._replace(demand=demand) for row, demand in zip(rows, held.demands)]
         with asking("the check refused the plan"):
-            self.engine.library.check(host, Columns.of(asked), held.amounts, held.certificate)
-        told = {}
-        for row, path in enumerate(model.groups, 1):
-            limit = held.limits[row]
-            if path in used and limit is not None:
-                kept, hungry = self.groups[path], used[path].hungry
-                lacks = (kept.planned or 0) - rows[row].demand if hungry else 0
-                kept.planned = held.amounts[row]
-                told[path] = {"want": held.demands[row], "plan": held.amounts[row],
-                              "used": rows[row].demand, "limit": limit, "hungry": hungry,
-                              "unserved": max(lacks, 0)}
-        return Written(told, self.weights(model, told) if self.ways.has_weights else {})
+            library.check(host, Columns.of(asked), held.amounts, held.certificate)
+        found = Written({}, {}, {})
+        weights = dict[str, int]()
+        for path, row in places.items():
+            limit, kept, each = held.limits[row], self.groups[path], used[path]
+            if limit is None:
+                continue
+            lacks = (kept.planned or 0) - each.used if each.is_hungry else 0
+            kept.planned = held.amounts[row]
+            found.told[path] = {"want": held.demands[row], "plan": held.amounts[row],
+                                "used": each.used, "limit": limit, "hungry": each.is_hungry,
+                                "unserved": max(lacks, 0)}
+            with asking(f"{path}: no limit"):
+                found.quotas[path], weights[path] = library.written(
+                    up_to_64_cpus(self.host), limit, rows[row].limit, self.standing(kept),
+                    self.tasks[path])
+        if self.ways.has_weights:
+            found.weights.update(tree_weights(model, weights))
+            for path, line in found.told.items():
+                line["weight"] = found.weights[path]
+        return found
 
-    def weights(self, model: Model, told: dict[str, Line]) -> dict[str, int]:
-        """The weights of a round, which the line of each leaf gets too."""
-        most = self.host.period_us // self.host.slice_us
-        written = tree_weights(model, {
-            path: leaf_weight(line["limit"], self.tasks[path] * most)
-            for path, line in told.items()})
-        for path, line in told.items():
-            line["weight"] = written[path]
-        return written
+    def standing(self, kept: Kept) -> int:
+        """The quota that stands in a group as the loop writes it; 0 for another one."""
+        stands = kept.stands
+        is_alike = (stands.period, stands.burst) == (self.host.period_us, 0)
+        return stands.quota or 0 if is_alike else 0
 
-    def limited(self, path: str, kept: Kept, limit: int) -> Settings:
-        """What is written for a limit: what stood where that allows no more, and what stands where
-        that is little more."""
-        quota, old, period = limit * self.host.slice_us, kept.old, self.host.period_us
-        if quota < units.MIN_QUOTA and not self.has_rounded:
+    def limited(self, path: str, kept: Kept, found: Written) -> Settings:
+        """What is written for a limit: what stood where that allows no more."""
+        quota = found.quotas[path]
+        if found.told[path]["limit"] == 0 and not self.has_rounded:
             self.has_rounded = True
             self.tell([f"{path}: a limit below 1 ms is rounded up to it, and so is each other"])
-        quota = max(quota, units.MIN_QUOTA)
-        most = quota + quota // (2 * MOST_ABOVE)
-        if old.quota is not None:
-            own = int(Fraction(old.quota * period, old.period * self.host.slice_us))
-            if quota >= own * self.host.slice_us:
-                return old
-            most = min(most, own * self.host.slice_us)
-        stands = kept.stands
-        if (stands.quota is not None and (stands.period, stands.burst) == (period, 0)
-                and quota <= stands.quota <= quota + quota // MOST_ABOVE):
-            return stands
-        return replace(old, quota=most, period=period, burst=0)
+        if quota is None:
+            return kept.old
+        return replace(kept.old, quota=quota, period=self.host.period_us, burst=0)
 
     def target_of(self, path: str, kept: Kept, found: Written) -> Settings:
         """What a group is to hold. A leaf without a limit of the rule holds what it holds."""
@@ -392,7 +357,7 @@ class Loop:
             return kept.old
         if kept.is_leaf and path not in found.told:
             return kept.stands
-        target = self.limited(path, kept, found.told[path]["limit"]) if kept.is_leaf else kept.old
+        target = self.limited(path, kept, found) if kept.is_leaf else kept.old
         # An idle group has no weight to be set.
         weight = found.weights.get(path, target.weight) if kept.stands.weight else target.weight
         return replace(target, weight=weight)

@@ -15,7 +15,7 @@ from arbiter import Columns, Host
 from arbiter_host import owned, progress, search
 from arbiter_host.faults import HostFault
 from arbiter_host.goals import Goals
-from arbiter_host.model import MAX_PROCESSORS, Model, planned
+from arbiter_host.model import Model, up_to_64_cpus, planned
 from arbiter_host.owned import Owned, Range, Setting
 from arbiter_host.plan import Plan, asking, payers
 
@@ -69,7 +69,7 @@ class Knobs:
         """Each setting with its least value."""
         library, host, group = self.before.engine.library, self.model.host, self.goal.group
         # Above 64 CPUs the planner's host has another period. The answer is of any number of CPUs.
-        any_host = replace(host, processors=min(host.processors, MAX_PROCESSORS))
+        any_host = up_to_64_cpus(host)
         finds: list[Callable[[], Knob]] = [
             partial(self.knob, "weight", group.weight, planned(host), library.least_weight,
                     with_weight),

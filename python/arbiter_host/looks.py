@@ -13,11 +13,11 @@ from dataclasses import dataclass, field
 from fractions import Fraction
 from typing import NamedTuple
 
-from arbiter import Host
+from arbiter import Host, Library, Reading as RoundReading, RoundTimes
 from arbiter_host import cgroup2, hunger, names, options, progress, safe_files, units
 from arbiter_host.demands import Measured, Place, Reading, rise
 from arbiter_host.faults import HostFault, UsageFault, strerror
-from arbiter_host.model import MAX_DEPTH, Group, Model, checked
+from arbiter_host.model import MAX_DEPTH, Group, Model, checked, up_to_64_cpus
 from arbiter_host.names import shown
 
 Clock = Callable[[], float]
@@ -98,20 +98,12 @@ class Span(NamedTuple):
         """What it used, in thousandths of a CPU."""
         return units.thousandths_of_usage(self.risen.usage or 0, self.seconds)
 
-    def round(self, has_limit: bool) -> hunger.RoundTimes:
-        """The same for the rule of hunger."""
-        return hunger.RoundTimes(int(self.seconds * 10**9), self.risen.usage or 0,
-                            self.risen.pressure or 0, has_limit and bool(self.risen.throttled))
-
-    def is_hungry(self, has_limit: bool) -> bool:
-        return hunger.is_hungry(self.before, self.after, self.round(has_limit))
-
-    def most_wanted(self, has_limit: bool) -> Fraction | None:
-        """The most that it could have used if it is hungry, in thousandths of a CPU; None if its
-        tasks do not tell."""
-        found = self.round(has_limit)
-        most = hunger.most_wanted(self.before, self.after, found)
-        return None if most is None else max(self.used, Fraction(1000 * most, found.passed))
+    def reading(self, library: Library, host: Host, has_limit: bool) -> RoundReading:
+        """What it used and asks for, and whether it would have used more, by the library."""
+        times = RoundTimes(int(self.seconds * 10**9), self.risen.usage or 0,
+                           self.risen.pressure or 0, len(self.after),
+                           has_limit and bool(self.risen.throttled))
+        return library.reading(up_to_64_cpus(host), times, list(hunger.rises(self.before, self.after)))
 
     def measured(self, tasks: int | None) -> Measured:
         """The same as two readings."""

@@ -66,6 +66,11 @@ def planned(host: Host) -> Host:
                     " CPUs and at most 1000 slices: another slice has such a number", 2)
 
 
+def up_to_64_cpus(host: Host) -> Host:
+    """A host for calls whose answer depends on its period and slice alone, or on 64 CPUs at most."""
+    return replace(host, processors=min(host.processors, MAX_PROCESSORS))
+
+
 @dataclass(slots=True)
 class Group:
     """One group below the root. Its quota, period and burst are microseconds.

@@ -249,6 +249,16 @@ static void numbers(void)
                 demand(host ? answer == host && number == 7 : answer == 0 || answer == 14 || answer == 15, __LINE__);
                 answer = arbiter_demand(ends[p], ends[u], ends[s], ends[(p * 3 + s) % many], &number);
                 demand(host ? answer == host : answer == 0 || answer == 9, __LINE__);
+                uint64_t ran[2] = {ends[u], ends[p]}, asked = 7, quota = 7, weight = 7;
+                uint32_t hungry = 7;
+                number = 7;
+                answer = arbiter_reading(ends[p], ends[u], ends[s], ends[(u * 5 + p) % many], ends[(s + p) % many], ends[(s * 3 + u) % many], p % 2 ? 2 : UINT32_MAX, s % 2,
+                                         ran, 2, ran, 2, &number, &asked, &hungry);
+                demand(host ? answer == host : answer == 0 || answer == 15, __LINE__);
+                demand(answer ? number == 7 && asked == 7 && hungry == 7 : number <= asked && asked <= 1000000 && hungry < 2, __LINE__);
+                answer = arbiter_written(ends[p], ends[u], ends[s], ends[(p + u) % many], ends[(u + s) % many], ends[(s + p) % many], (uint32_t)ends[(p * 7 + s) % many], &quota, &weight);
+                demand(host ? answer == host : answer == 0 || answer == 14, __LINE__);
+                demand(answer ? quota == 7 && weight == 7 : (quota >= 1000 || quota == NONE) && weight >= 1 && weight <= 10000, __LINE__);
             }
     for (size_t each = 0; each < many; each++)
         for (size_t other = 0; other < many; other++) {
