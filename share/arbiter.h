@@ -20,7 +20,7 @@
  * Answers of all calls but arbiter_name, arbiter_version and arbiter_weight_of_shares: 0, or
  *   1 to 3    the host is refused (BadProcessors, BadPeriod, BadSlice)
  *   4 to 10   the rows are (TooMany, BadParent, BadWeight, TooDeep, InnerDemand, DemandTooLarge, RootLimited)
- *   14, 15    the quota, burst or limit is, or its own period or the round (QuotaTooLarge, PeriodOutOfRange)
+ *   13 to 15  the quota, burst or limit is, or its own period or the round (QuotaTooSmall, QuotaTooLarge, PeriodOutOfRange)
  *   20        the group is no row (NotFound)
  *   26        a goal is of row 0 (RootFixed)
  *   29        a goal's group is another goal's group, or above it (GoalAbove)
@@ -43,8 +43,8 @@
  * arbiter_name gives the name of each, and of those that arbiter_script writes for lines. docs/USING.md says what to do about
  * each. Where a call does not answer 0, all that it may write is as it was, but for `row` in step 4 and in arbiter_refused_row.
  *
- * arbiter_reading, arbiter_written, arbiter_slices, arbiter_demand, arbiter_weight_of_shares, arbiter_refused_row, arbiter_name
- * and arbiter_version ask for no memory: their answers are exact.
+ * arbiter_reading, arbiter_written, arbiter_slices, arbiter_period_limit, arbiter_demand, arbiter_weight_of_shares,
+ * arbiter_refused_row, arbiter_name and arbiter_version ask for no memory: their answers are exact.
  */
 #ifndef ARBITER_H
 #define ARBITER_H
@@ -263,6 +263,31 @@ uint32_t arbiter_refused_row(const uint32_t *parents, size_t parents_length, con
  * then 15. */
 uint32_t arbiter_slices(uint64_t processors, uint64_t period_us, uint64_t slice_us, uint64_t us, uint64_t own_period_us,
                         uint64_t *slices);
+
+/* Writes to `limit` the slices that a group may use in the next period: the limit of its row, ARBITER_NO_LIMIT for no quota. It is
+ * the quota plus `carry`, and at most the quota plus the burst. `carry` is the slices of its limit that the last period left. The
+ * quota is 1000 to 10^15 microseconds of each own period or ARBITER_NO_LIMIT, and the burst 0 to 10^15. Answers 1 to 3, then 13
+ * or 14 for the quota, then 15, then 14 for the burst. */
+uint32_t arbiter_period_limit(uint64_t processors, uint64_t period_us, uint64_t slice_us, uint64_t quota_us,
+                              uint64_t own_period_us, uint64_t burst_us, uint64_t carry, uint64_t *limit);
+
+/* Counts one period for each group, from the slices that it used, and writes to `carries` what it left of its limit: 0 where it has
+ * none or used more. The rows are those of the period. `quotas` are slices without what was carried in, or ARBITER_NO_LIMIT;
+ * `used` is what each group used, with those below it, as a plan gives it. The other six columns are counters of cpu.stat, and
+ * this period is added to each; one stops at its greatest value:
+ *   usage_usec                    the time of the slices that it used
+ *   nr_periods                    1
+ *   nr_throttled, throttled_usec  1 where it wanted more than its limit, and the time that it wanted more
+ *   nr_bursts, burst_usec         1 where it used more than its quota, and the time that it used more
+ * The last four count nothing of row 0. */
+uint32_t arbiter_book(uint64_t processors, uint64_t period_us, uint64_t slice_us,
+                      const uint32_t *parents, size_t parents_length, const uint64_t *weights, size_t weights_length,
+                      const uint64_t *limits, size_t limits_length, const uint64_t *demands, size_t demands_length,
+                      const uint64_t *quotas, size_t quotas_length, const uint64_t *used, size_t used_length,
+                      uint64_t *carries, size_t carries_length, uint64_t *usage_usec, size_t usage_usec_length,
+                      uint64_t *nr_periods, size_t nr_periods_length, uint64_t *nr_throttled, size_t nr_throttled_length,
+                      uint64_t *throttled_usec, size_t throttled_usec_length, uint64_t *nr_bursts, size_t nr_bursts_length,
+                      uint64_t *burst_usec, size_t burst_usec_length);
 
 /* Writes to `slices` how many slices of one period of the host a demand takes, rounded up: a demand of a row. The demand is in
  * thousandths of a processor. Answers 1 to 3, then 9 where it takes more than 1000000 slices. */

@@ -52,6 +52,9 @@ int main(void)
     uint32_t up[3], fault[1];
     uint64_t heavy[3], capped[3], asked[3], quotas[3], periods[3], bursts[3], carries[3], line[1], names_count = 9, refused_count = 9;
     char path[8];
+    const uint64_t granted[3] = {ARBITER_NO_LIMIT, 15, 9}, base[3] = {ARBITER_NO_LIMIT, 10, 9}, served[3] = {20, 12, 8}, left_of[3] = {0, 3, 1};
+    const uint64_t sums_of[6][3] = {{100007, 60007, 40007}, {8, 8, 8}, {7, 8, 8}, {7, 25007, 55007}, {7, 8, 7}, {7, 10007, 7}};
+    uint64_t left[3] = {7, 7, 7}, sums[6][3] = {{7, 7, 7}, {7, 7, 7}, {7, 7, 7}, {7, 7, 7}, {7, 7, 7}, {7, 7, 7}};
 
     if (arbiter_plan(0, 100000, 5000, parents, 3, weights, 3, limits, 3, demands, 3, amounts, 3) != 1 || amounts[0] != 1)
         return 1;
@@ -190,5 +193,25 @@ int main(void)
         return 60;
     if (arbiter_name(29, name, sizeof name) != 9 || !is_same(name, "GoalAbove"))
         return 55;
+    /* A quota of 10 slices and a burst of 5: with 6 left of the last period the next has 15. */
+    if (arbiter_period_limit(1, 100000, 5000, 999, 999, 0, 0, &slices) != 13 || arbiter_period_limit(1, 100000, 5000, 50000, 999, UINT64_MAX, 0, &slices) != 15)
+        return 56;
+    if (arbiter_period_limit(1, 100000, 5000, 50000, 100000, UINT64_MAX, 0, &slices) != 14 || slices != 2)
+        return 57;
+    if (arbiter_period_limit(1, 100000, 5000, 50000, 100000, 25000, 6, &slices) != 0 || slices != 15)
+        return 58;
+    if (arbiter_period_limit(1, 100000, 5000, ARBITER_NO_LIMIT, 100000, 25000, 6, &slices) != 0 || slices != ARBITER_NO_LIMIT)
+        return 59;
+    /* Groups of 15 and 9 slices of which quotas were 10 and 9: the first used 12, the second 8 and wanted 20. */
+    if (arbiter_book(1, 100000, 5000, parents, 3, weights, 3, granted, 3, demands, 3, base, 3, served, 3, left, 3, sums[0], 3, sums[1], 3, sums[2], 3,
+                     sums[3], 3, sums[4], 3, sums[5], 2) != 50 || left[1] != 7 || sums[0][1] != 7)
+        return 60;
+    if (arbiter_book(1, 100000, 5000, parents, 3, weights, 3, granted, 3, demands, 3, base, 3, served, 3, left, 3, sums[0], 3, sums[1], 3, sums[2], 3,
+                     sums[3], 3, sums[4], 3, sums[5], 3) != 0)
+        return 61;
+    for (int g = 0; g < 3; g++)
+        for (int each = 0; each < 6; each++)
+            if (left[g] != left_of[g] || sums[each][g] != sums_of[each][g])
+                return 62;
     return 0;
 }

@@ -57,7 +57,7 @@ static uint8_t names[64];
 
 #define ROWS 1, 100000, 5000, parents, 5, weights, 5, limits, 5, demands, 5
 /* The calls before the check. */
-#define CALLS 14
+#define CALLS 15
 
 static void mark(void)
 {
@@ -117,6 +117,8 @@ static uint32_t call(int which)
     case 12: return arbiter_tune(1, 100000, 5000, parents, 5, greatest, 5, limits, 5, demands, 5, goal_groups, 2,
                                 goal_amounts, 2, 0, tuned, 5, together, 2, &unmet);
     case 13: return arbiter_tune(ROWS, goal_groups, 2, asks_too_much, 2, 1, tuned, 5, together, 2, &unmet);
+    case 14: return arbiter_book(ROWS, limits, 5, demands, 5, columns[0], 5, columns[1], 5, columns[2], 5, columns[3], 5,
+                                columns[4], 5, columns[5], 5, columns[6], 5);
     default: return arbiter_check(ROWS, amounts, 5, flags, 5, nums, 5, dens, 5, places, 5, &row);
     }
 }

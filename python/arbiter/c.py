@@ -18,10 +18,15 @@ class WRITTEN(ctypes.c_void_p):
     """Memory that a call writes."""
 
 
+class CHANGED(WRITTEN):
+    """Memory that a call reads first."""
+
+
 # The numbers of a host. A column is where it begins, and its length. A tree has four.
 HOST: list[Any] = [U64] * 3
 COLUMN: list[Any] = [POINTER, SIZE]
 ROOM: list[Any] = [WRITTEN, SIZE]
+SUMS: list[Any] = [CHANGED, SIZE]
 TREE = HOST + COLUMN * 4
 # The words of each call, by its name without `arbiter_`.
 WORDS: dict[str, list[Any]] = {
@@ -43,6 +48,8 @@ WORDS: dict[str, list[Any]] = {
     "refused_row": COLUMN * 4 + [WRITTEN],
     "script": HOST + [U64] + COLUMN + ROOM * 11 + [WRITTEN] * 3,
     "slices": HOST + [U64, U64, WRITTEN],
+    "period_limit": HOST + [U64] * 4 + [WRITTEN],
+    "book": TREE + COLUMN * 2 + ROOM + SUMS * 6,
     "demand": HOST + [U64, WRITTEN],
     "weight_of_shares": [U64, U32],
     "version": ROOM,

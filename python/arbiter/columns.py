@@ -63,6 +63,22 @@ class Figures(NamedTuple):
     withheld: array[int]
 
 
+class Counters(NamedTuple):
+    """Counters of `cpu.stat`, columns of one entry for each row."""
+
+    usage_usec: array[int]
+    nr_periods: array[int]
+    nr_throttled: array[int]
+    throttled_usec: array[int]
+    nr_bursts: array[int]
+    burst_usec: array[int]
+
+    @classmethod
+    def zeros(cls, count: int) -> Counters:
+        """Counters of so many rows, before any period."""
+        return cls(*(zeros(U64, count) for _ in cls._fields))
+
+
 class Kind(enum.IntEnum):
     """The kinds of reasons for a group's amount, by their numbers in C.
 

@@ -9,8 +9,9 @@ from collections.abc import Sequence
 from typing import TypeAlias
 
 from arbiter import c, found, pipe
-from arbiter.columns import (U8, U32, U64, Certificate, Columns, Figures, Host, Kind, Reading,
-                             Reason, Round, RoundTimes, Row, Script, Unmet, column, given, in_range,
+from arbiter.columns import (U8, U32, U64, Certificate, Columns, Counters, Figures, Host, Kind,
+                             Reading, Reason, Round, RoundTimes, Row, Script, Unmet, column,
+                             given, in_range,
                              number_or_none, zeros)
 
 # The rows of a tree, or their columns, which are made once for several calls.
@@ -305,6 +306,36 @@ class Library:
         if number:
             raise self.refused(number)
         return slices.value
+
+    def period_limit(self, host: Host, quota: int | None, own_period_us: int = 100000,
+                     burst: int = 0, carry: int = 0) -> int | None:
+        """The slices that a group may use in the next period, None for no limit.
+
+        Quota and burst are in microseconds of its own period, and the carry is the slices of its
+        limit that the last period left: the quota plus the carry, at most the quota plus the burst.
+        """
+        limit = c.U64()
+        words = (number_or_none(quota, c.NO_LIMIT, "quota"), own_period_us, burst, carry)
+        number = self.calls.arbiter_period_limit(
+            *self.host(host), *(in_range(word, 64, "quota, period, burst or carry")
+                                for word in words), ctypes.byref(limit))
+        if number:
+            raise self.refused(number)
+        return None if limit.value == c.NO_LIMIT else limit.value
+
+    def book(self, host: Host, rows: Rows, quotas: Sequence[int | None], used: Sequence[int],
+             counters: Counters) -> list[int]:
+        """Adds one period to the counters, and gives what each group left of its limit.
+
+        `used` are the slices that each group used, as a plan gives them, and `quotas` the slices
+        of its limit without what was carried in. Refused as a plan is, and by 50 WrongLength.
+        """
+        columns = Columns.of(rows)
+        quotas = [number_or_none(quota, c.NO_LIMIT, "quota") for quota in quotas]
+        carries = zeros(U64, len(columns))
+        self.ask("book", host, columns, *given(
+            column(U64, quotas, "quota"), column(U64, used, "use"), carries, *counters))
+        return carries.tolist()
 
     def demand(self, host: Host, thousandths: int) -> int:
         """The slices of one period that thousandths of a CPU take, rounded up."""

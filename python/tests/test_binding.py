@@ -26,7 +26,8 @@ def type_of(word):
 @pytest.mark.parametrize("answer, name, words", DECLARED, ids=[row[1] for row in DECLARED])
 def test_words_of_the_header(answer, name, words):
     """Each call has the words and the answer that the header declares."""
-    assert c.WORDS[name] == [type_of(word) for word in words.split(",")]
+    known = [c.WRITTEN if word is c.CHANGED else word for word in c.WORDS[name]]
+    assert known == [type_of(word) for word in words.split(",")]
     assert c.ANSWERS.get(name, c.U32) is TYPES[answer]
 
 

@@ -39,7 +39,8 @@ static uint64_t told(const uint32_t *parents, const uint64_t *weights, const uin
     uint8_t *flags = guard_block(n, 0), *reasons = guard_block(n, 0), *tights = guard_block(n, 0);
     uint64_t *wants = guard_block(n * 8, 0), *mosts = guard_block(n * 8, 1), *shares = guard_block(n * 8, 0), *withheld = guard_block(n * 8, 1);
     uint32_t *actives = guard_block(n * 4, 1);
-    uint32_t answers[10];
+    uint64_t *carries = guard_block(n * 8, 0), *sums[6];
+    uint32_t answers[11];
 
     answers[0] = arbiter_plan(HOST, ALL(n), amounts, n);
     answers[1] = arbiter_certify(HOST, ALL(n), amounts, n, flags, n, nums, n, dens, n, places, n);
@@ -51,16 +52,24 @@ static uint64_t told(const uint32_t *parents, const uint64_t *weights, const uin
     answers[7] = arbiter_least_limit(HOST, ALL(n), (uint32_t)n - 1, 5, &least[2]);
     answers[8] = arbiter_least_processors(HOST, ALL(n), (uint32_t)n - 1, 5, &least[3]);
     answers[9] = arbiter_figures(HOST, ALL(n), wants, n, mosts, n, tights, n, actives, n, shares, n, withheld, n);
-    for (int each = 0; each < 10; each++)
+    for (int each = 0; each < 6; each++)
+        sums[each] = guard_block(n * 8, 1);
+    answers[10] = arbiter_book(HOST, ALL(n), limits, n, demands, n, carries, n, sums[0], n, sums[1], n, sums[2], n, sums[3], n, sums[4], n, sums[5], n);
+    for (int each = 0; each < 11; each++)
         sum = sum * 31 + answers[each];
+    for (size_t g = 0; g < n; g++)
+        sum = sum * 31 + carries[g] + 3 * sums[0][g] + 5 * sums[1][g] + 7 * sums[2][g] + 11 * sums[3][g] + 13 * sums[4][g] + 17 * sums[5][g];
     for (size_t g = 0; g < n; g++)
         sum = sum * 31 + wants[g] + 3 * mosts[g] + 5 * tights[g] + 7 * actives[g] + 11 * shares[g] + 13 * withheld[g];
     for (size_t g = 0; g < n; g++)
         sum = sum * 31 + amounts[g] + 3 * nums[g] + 5 * dens[g] + 7 * flags[g] + 11 * places[g] + 13 * groups[g] + 17 * reasons[g];
     for (int each = 0; each < 4; each++)
         sum = sum * 31 + least[each];
-    calls += 10;
+    calls += 11;
     demand(1, __LINE__);
+    for (int each = 0; each < 6; each++)
+        guard_drop(sums[each]);
+    guard_drop(carries);
     guard_drop(amounts), guard_drop(nums), guard_drop(dens), guard_drop(places), guard_drop(groups), guard_drop(flags), guard_drop(reasons);
     guard_drop(tights), guard_drop(wants), guard_drop(mosts), guard_drop(shares), guard_drop(withheld), guard_drop(actives);
     return sum * 31 + rest + count + row;
@@ -122,6 +131,7 @@ static void nothing(void)
     IS(5, arbiter_reasons(HOST, ALL(0), flags, 0, places, 0));
     IS(5, arbiter_guarantee(HOST, ALL(0), 0, &number));
     IS(5, arbiter_figures(HOST, ALL(0), amounts, 0, weights, 0, flags, 0, parents, 0, limits, 0, demands, 0));
+    IS(5, arbiter_book(HOST, ALL(0), limits, 0, demands, 0, amounts, 0, amounts, 0, amounts, 0, amounts, 0, amounts, 0, amounts, 0, amounts, 0));
     IS(5, arbiter_least_weight(HOST, ALL(0), UINT32_MAX, UINT64_MAX, &number));
     IS(5, arbiter_refused_row(ALL(0), &row));
     IS(50, arbiter_plan(0, 0, 0, parents, 0, weights, 0, limits, 0, demands, 0, &number, 1));
@@ -259,6 +269,8 @@ static void numbers(void)
                 answer = arbiter_written(ends[p], ends[u], ends[s], ends[(p + u) % many], ends[(u + s) % many], ends[(s + p) % many], (uint32_t)ends[(p * 7 + s) % many], &quota, &weight);
                 demand(host ? answer == host : answer == 0 || answer == 14, __LINE__);
                 demand(answer ? quota == 7 && weight == 7 : (quota >= 1000 || quota == NONE) && weight >= 1 && weight <= 10000, __LINE__);
+                answer = arbiter_period_limit(ends[p], ends[u], ends[s], ends[(u + s) % many], ends[(p + s) % many], ends[(p + u) % many], ends[(s * 3) % many], &number);
+                demand(host ? answer == host : answer == 0 || (answer >= 13 && answer <= 15), __LINE__);
             }
     for (size_t each = 0; each < many; each++)
         for (size_t other = 0; other < many; other++) {

@@ -311,6 +311,38 @@ static void hold_figures(struct host host, struct rows rows, const uint64_t *amo
     guard_drop(wants), guard_drop(mosts), guard_drop(weights), guard_drop(withheld), guard_drop(actives), guard_drop(tights);
 }
 
+/* A period that drew the plan with a quota below each limit: what it leaves and counts is worked out here. */
+static void hold_book(struct host host, struct rows rows, const uint64_t *amounts)
+{
+    size_t n = rows.parents_length;
+    uint64_t *wants = marked(n, 8), *spare[3] = {marked(n, 8), marked(n, 8), marked(n, 8)};
+    uint64_t *quotas = marked(n, 8), *carries = marked(n, 8), *sums[6];
+    uint8_t *tights = marked(n, 1);
+    uint32_t *actives = marked(n, 4);
+
+    for (int each = 0; each < 6; each++)
+        sums[each] = marked(n, 8);
+    uint64_t before = n ? sums[0][0] : 0;
+    for (size_t row = 0; row < n; row++)
+        quotas[row] = rows.limits[row] == NONE ? NONE : rows.limits[row] - rows.limits[row] / 4;
+    demand(counted(arbiter_figures(HOST(host), ROWS(rows), wants, n, spare[0], n, tights, n, actives, n, spare[1], n, spare[2], n)) == 0, "no figures");
+    demand(counted(arbiter_book(HOST(host), ROWS(rows), quotas, n, amounts, n, carries, n, sums[0], n, sums[1], n, sums[2], n, sums[3], n,
+                                sums[4], n, sums[5], n)) == 0, "no counters");
+    for (size_t row = 0; row < n; row++) {
+        int is_limited = row && rows.limits[row] != NONE;
+        uint64_t withheld = is_limited && wants[row] > rows.limits[row] ? wants[row] - rows.limits[row] : 0;
+        uint64_t burst = is_limited && amounts[row] > quotas[row] ? amounts[row] - quotas[row] : 0;
+        demand(carries[row] == (is_limited ? rows.limits[row] - amounts[row] : 0), "another carry");
+        demand(sums[0][row] == before + amounts[row] * host.slice && sums[1][row] == before + 1, "another use or number of periods");
+        demand(sums[2][row] == before + (withheld > 0) && sums[3][row] == before + withheld * host.slice, "other throttling");
+        demand(sums[4][row] == before + (burst > 0) && sums[5][row] == before + burst * host.slice, "other bursts");
+    }
+    for (int each = 0; each < 6; each++)
+        guard_drop(sums[each]);
+    guard_drop(spare[0]), guard_drop(spare[1]), guard_drop(spare[2]);
+    guard_drop(wants), guard_drop(quotas), guard_drop(carries), guard_drop(tights), guard_drop(actives);
+}
+
 /* The least value reaches the amount, and one less does not. */
 static void hold_least(struct host host, struct rows rows, uint32_t group, uint64_t amount)
 {
@@ -354,6 +386,8 @@ static void hold_refusal(struct host host, struct rows rows, struct answer *foun
     demand(counted(arbiter_guarantee(HOST(host), ROWS(rows), 0, &number_)) == answer, "guarantee answers another number");
     demand(counted(arbiter_figures(HOST(host), ROWS(rows), found->amounts, n, found->nums, n, found->flags, n, found->places, n, found->dens, n,
                                    found->amounts, n)) == answer, "figures answer another number");
+    demand(counted(arbiter_book(HOST(host), ROWS(rows), found->nums, n, found->nums, n, found->amounts, n, found->dens, n, found->amounts, n,
+                                found->dens, n, found->amounts, n, found->dens, n, found->amounts, n)) == answer, "book answers another number");
     demand(is_marked(found->amounts, n * 8) && is_marked(found->nums, n * 8) && is_marked(found->dens, n * 8), "a refused call wrote");
     demand(count == 77 && number_ == 77 && is_marked(found->places, n * 4) && is_marked(found->flags, n), "a refused call wrote");
     uint32_t which = counted(arbiter_refused_row(ROWS(rows), &row));
@@ -386,6 +420,7 @@ static void hold_answer(struct host host, struct rows rows, struct answer *found
     hold_limiting(host, rows, amounts);
     hold_reasons(host, rows, amounts);
     hold_figures(host, rows, amounts);
+    hold_book(host, rows, amounts);
     uint32_t group = (uint32_t)(taken(1) % found->count);
     hold_least(host, rows, group, number(64));
     hold_check(host, rows, found);

@@ -11,10 +11,11 @@
 
 #define THREADS 16
 #define MOST 200
-#define CALLS 11
+#define CALLS 12
 #define NONE ARBITER_NO_LIMIT
 
 struct answers {
+    uint64_t carries[MOST], sums[6][MOST];
     uint64_t amounts[MOST], nums[MOST], dens[MOST], wants[MOST], mosts[MOST], weights[MOST], withheld[MOST], rest, least[4];
     uint32_t places[MOST], groups[MOST], blamed[MOST], actives[MOST], count, row, numbers[CALLS];
     uint8_t flags[MOST], reasons[MOST], tights[MOST];
@@ -63,6 +64,8 @@ static void ask(const struct tree *tree, struct answers *found)
     numbers[8] = arbiter_least_processors(HOST, ROWS, last, 3, &found->least[3]);
     numbers[9] = arbiter_check_text((const uint8_t *)"bw 1 1 100000 5000 1\n- 100 max 0 0 0 -\n", 39, &found->row);
     numbers[10] = arbiter_figures(HOST, ROWS, found->wants, n, found->mosts, n, found->tights, n, found->actives, n, found->weights, n, found->withheld, n);
+    numbers[11] = arbiter_book(HOST, ROWS, tree->limits, n, found->amounts, n, found->carries, n, found->sums[0], n, found->sums[1], n,
+                               found->sums[2], n, found->sums[3], n, found->sums[4], n, found->sums[5], n);
     atomic_fetch_add(&calls, CALLS);
 }
 

@@ -1,5 +1,6 @@
 -- The files of definitions.
 pub mod Asked
+pub mod Booked
 pub mod Certificates
 pub mod Certified
 pub mod Checked
@@ -10,6 +11,7 @@ pub mod Held
 pub mod Limited
 pub mod Logarithm
 pub mod Numbers
+pub mod PeriodLimits
 pub mod Questions
 pub mod Reasoned
 pub mod RefusedRow

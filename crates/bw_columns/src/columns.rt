@@ -35,7 +35,8 @@ fn parent_of(number: u32) -> Option<u32>
     }
 }
 
-fn limit_of(number: u64) -> Option<u64>
+/// The limit that a number gives: none if it is [`NO_LIMIT`].
+pub(crate) fn limit_of(number: u64) -> Option<u64>
     ensures { result ≡ limit_in number }
 {
     if number == NO_LIMIT {

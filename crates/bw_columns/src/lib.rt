@@ -3,11 +3,12 @@
 //!
 //! Over them are the planner's answers: plan, certificate, verdict, limiting groups, figures,
 //! reasons, limits of a round, weights for several goals, questions about a group, refused row. And
-//! conversions of what operators write to slices and weights.
+//! a booked period, and conversions of what operators write to slices and weights.
 #![tactic(auto)]
 
 mod asked_group;
 mod asked_instance;
+mod booked;
 mod certificate;
 mod certified;
 mod checked;
@@ -23,6 +24,7 @@ mod held;
 mod laws;
 mod limited;
 mod logarithm;
+mod period_limits;
 mod planned;
 mod question;
 mod reason_columns;
@@ -33,6 +35,7 @@ mod tuned;
 mod written;
 
 pub use asked_instance::{Host, instance_of, instance_where};
+pub use booked::{BookedColumns, CounterColumns, booked_of};
 pub use certificate::{CertificateColumns, certificate_columns, flag_numbers, write_certificate};
 pub use certified::{CertifiedColumns, certified_plan_of};
 pub use checked::{verdict_in, verdict_of};
@@ -47,6 +50,7 @@ pub use groups::{GroupColumns, group_columns};
 pub use held::{HeldColumns, held_of};
 pub use laws::{column_numbers, share_numbers};
 pub use limited::limiting_of;
+pub use period_limits::limit_of_period;
 pub use planned::plan_of;
 pub use question::{Question, answer_of};
 pub use reasoned::{ReasonColumns, reasons_of};

@@ -8,6 +8,7 @@ use Rattle.bw_files.specs.declared.fault.FileFault.{FileFault}
 use Rattle.bw_files.specs.Faults.{file_fault_number}
 use Rattle.bw_files.specs.Reading.{burst_in, period_in}
 use Rattle.bw_columns.specs.Demand.{slices_for}
+use Rattle.bw_columns.specs.PeriodLimits.{limit_by}
 use Rattle.bw_questions.specs.declared.held.reading.RoundTimes.{RoundTimes}
 use Rattle.bw_questions.specs.Written.{quota_of_limit, with_part}
 
@@ -52,3 +53,9 @@ abbrev pub written_refusal : Shape → ℕ → ℕ
 written_refusal shape limit =
     option_map_or host_fault_number (host_refusal shape)
     (if nat_le (with_part 64 (quota_of_limit shape limit)) MAX_QUOTA_US then 0 else 14)
+
+-- the number of the first refusal of a host, then of the settings of a group, 0 for none
+abbrev pub limit_refusal : Shape → ℕ → ℕ → ℕ → ℕ → ℕ
+limit_refusal shape quota_us own_period_us burst_us carry =
+    option_map_or host_fault_number (host_refusal shape)
+    (refused_or (limit_by shape quota_us own_period_us burst_us carry) 0)

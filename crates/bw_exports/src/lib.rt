@@ -2,6 +2,7 @@
 #![tactic(auto)]
 
 mod asking;
+mod book_call;
 mod certify_call;
 mod check_call;
 mod check_text_call;
@@ -16,6 +17,7 @@ mod least_processors_call;
 mod least_weight_call;
 mod limiting_call;
 mod name_call;
+mod period_limit_call;
 mod plan_call;
 mod reading_call;
 mod reasons_call;

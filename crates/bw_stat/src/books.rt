@@ -144,7 +144,7 @@ fn add_rows(
 {
     for i in 0..rows.len() {
         let stat = &mut stats[i];
-        add(stat, slice_us, &rows[i], base[i], wants[i], drawn[i]);
+        add_period(stat, slice_us, &rows[i], base[i], wants[i], drawn[i]);
     }
 }
 
@@ -192,7 +192,7 @@ fn book_row(
 {
     if is_at(stats, likely, id) {
         let stat = &mut stats[likely];
-        add(stat, slice_us, row, quota, want, drawn);
+        add_period(stat, slice_us, row, quota, want, drawn);
     } else {
         book_by_id(stats, id, slice_us, row, quota, want, drawn);
     }
@@ -215,7 +215,7 @@ fn book_by_id(
     ensures room { spare stats.old ≤ spare stats.new + 1 }
 {
     let stat = stats.entry(id).unwrap().or_insert(or_zeros(None));
-    add(stat, slice_us, row, quota, want, drawn);
+    add_period(stat, slice_us, row, quota, want, drawn);
 }
 
 // Whether the counters at a place belong to this group.
@@ -298,8 +298,17 @@ fn add_drawn(stat: &mut Stat, slice_us: u64, row: &Row, quota: Option<u64>, draw
     }
 }
 
-// Adds one period to the counters of a group.
-fn add(stat: &mut Stat, slice_us: u64, row: &Row, quota: Option<u64>, want: u64, drawn: u64)
+/// Adds one period to the counters of a group, whose want and draw are in slices.
+///
+/// `quota` is in slices, without what the group carried in.
+pub fn add_period(
+    stat: &mut Stat,
+    slice_us: u64,
+    row: &Row,
+    quota: Option<u64>,
+    want: u64,
+    drawn: u64,
+)
     ensures { stat.new ≡ added stat.old (share_of slice_us row.now quota want drawn) }
 {
     let withheld = withheld_slices(row, want);

@@ -3,12 +3,12 @@
 ghost use Rattle.std.specs.Prelude.{◌≡◌, ◌<◌, ◌≤◌, ◌↔◌, true, length, IfSome, IsTrue, false, min};
 ghost use Rattle.bw_model.specs.Quota.{in_slices};
 ghost use Rattle.bw_tree.specs.Groups.{IsSound};
-ghost use Rattle.bw_tree.specs.Snapshot.{quota_slices, period_limit, left_of, left_over, carried};
+ghost use Rattle.bw_tree.specs.Snapshot.{quota_slices, bursting, left_of, left_over, carried};
 ghost use Rattle.bw_tree.specs.Snapshot.{carried_at, IsDrawnWithin};
 
 use crate::by_id::Groups;
 use crate::group::Group;
-use bw_model::limits::{MAX_BURST_US, MAX_QUOTA_US};
+use bw_model::limits::{MAX_BURST_US, MAX_PERIOD_US, MAX_QUOTA_US, MIN_PERIOD_US};
 use bw_model::{HostShape, Row};
 
 // Quota of a group in whole slices of the host's period.
@@ -20,29 +20,38 @@ pub(crate) fn quota_slices(group: &Group, shape: HostShape) -> Option<u64>
     group.quota.slices(shape, group.period)
 }
 
-// Limit of a group in slices of one period: quota plus carry, at most quota plus burst.
-pub(crate) fn period_limit(group: &Group, quota: Option<u64>, shape: HostShape) -> Option<u64>
-    requires sound { IsSound group.now }
-    requires quota { quota ≡ quota_slices shape group.now }
-    requires bound { IfSome quota (λ n. n ≤ MAX_QUOTA_US) }
-    ensures { result ≡ period_limit shape group.now }
+/// Limit of a group in slices of one period: quota plus carry, at most quota plus burst.
+///
+/// `quota` and `carry` are in slices. `burst_us` is in microseconds of the group's own period,
+/// which has `period_us` microseconds.
+pub fn period_limit(
+    shape: HostShape,
+    quota: Option<u64>,
+    period_us: u64,
+    burst_us: u64,
+    carry: u64,
+) -> Option<u64>
+    requires quota { IfSome quota (λ n. n ≤ MAX_QUOTA_US) }
+    requires period { (MIN_PERIOD_US ≤ period_us) × (period_us ≤ MAX_PERIOD_US) }
+    requires burst { burst_us ≤ MAX_BURST_US }
+    ensures { result ≡ bursting carry (in_slices shape period_us burst_us) quota }
 {
     let quota = quota?;
-    Some(quota + carried_in(group, shape))
+    Some(quota + carried_in(shape, period_us, burst_us, carry))
 }
 
 // Slices that a group carries in, at most its burst. Divides only if it has a carry and a burst.
-fn carried_in(group: &Group, shape: HostShape) -> u64
-    requires { IsSound group.now }
-    ensures value { result
-        ≡ min group.now.carry (in_slices shape group.now.period group.now.burst) }
+fn carried_in(shape: HostShape, period_us: u64, burst_us: u64, carry: u64) -> u64
+    requires period { (MIN_PERIOD_US ≤ period_us) × (period_us ≤ MAX_PERIOD_US) }
+    requires burst { burst_us ≤ MAX_BURST_US }
+    ensures value { result ≡ min carry (in_slices shape period_us burst_us) }
     ensures bound { result ≤ MAX_BURST_US }
 {
-    if group.carry == 0 || group.burst == 0 {
+    if carry == 0 || burst_us == 0 {
         return 0;
     }
-    let burst = shape.slices(group.burst, group.period);
-    group.carry.min(burst)
+    let burst = shape.slices(burst_us, period_us);
+    carry.min(burst)
 }
 
 /// Tests that no row has drawn more than its limit, which [`Tree::carry_over`] requires.
@@ -71,14 +80,13 @@ fn is_past(limit: Option<u64>, drawn: u64) -> bool
     }
 }
 
-// Slices of a row's limit that were not drawn, 0 without a limit.
-fn left_of(limit: Option<u64>, drawn: u64) -> u64
-    requires { IfSome limit (λ l. drawn ≤ l) }
+/// Slices of a limit that were not drawn, 0 without a limit.
+pub fn left_of(limit: Option<u64>, drawn: u64) -> u64
     ensures { result ≡ left_of limit drawn }
 {
     match limit {
         None => 0,
-        Some(limit) => limit - drawn,
+        Some(limit) => limit.saturating_sub(drawn),
     }
 }
 

@@ -21,7 +21,7 @@ mod snapshot;
 mod tail;
 mod tree;
 
-pub use carry::is_drawn_within;
+pub use carry::{is_drawn_within, left_of, period_limit};
 pub use entry::Entry;
 pub use fault::TreeFault;
 pub use group::{Group, GroupId};

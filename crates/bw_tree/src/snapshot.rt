@@ -133,7 +133,7 @@ impl Tree {
         let row = Row {
             parent: self.parent_row(place),
             weight: group.weight,
-            limit: period_limit(group, quota, shape),
+            limit: period_limit(shape, quota, group.period, group.burst, group.carry),
             demand: group.demand,
         };
         (quota, row)

@@ -106,6 +106,23 @@ pub struct Figures {
     pub withheld: u64,
 }
 
+/// The counters of a group over the periods that [`book`] counted, as `cpu.stat` has them.
+#[derive(Clone, Copy, Debug, Default, PartialEq, Eq)]
+pub struct Stat {
+    /// Microseconds that it used.
+    pub usage_usec: u64,
+    /// Periods.
+    pub nr_periods: u64,
+    /// Periods in which it wanted more than its limit.
+    pub nr_throttled: u64,
+    /// Microseconds that it wanted more.
+    pub throttled_usec: u64,
+    /// Periods in which it used more than its quota.
+    pub nr_bursts: u64,
+    /// Microseconds that it used more.
+    pub burst_usec: u64,
+}
+
 /// Why a group gets its amount. Each group has exactly one reason.
 #[derive(Clone, Copy, Debug, PartialEq, Eq)]
 pub enum Reason {
@@ -545,6 +562,53 @@ pub fn slices(host: Host, us: u64, own_period_us: u64) -> Result<u64, Fault> {
     Ok(slices)
 }
 
+/// The slices that a group may use in the next period: the limit of its row.
+///
+/// It is the quota plus `carry`, and at most the quota plus the burst. `carry` is the slices of its limit that the last period
+/// left. The quota is 1000 to 10^15 microseconds of each own period of 1000 to 1000000, the burst 0 to 10^15.
+///
+/// # Errors
+/// The host is refused (1 to 3), the quota is (13, 14), `own_period_us` is (15), or `burst_us` is (14).
+pub fn period_limit(
+    host: Host,
+    quota_us: Option<u64>,
+    own_period_us: u64,
+    burst_us: u64,
+    carry: u64,
+) -> Result<Option<u64>, Fault> {
+    let mut limit = 0;
+    let quota_us = raw::number_of(quota_us);
+    answered(
+        raw::period_limit(host, quota_us, own_period_us, burst_us, carry, &mut limit),
+        None,
+    )?;
+    Ok(Some(limit).filter(|limit| *limit != raw::NO_LIMIT))
+}
+
+/// Counts one period for each row and gives the slices that each left of its limit, 0 without one.
+///
+/// The rows are those of the period. `used` are the slices that each group used, as a plan gives them. `quotas` are in slices,
+/// without what was carried in. A counter stops at its greatest value.
+///
+/// # Errors
+/// As of [`plan`], and 50 if there are not one quota, one number of slices and one `Stat` for each row.
+pub fn book(
+    host: Host,
+    rows: &[Row],
+    quotas: &[Option<u64>],
+    used: &[u64],
+    stats: &mut [Stat],
+) -> Result<Vec<u64>, Fault> {
+    let columns = Columns::of(rows);
+    let quotas: Vec<u64> = quotas.iter().map(|quota| raw::number_of(*quota)).collect();
+    let (mut carries, mut found) = (vec![0; rows.len()], raw::StatColumns::of(stats));
+    of_rows(columns.book(host, &quotas, used, &mut carries, &mut found), &columns)?;
+    for (row, stat) in stats.iter_mut().enumerate() {
+        *stat = found.stat(row);
+    }
+    Ok(carries)
+}
+
 /// The slices of one period that thousandths of a processor take, rounded up: a demand of a row.
 ///
 /// # Errors
@@ -726,6 +790,29 @@ mod tests {
             ])
         );
         assert_eq!(figures(Host::default(), &[]), Err(fault(5, None)));
+    }
+
+    #[test]
+    fn books() {
+        let mut rows = equal();
+        rows[1].limit = Some(15);
+        let mut stats = [Stat::default(); 3];
+        let carries = book(Host::default(), &rows, &[None, Some(10), None], &[20, 12, 8], &mut stats);
+        assert_eq!(carries, Ok(vec![0, 3, 0]));
+        let first = Stat {
+            usage_usec: 60_000,
+            nr_periods: 1,
+            nr_throttled: 1,
+            throttled_usec: 25_000,
+            nr_bursts: 1,
+            burst_usec: 10_000,
+        };
+        assert_eq!((stats[1], stats[2].usage_usec), (first, 40_000));
+        assert_eq!(
+            book(Host::default(), &rows, &[None], &[20, 12, 8], &mut stats),
+            Err(fault(50, None))
+        );
+        assert_eq!(stats[1], first);
     }
 
     #[test]
@@ -931,6 +1018,9 @@ mod tests {
         assert_eq!(slices(host, 4999, 100_000), Ok(0));
         assert_eq!(slices(host, 1_000_000_000_000_001, 0), Err(fault(14, None)));
         assert_eq!(slices(host, 0, 999), Err(fault(15, None)));
+        assert_eq!(period_limit(host, Some(50_000), 100_000, 25_000, 6), Ok(Some(15)));
+        assert_eq!(period_limit(host, None, 100_000, 25_000, 6), Ok(None));
+        assert_eq!(period_limit(host, Some(999), 0, 0, 0), Err(fault(13, None)));
         assert_eq!(demand(host, 51), Ok(2));
         assert_eq!(demand(host, 50_000_001), Err(fault(9, None)));
         assert_eq!(weight_of_shares(1024, Conversion::Linear), 39);

@@ -1,6 +1,6 @@
 //! The calls of `arbiter.h`, on slices. Each call has what the header asks: lengths that are those of the slices, pointers that
 //! are not null (a slice has none), and no memory that is written and read at once (a `&mut` overlaps nothing).
-use crate::{Certificate, Fault, Group, Host, Level, Reading, Reason, RefusedLine, RoundTimes, Row, Script};
+use crate::{Certificate, Fault, Group, Host, Level, Reading, Reason, RefusedLine, RoundTimes, Row, Script, Stat};
 use std::collections::hash_map::RandomState;
 use std::hash::{BuildHasher, Hasher};
 
@@ -102,6 +102,16 @@ extern "C" {
                            limits: *const u64, limits_length: usize, demands: *const u64, demands_length: usize,
                            row: *mut u32) -> u32;
     fn arbiter_slices(processors: u64, period_us: u64, slice_us: u64, us: u64, own_period_us: u64, slices: *mut u64) -> u32;
+    fn arbiter_period_limit(processors: u64, period_us: u64, slice_us: u64, quota_us: u64, own_period_us: u64, burst_us: u64,
+                            carry: u64, limit: *mut u64) -> u32;
+    fn arbiter_book(processors: u64, period_us: u64, slice_us: u64,
+                    parents: *const u32, parents_length: usize, weights: *const u64, weights_length: usize,
+                    limits: *const u64, limits_length: usize, demands: *const u64, demands_length: usize,
+                    quotas: *const u64, quotas_length: usize, used: *const u64, used_length: usize,
+                    carries: *mut u64, carries_length: usize, usage_usec: *mut u64, usage_usec_length: usize,
+                    nr_periods: *mut u64, nr_periods_length: usize, nr_throttled: *mut u64, nr_throttled_length: usize,
+                    throttled_usec: *mut u64, throttled_usec_length: usize, nr_bursts: *mut u64, nr_bursts_length: usize,
+                    burst_usec: *mut u64, burst_usec_length: usize) -> u32;
     fn arbiter_demand(processors: u64, period_us: u64, slice_us: u64, thousandths: u64, slices: *mut u64) -> u32;
     fn arbiter_weight_of_shares(shares: u64, conversion: u32) -> u64;
     fn arbiter_name(number: u32, name: *mut u8, name_length: usize) -> u32;
@@ -140,12 +150,51 @@ impl FigureColumns {
     }
 }
 
+/// Counters of `cpu.stat`, by column.
+pub(crate) struct StatColumns {
+    usage_usec: Vec<u64>,
+    nr_periods: Vec<u64>,
+    nr_throttled: Vec<u64>,
+    throttled_usec: Vec<u64>,
+    nr_bursts: Vec<u64>,
+    burst_usec: Vec<u64>,
+}
+
+impl StatColumns {
+    pub(crate) fn of(stats: &[Stat]) -> StatColumns {
+        StatColumns {
+            usage_usec: stats.iter().map(|stat| stat.usage_usec).collect(),
+            nr_periods: stats.iter().map(|stat| stat.nr_periods).collect(),
+            nr_throttled: stats.iter().map(|stat| stat.nr_throttled).collect(),
+            throttled_usec: stats.iter().map(|stat| stat.throttled_usec).collect(),
+            nr_bursts: stats.iter().map(|stat| stat.nr_bursts).collect(),
+            burst_usec: stats.iter().map(|stat| stat.burst_usec).collect(),
+        }
+    }
+
+    pub(crate) fn stat(&self, row: usize) -> Stat {
+        Stat {
+            usage_usec: self.usage_usec[row],
+            nr_periods: self.nr_periods[row],
+            nr_throttled: self.nr_throttled[row],
+            throttled_usec: self.throttled_usec[row],
+            nr_bursts: self.nr_bursts[row],
+            burst_usec: self.burst_usec[row],
+        }
+    }
+}
+
 /// A certificate, by column.
 pub(crate) struct Claim {
     flags: Vec<u8>,
     nums: Vec<u64>,
     dens: Vec<u64>,
     places: Vec<u32>,
+}
+
+/// The number of a limit or quota. The greatest stands for none, and one less bounds no amount either.
+pub(crate) fn number_of(limit: Option<u64>) -> u64 {
+    limit.map_or(NO_LIMIT, |limit| limit.min(NO_LIMIT - 1))
 }
 
 impl Columns {
@@ -162,7 +211,7 @@ impl Columns {
             weights: rows.iter().map(|row| row.weight).collect(),
             limits: rows
                 .iter()
-                .map(|row| row.limit.map_or(NO_LIMIT, |limit| limit.min(NO_LIMIT - 1)))
+                .map(|row| number_of(row.limit))
                 .collect(),
             demands: rows.iter().map(|row| row.demand).collect(),
         }
@@ -213,6 +262,23 @@ impl Columns {
                              self.parents.as_ptr(), self.parents.len(), self.weights.as_ptr(), self.weights.len(),
                              self.limits.as_ptr(), self.limits.len(), self.demands.as_ptr(), self.demands.len(),
                              groups.as_mut_ptr(), groups.len(), count, rest)
+        }
+    }
+
+    #[rustfmt::skip]
+    pub(crate) fn book(&self, host: Host, quotas: &[u64], used: &[u64], carries: &mut [u64], stats: &mut StatColumns) -> u32 {
+        // SAFETY: as above
+        unsafe {
+            arbiter_book(host.processors, host.period_us, host.slice_us,
+                         self.parents.as_ptr(), self.parents.len(), self.weights.as_ptr(), self.weights.len(),
+                         self.limits.as_ptr(), self.limits.len(), self.demands.as_ptr(), self.demands.len(),
+                         quotas.as_ptr(), quotas.len(), used.as_ptr(), used.len(), carries.as_mut_ptr(), carries.len(),
+                         stats.usage_usec.as_mut_ptr(), stats.usage_usec.len(),
+                         stats.nr_periods.as_mut_ptr(), stats.nr_periods.len(),
+                         stats.nr_throttled.as_mut_ptr(), stats.nr_throttled.len(),
+                         stats.throttled_usec.as_mut_ptr(), stats.throttled_usec.len(),
+                         stats.nr_bursts.as_mut_ptr(), stats.nr_bursts.len(),
+                         stats.burst_usec.as_mut_ptr(), stats.burst_usec.len())
         }
     }
 
@@ -532,6 +598,12 @@ pub(crate) fn written(host: Host, limit: u64, own: u64, stands_us: u64, tasks: u
 pub(crate) fn slices(host: Host, us: u64, own_period_us: u64, slices: &mut u64) -> u32 {
     // SAFETY: as above
     unsafe { arbiter_slices(host.processors, host.period_us, host.slice_us, us, own_period_us, slices) }
+}
+
+#[rustfmt::skip]
+pub(crate) fn period_limit(host: Host, quota_us: u64, own_period_us: u64, burst_us: u64, carry: u64, limit: &mut u64) -> u32 {
+    // SAFETY: as above
+    unsafe { arbiter_period_limit(host.processors, host.period_us, host.slice_us, quota_us, own_period_us, burst_us, carry, limit) }
 }
 
 #[rustfmt::skip]

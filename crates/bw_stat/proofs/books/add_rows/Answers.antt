@@ -32,7 +32,7 @@ loop-i-preserved c =
     let ids = keys_of books in
     let es = c.loop-i.stats.entries in
     let i = c.loop-i.i in
-    let stat = c.add.new.stat in
+    let stat = c.add_period.new.stat in
     let row : Row = get_or rows i no_row in
     let share = share_of s row (get_or qs i None) (get_or ws i 0) (get_or ds i 0) in
     let same : keys_of es ≡ ids = c.loop-i.invariant.ids in
@@ -52,7 +52,7 @@ loop-i-preserved c =
           (shares_of s (drop n rows) (drop n ids) (drop n qs) (drop n ws) (drop n ds))) next
           ∙ ap (λ b. booked b (shares_of s (drop (suc i) rows) (drop (suc i) ids) (drop (suc i) qs)
           (drop (suc i) ws) (drop (suc i) ds)))
-          (ap (set_value_at es i) c.add.ensures ∙ put
+          (ap (set_value_at es i) c.add_period.ensures ∙ put
           ∙ ap (λ ks. with_share es (get_or ks i 0) share) same)
           ∙ sym (ap (booked es) more) ∙ c.loop-i.invariant.rest;
     }

@@ -13,6 +13,6 @@ returns-then-is_at-clause-entries c =
     let found = Found-position (eqb c.args.id) es c.args.likely
     (c.is_at.ensures c.if-is_at.true) in
     let there = found.value ∙ c.index_mut-stat.ensures.value in
-    sym (insert_entry-first eqb c.args.id c.add.new.stat es c.args.likely found.first)
+    sym (insert_entry-first eqb c.args.id c.add_period.new.stat es c.args.likely found.first)
     ∙ ap (insert_entry eqb es c.args.id)
-    (c.add.ensures ∙ ap (λ o. added (or_zeros o) share) (sym there))
+    (c.add_period.ensures ∙ ap (λ o. added (or_zeros o) share) (sym there))

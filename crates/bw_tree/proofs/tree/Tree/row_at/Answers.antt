@@ -25,10 +25,18 @@ quota_slices-quota-requires c =
     sound c.self.view_is c.self.invariant.tree c.args.place c.index.result.now c.index.ensures
     c.requires
 
-pub period_limit-requires-clause-sound : goal.period_limit-requires-clause-sound
-period_limit-requires-clause-sound c =
-    sound c.self.view_is c.self.invariant.tree c.args.place c.index.result.now c.index.ensures
-    c.requires
+pub period_limit-requires-clause-period : goal.period_limit-requires-clause-period
+period_limit-requires-clause-period c =
+    let group = subst IsSound (sym c.group.view_is)
+    (sound c.self.view_is c.self.invariant.tree c.args.place c.index.result.now c.index.ensures
+    c.requires) in
+    (group.long_period, group.short_period)
+
+pub period_limit-requires-clause-burst : goal.period_limit-requires-clause-burst
+period_limit-requires-clause-burst c =
+    (subst IsSound (sym c.group.view_is)
+    (sound c.self.view_is c.self.invariant.tree c.args.place c.index.result.now c.index.ensures
+    c.requires)).burst
 
 pub returns-clause-quota : goal.returns-clause-quota
 returns-clause-quota c =
