@@ -11,8 +11,7 @@ from typing import TypeAlias
 from arbiter import c, found, pipe
 from arbiter.columns import (U8, U32, U64, Certificate, Columns, Counters, Figures, Host, Kind,
                              Reading, Reason, Round, RoundTimes, Row, Script, Unmet, column,
-                             given, in_range,
-                             number_or_none, zeros)
+                             given, in_range, number_or_none, zeros)
 
 # The rows of a tree, or their columns, which are made once for several calls.
 Rows: TypeAlias = Sequence[Row] | Columns
