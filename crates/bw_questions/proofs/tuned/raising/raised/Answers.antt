@@ -1,7 +1,7 @@
 -- The goals of `raised` that are answered by hand.
 use Rattle.std.proofs.Math.Nat.{mul-le-mul_left}
-use Rattle.std.proofs.Common.{◌≡◌, ◌<◌, ◌≤◌, ◌+◌, ◌*◌, None, Some, false, length, replicate, refl}
-use Rattle.std.proofs.Common.{arith, rules}
+use Rattle.std.proofs.Common.{◌≡◌, ◌<◌, ◌+◌, None, Some, false, length, replicate, refl, arith}
+use Rattle.std.proofs.Common.{rules}
 use Rattle.bw_model.specs.declared.limits.TheConstants.{MIN_WEIGHT, MAX_WEIGHT}
 use Rattle.bw_model.specs.Groups.{row_of, weight_of}
 use Rattle.bw_questions.specs.Change.{with_weight}
