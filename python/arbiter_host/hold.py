@@ -12,6 +12,7 @@ from __future__ import annotations
 import os
 import re
 import time
+from collections import Counter
 from collections.abc import Callable, Iterable, Mapping
 from dataclasses import dataclass, replace
 from fractions import Fraction
@@ -19,11 +20,11 @@ from typing import Any, NamedTuple
 
 from arbiter import Columns, Host, Reading, Row
 from arbiter_host import apply, cgroup2, hunger, looks, output, safe_files, units
-from arbiter_host.apply import BURST, WEIGHT, Back, By, Change, Settings
+from arbiter_host.apply import BURST, MAXIMUM, WEIGHT, Back, By, Change, Settings
 from arbiter_host.demands import rise
 from arbiter_host.faults import HostFault
 from arbiter_host.looks import Counted, Times
-from arbiter_host.model import MAX_DEPTH, Group, Model, up_to_64_cpus, planned
+from arbiter_host.model import MAX_DEPTH, Group, Model, TooMany, planned, up_to_64_cpus
 from arbiter_host.names import shown
 from arbiter_host.plan import Engine, asking
 from arbiter_host.record import Record
@@ -39,6 +40,12 @@ MOST_FAILED = 2
 # clock has jumped, or nothing ran for long. A round that took long is none of it.
 SECOND = 10**9
 MOST_MISSED, LONGEST_MISSED = 5, 5 * SECOND
+# Groups of another user that are held one by one, and the time that a round may take for them.
+MOST_OF_OTHERS, LONGEST_PART = 1024, SECOND // 2
+# Groups whose settings are read in a round; of more they are read in turn, and before a writing.
+MOST_SETTINGS = 4096
+# Links of a folder without folders.
+LINKS = 2
 # Files that are open beside those of the groups.
 SPARE_FILES = 64
 
@@ -66,12 +73,20 @@ class Kept:
     stands: Settings
     # What is being written; what stands where nothing is.
     target: Settings
-    # Its last reading.
+    # Its last reading: the nanoseconds of the clock, its cpu.stat, and what is counted.
+    at: int
+    stat: str
     counted: Counted
+    # Whether neither its use nor its waiting rose in the last round.
+    is_idle: bool = False
     # Whether its limit is left alone, since somebody else sets it.
     is_left: bool = False
     # Slices that the plan of the last round gave it; None before its first round.
     planned: int | None = None
+
+
+# The reading of a group that was idle and still is.
+IDLE = Reading(0, 0, False)
 
 
 class Written(NamedTuple):
@@ -101,14 +116,19 @@ def own_group() -> Identity | None:
         return None
 
 
+def is_of_others(folder: str, default: bool = False) -> bool:
+    """Whether a folder is neither root's nor this user's; the default where it is gone."""
+    try:
+        return safe_files.is_of_others(os.lstat(folder))
+    except OSError:
+        return default
+
+
 def of_kubelet(folder: str, top: str = "") -> str:
     """The part of a path below a top up to a group of kubelet, which is root's or this user's:
     others may give theirs any name. Empty where there is none."""
     above = kubelets(folder[len(top):])
-    try:
-        return above if above and not safe_files.is_of_others(os.lstat(top + above)) else ""
-    except OSError:
-        return ""
+    return above if above and not is_of_others(top + above, True) else ""
 
 
 def own_settings(group: Group, old: Settings) -> None:
@@ -135,6 +155,89 @@ def tree_weights(model: Model, leaves: Mapping[str, int]) -> dict[str, int]:
     return found
 
 
+class Crowded(Exception):
+    """More groups of another user than are held one by one."""
+
+
+class HeldTree(looks.Tree):
+    """The tree of a loop, which reads itself what is counted, and what stands in a group that is
+    open. The topmost group of another user and those below it are a part of the tree. It is held as
+    one group from the time on when it has too many groups, or takes too long."""
+
+    def __init__(self, loop: Loop, top: str) -> None:
+        super().__init__(top, loop.host, depth=loop.ways.depth)
+        self.loop, self.most = loop, MOST_OF_OTHERS
+        # The parts that are held as one; the part of each group that is in another one.
+        self.whole = set[Identity | None]()
+        self.parts: dict[str, Group] = {}
+        # The part that is being read, and how many groups there may be then; the parts that took
+        # too long in the last round.
+        self.part: Group | None = None
+        self.last, self.slow = 0, set[Identity | None]()
+
+    def look(self) -> looks.Look:
+        """A look at all groups. Where there are too many in all, fewer of others are held."""
+        while True:
+            self.parts = {}
+            try:
+                return super().look()
+            except TooMany:
+                if not self.parts or not self.most:
+                    raise
+                self.most //= 4
+
+    def took(self, spent: Mapping[Identity | None, int]) -> None:
+        """Takes how long the parts took in a round. One that takes too long twice in a row is held
+        as one. (A stop may come in any round.)"""
+        slow = {part for part, each in spent.items() if each > LONGEST_PART}
+        self.whole |= slow & self.slow
+        self.slow = slow
+
+    def add(self, look: looks.Look, entry: os.DirEntry[str], above: str, depth: int,
+            taken: set[str]) -> bool:
+        """Adds one group and those below it."""
+        if self.part and len(look.model.groups) >= self.last:
+            raise Crowded
+        return super().add(look, entry, above, depth, taken)
+
+    def add_below(self, look: looks.Look, group: Group, depth: int) -> bool:
+        """Adds the groups below one, unless they are a part that is held as one."""
+        if self.part or not depth or not is_of_others(group.place):
+            return super().add_below(look, group, depth)
+        groups, notes = look.model.groups, look.model.notes
+        before, said = len(groups), len(notes)
+        if group.identity not in self.whole:
+            self.part, self.last = group, before + self.most
+            try:
+                return super().add_below(look, group, depth)
+            except Crowded:
+                self.whole.add(group.identity)
+            finally:
+                self.part = None
+        for path in list(groups)[before:]:
+            del groups[path], self.parts[path]
+        notes[said:] = [f"{group.path}: another user has more than {self.most} groups there, or"
+                        " they take too long to read: they are held as one"]
+        return False
+
+    def read(self, look: looks.Look, group: Group, entry: os.DirEntry[str]) -> bool:
+        """Reads a group. One that is open has others below it where its folder has more links."""
+        if self.part:
+            self.parts[group.path] = self.part
+        kept = self.loop.groups.get(group.path)
+        if kept is None or kept.identity[1] != entry.inode():
+            return super().read(look, group, entry)
+        group.identity = kept.identity
+        return os.fstat(self.loop.root.kept[kept.folder]).st_nlink != LINKS
+
+    def measure(self, look: looks.Look, group: Group, handle: int) -> None:
+        """Leaves that to the loop."""
+
+    def add_tasks(self, look: looks.Look, leaf: Group) -> None:
+        if self.loop.ways.has_weights:
+            super().add_tasks(look, leaf)
+
+
 class Loop:
     """The rounds over one tree. `record` is None where nothing is written."""
 
@@ -142,10 +245,10 @@ class Loop:
                  record: Record | None = None, ways: Ways = Ways(),
                  clock: Callable[[], int] = time.monotonic_ns) -> None:
         self.engine, self.root, self.host, self.record = engine, root, host, record
-        self.tree = looks.Tree(top, host, depth=ways.depth)
         self.ways, self.clock, self.own = ways, clock, own_group()
         # The groups that are open, by their paths.
         self.groups: dict[str, Kept] = {}
+        self.tree = HeldTree(self, top)
         # The number of tasks of each leaf at the last reading.
         self.tasks: dict[str, int] = {}
         self.tell = output.Remarks().tell
@@ -153,9 +256,10 @@ class Loop:
         self.has_rounded = False
         # Whether no group was kubelet's when the loop began.
         self.is_checked = ways.is_forced
-        self.rounds = 0
+        self.rounds = self.readings = 0
 
-    def counted(self, folder: str, is_leaf: bool, before: Counted | None = None) -> Counted:
+    def counted(self, folder: str, stat: str, is_leaf: bool, before: Counted | None = None
+                ) -> Counted:
         """What is counted of a group, and what its tasks did if some waited since the last time."""
         def text(file: str, most: int = safe_files.MAX_TEXT) -> str:
             try:
@@ -163,12 +267,10 @@ class Loop:
             except HostFault:
                 return ""
 
-        stat = self.root.read(folder, "cpu.stat")
         reading = cgroup2.counters(stat, text("cpu.pressure"))
-        at = Fraction(self.clock(), SECOND)
         has_waited = before is None or rise(before.reading.pressure, reading.pressure)
         list_ = text("cgroup.threads", hunger.MOST_TEXT) if is_leaf and has_waited else ""
-        return Counted(reading, hunger.tasks(list_), at)
+        return Counted(reading, hunger.tasks(list_))
 
     def take_up(self, group: Group, is_leaf: bool) -> None:
         """Opens a group that is new, and reads what stands in it."""
@@ -179,14 +281,14 @@ class Loop:
             return
         try:
             self.root.keep(folder, group.identity)
-            stands = apply.current(self.root, folder)
-            counted = self.counted(folder, is_leaf)
+            stands, stat = apply.current(self.root, folder), self.root.read(folder, "cpu.stat")
+            at, counted = self.clock(), self.counted(folder, stat, is_leaf)
         except HostFault as fault:
             self.root.let_go(folder)
             self.tell([f"{path}: left alone: {fault.message}"])
             return
         self.groups[path] = Kept(folder, group.identity or (0, 0), is_leaf, stands, stands, stands,
-                                 counted)
+                                 at, stat, counted)
 
     def drop(self, path: str, model: Model) -> None:
         """Closes a group that went, or that has children now or none any more. What stood is put
@@ -246,8 +348,8 @@ class Loop:
         self.is_checked = True
 
     def read(self) -> tuple[Model, dict[str, Reading]]:
-        """The groups as they stand, and what each leaf used since the last reading of it. New
-        groups are opened, those that went are closed."""
+        """The groups as they stand, and what each leaf used since the last reading of it. Those
+        that went are closed."""
         look = self.tree.look()
         model = look.model
         if not model.groups:
@@ -264,28 +366,52 @@ class Loop:
             is_same = path in there and model.groups[path].identity == kept.identity
             if not is_same or kept.is_leaf != there[path]:
                 self.drop(path, model)
+        return model, self.read_groups(model, there)
+
+    def read_groups(self, model: Model, there: Mapping[str, bool]) -> dict[str, Reading]:
+        """What each leaf used since its last reading. New groups are opened."""
         used, faults = dict[str, Reading](), list[HostFault]()
-        for path, is_leaf in there.items():
+        spent = Counter[Identity | None]()
+        self.readings += 1
+        turns = 1 + len(self.groups) // MOST_SETTINGS
+        for turn, (path, is_leaf) in enumerate(there.items(), self.readings):
             if path not in self.groups:
                 self.take_up(model.groups[path], is_leaf)
                 continue
+            begun = self.clock()
             try:
-                found = self.read_group(path)
-                used |= {path: found} if is_leaf else {}
+                found = self.read_group(path, turn % turns == 0)
+                if is_leaf:
+                    used[path] = found
             except Gone:
                 self.drop(path, model)
             except HostFault as fault:
-                faults.append(fault)
+                if self.is_of_others(self.groups[path]):
+                    self.tell([f"{fault.message}: its limit is left as it is"])
+                else:
+                    faults.append(fault)
+            if path in self.tree.parts:
+                spent[self.tree.parts[path].identity] += self.clock() - begun
+        self.tree.took(spent)
         if faults:
             raise faults[0]
-        return model, used
+        return used
 
-    def read_group(self, path: str) -> Reading:
-        """What a group used since its last reading, and what it asks for."""
+    def read_group(self, path: str, has_look: bool) -> Reading:
+        """What a group used since its last reading, and what it asks for. Of a group that was idle
+        cpu.stat tells whether it still is."""
         kept = self.groups[path]
-        self.look(kept, path)
-        before, kept.counted = kept.counted, self.counted(kept.folder, kept.is_leaf, kept.counted)
-        span, has_limit = looks.risen(before, kept.counted), kept.stands.quota is not None
+        if has_look:
+            self.look(kept, path)
+        stat, begun = self.root.read(kept.folder, "cpu.stat"), kept.at
+        kept.at = self.clock()
+        if kept.is_idle and stat == kept.stat and kept.at > begun:
+            return IDLE
+        before, kept.stat = kept.counted, stat
+        kept.counted = self.counted(kept.folder, stat, kept.is_leaf, before)
+        span = looks.risen(before, kept.counted, Fraction(kept.at - begun, SECOND))
+        kept.is_idle = span.risen.usage == 0 and not span.risen.pressure
+        has_limit = kept.stands.quota is not None
         if span.risen.usage is None or span.seconds <= 0:
             raise HostFault(f"{shown(kept.folder)}: its reading is older than the last: nothing is"
                             " written")
@@ -397,15 +523,19 @@ class Loop:
             self.tell([f"{fault.message}: its owner may have set it meanwhile"])
 
     def is_of_others(self, kept: Kept) -> bool:
-        """Whether users that are not trusted may set its limit. What they set must end no loop."""
-        status = self.root.status(kept.folder, "cpu.max")
-        return status is None or safe_files.is_of_others(status, 0o022)
+        """Whether users that are not trusted may set its limit. What they do must end no loop."""
+        try:
+            status = os.stat(MAXIMUM, dir_fd=self.root.kept[kept.folder], follow_symlinks=False)
+        except OSError:
+            return True
+        return safe_files.is_of_others(status, 0o022)
 
     def undo_text(self) -> str:
         """What stood in each group, and what it may hold by this loop."""
-        return apply.undo_text(self.root, [
+        return apply.undo_text(self.root, (
             Change(kept.folder, kept.old, kept.target, earlier=(kept.stands,))
-            for kept in self.groups.values() if {kept.stands, kept.target} != {kept.old}], By.FILES)
+            for kept in self.groups.values() if not kept.old == kept.stands == kept.target),
+            By.FILES)
 
     def put_back(self, groups: Iterable[Kept]) -> None:
         """Puts back what stood; what somebody else set stays, and is told. A fault of one group is

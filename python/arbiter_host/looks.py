@@ -170,8 +170,9 @@ class Tree:
         """A look at all groups. That at a copy is of second 0."""
         cgroup2.check_folder(self.top)
         look = Look(Fraction(0), Model(self.host, notes=cgroup2.top_notes(self.top)))
-        self.count(look, Group("."), cgroup2.reading(self.top))
-        self.add_below(look, self.top, ".", 0)
+        top = Group(".", place=self.top)
+        self.count(look, top, cgroup2.reading(self.top))
+        self.add_below(look, top, 0)
         look.at = self.now() or look.at
         return look
 
@@ -181,46 +182,55 @@ class Tree:
             key = None if self.clock is None else group.identity
             look.counted[group.path] = {key: Counted(reading, {}, self.now())}
 
-    def add_below(self, look: Look, folder: str, path: str, depth: int) -> bool:
-        """Adds the groups below a folder. Returns whether there are any."""
-        notes, raws = look.model.notes, subfolders(folder, path, look.model.notes)
+    def add_below(self, look: Look, group: Group, depth: int) -> bool:
+        """Adds the groups below one. Returns whether there are any."""
+        path, notes = group.path, look.model.notes
+        raws = subfolders(group.place, path, notes)
         if raws and depth >= self.depth:
             notes.append(f"{path}: {len(raws)} groups below it are deeper than {depth}")
             return False
-        if raws and all(cgroup2.file_text(os.path.join(folder, each), cgroup2.MARK) is None
-                        for each in raws):
-            if os.path.isdir(folder):
+        if raws and all(cgroup2.file_text(each.path, cgroup2.MARK) is None for each in raws):
+            if os.path.isdir(group.place):
                 notes.append(f"{path}: its {len(raws)} groups have no {cgroup2.MARK} (the cpu"
                              " controller is not enabled for them): it stands as one group")
             return False
         taken: set[str] = set()
-        return any([self.add(look, os.path.join(folder, raw), path, depth + 1, taken)
-                    for raw in raws])
+        return any([self.add(look, each, path, depth + 1, taken) for each in raws])
 
-    def add(self, look: Look, folder: str, above: str, depth: int, taken: set[str]) -> bool:
+    def add(self, look: Look, entry: os.DirEntry[str], above: str, depth: int,
+            taken: set[str]) -> bool:
         """Adds one group and those below it. Returns whether it was there."""
-        raw, notes = os.path.basename(folder), look.model.notes
+        raw, notes = entry.name, look.model.notes
+        name = names.path_name(raw, taken)
+        group = Group(names.joined(above, name), place=entry.path)
         try:
-            handle = os.open(folder, safe_files.FOLDER)
+            has_more = self.read(look, group, entry)
         except OSError:
             notes.append(f"{names.joined(above, shown(raw))}: gone while the tree was read")
             return False
-        name = names.path_name(raw, taken)
         taken.add(name)
-        try:
-            group = Group(names.joined(above, name), place=folder,
-                          identity=safe_files.identity_of(handle))
-            if name != raw:
-                notes.append(f"{group.path}: its name on the host is {raw!r}")
-            cgroup2.read_settings(group, handle, notes)
-            look.bound += [group.path] if cgroup2.is_bound(handle) else []
-            self.count(look, group, cgroup2.reading(handle))
-        finally:
-            os.close(handle)
+        if name != raw:
+            notes.append(f"{group.path}: its name on the host is {raw!r}")
         look.model.add(group)
-        if not self.add_below(look, folder, group.path, depth):
+        if not has_more or not self.add_below(look, group, depth):
             self.add_tasks(look, group)
         return True
+
+    def read(self, look: Look, group: Group, entry: os.DirEntry[str]) -> bool:
+        """Reads a group. Returns whether others may be below it."""
+        handle = os.open(entry.path, safe_files.FOLDER)
+        try:
+            group.identity = safe_files.identity_of(handle)
+            cgroup2.read_settings(group, handle, look.model.notes)
+            self.measure(look, group, handle)
+        finally:
+            os.close(handle)
+        return True
+
+    def measure(self, look: Look, group: Group, handle: int) -> None:
+        """Reads what is counted of a group."""
+        look.bound += [group.path] if cgroup2.is_bound(handle) else []
+        self.count(look, group, cgroup2.reading(handle))
 
     def add_tasks(self, look: Look, leaf: Group) -> None:
         """Adds the number of the tasks of a leaf, and what they did."""
@@ -234,11 +244,11 @@ class Tree:
                                        in look.counted[leaf.path].items()}
 
 
-def subfolders(folder: str, path: str, notes: list[str]) -> list[str]:
-    """The names of the folders in a folder, sorted; none where it is gone."""
+def subfolders(folder: str, path: str, notes: list[str]) -> list[os.DirEntry[str]]:
+    """The folders in a folder, by name; none where it is gone."""
     try:
         with os.scandir(folder) as entries:
-            return sorted(each.name for each in entries if is_folder(each))
+            return sorted(filter(is_folder, entries), key=lambda each: each.name)
     except OSError as error:
         notes.append(f"{path}: {strerror(error)}: what is below it is left out")
         return []

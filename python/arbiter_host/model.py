@@ -185,10 +185,14 @@ def bound_notes(paths: Sequence[str]) -> list[str]:
             " leave idle does not reach it"] if paths else []
 
 
+class TooMany(HostFault):
+    """More groups than the planner takes."""
+
+
 def check_count(many: int, what: str) -> None:
     """A fault where so many groups below the root are more than the planner takes."""
     if many >= MAX_GROUPS:
-        raise HostFault(f"{what}: more than {MAX_GROUPS} groups with the root")
+        raise TooMany(f"{what}: more than {MAX_GROUPS} groups with the root")
 
 
 def check_settings(group: Group) -> None:

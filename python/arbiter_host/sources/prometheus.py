@@ -18,6 +18,7 @@ from typing import Any, NamedTuple, TypeVar
 from arbiter_host import units
 from arbiter_host.faults import HostFault, UsageFault, naming
 from arbiter_host.names import cut, shown
+from arbiter_host.sources.data import check_memory
 from arbiter_host.sources.samples import EMPTY, TABLE, History, Sample, time_name
 
 Found = TypeVar("Found")
@@ -67,7 +68,9 @@ def exchanged(url: str) -> Any:
     try:
         with urllib.request.build_opener(Redirects).open(url, timeout=SECONDS) as answer, (
                 naming(shown(answer.url))):
-            return json.loads(body_of(answer))
+            body = body_of(answer)
+            check_memory(body, "its answer")
+            return json.loads(body)
     except (OSError, http.client.HTTPException, ValueError, RecursionError) as error:
         cause = error.reason if isinstance(error, urllib.error.URLError) else error
         told = str(cause)[:400] or type(error).__name__

@@ -19,7 +19,8 @@ from typing import Any, NamedTuple
 from arbiter_host import units
 from arbiter_host.faults import HostFault, naming
 from arbiter_host.names import cut, few, shown
-from arbiter_host.sources.data import MAX_TEXT, below, cells_of, check_size, loads, tables, text
+from arbiter_host.sources.data import (MAX_TEXT, below, cells_of, check_memory, check_size, loads,
+                                       tables, text)
 from arbiter_host.sources.pods import quantity
 from arbiter_host.sources.register import BLANK
 
@@ -152,6 +153,7 @@ def of_lines(data: bytes, name: str) -> Iterator[Any]:
 
 def of_json(data: bytes, name: str) -> Iterator[Used]:
     """The entries of JSON."""
+    check_memory(data, name)
     values = list(of_lines(data, name)) if b'"CPUPerc"' in data else [loads(data, name)]
     first = values[0] if len(values) == 1 else None
     if text(first, "kind") == "PodMetricsList" or isinstance(below(first, "items"), list):

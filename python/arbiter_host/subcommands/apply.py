@@ -84,13 +84,19 @@ def run_apply(options: argparse.Namespace) -> None:
 
 def check_no_loop(root: safe_files.Root, folders: Iterable[str]) -> None:
     """A fault where a loop of `hold` has limits in a group: they would be taken for the operator's
-    own, and an undo would bring them back for good."""
-    top = record.holder(record.FOLDER)
-    for folder in folders:
-        path = os.path.join(root.path, folder)
-        if top is not None and f"{path}/".startswith(f"{top.rstrip('/')}/"):
-            raise HostFault(f"{path}: arbiterctl hold runs on {top}: what stands there is its own;"
-                            " nothing is changed. End it first, as by systemctl stop arbiter-hold")
+    own, and an undo would bring them back for good. A group may have another path there."""
+    loop = record.holder(record.FOLDER)
+    if loop is None:
+        return
+    with safe_files.faults(loop.top):
+        held = set(safe_files.identities(loop.top))
+    for path in (os.path.join(root.path, folder) for folder in folders):
+        # (a group that is gone is told later)
+        with suppress(FileNotFoundError):
+            if safe_files.identity_of(path) in held:
+                raise HostFault(f"{path}: arbiterctl hold runs on {loop.top}: what stands there is"
+                                " its own; nothing is changed. End it first, as by systemctl stop"
+                                " arbiter-hold")
 
 
 def set_host(options: argparse.Namespace, asked: tuple[list[apply.Change], list[str]],

@@ -148,9 +148,9 @@ def times_of(asked: argparse.Namespace, period: int) -> looks.Times:
 
 def locked(root: safe_files.Root, asked: argparse.Namespace, stack: ExitStack) -> record.Record:
     """The undo file, after no second loop was found."""
-    undo = asked.undo or f"{record.FOLDER}/hold-undo.json"
-    where = record.FOLDER if is_real(root) else os.path.dirname(os.path.abspath(undo))
-    for descriptor in record.lock(where, os.path.realpath(asked.source)):
+    undo = os.path.abspath(asked.undo or f"{record.FOLDER}/hold-undo.json")
+    where = record.FOLDER if is_real(root) else os.path.dirname(undo)
+    for descriptor in record.lock(where, os.path.realpath(asked.source), undo):
         stack.callback(os.close, descriptor)
     kept = record.Record(undo)
     stack.callback(kept.close)
