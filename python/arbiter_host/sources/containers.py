@@ -180,6 +180,13 @@ class ContainerSource(Measurable):
         return {(at, 0): "/".join(place_of(each, driver)) for at, each in enumerate(self.running)
                 if text(each, "Id")}
 
+    def owner(self, path: str) -> str:
+        """The service of compose of which it is one of several containers, else itself."""
+        labels = table(self.running[self.built[1][path][0]], "Config", "Labels")
+        project, service = (text(labels, f"com.docker.compose.{key}") for key in (
+            "project", "service"))
+        return f"service {project}/{service}" if project and service else path
+
     def places_of(self, entry: Used) -> Sequence[Place]:
         """The container of an identifier, else of a name."""
         by_id, by_name = self.by_word
