@@ -183,6 +183,8 @@ def set_demands(model: Model, measured: dict[str, Measured], want: str, seconds:
             periods = sum(rises(counters.readings, "periods"))
             model.notes.append(f"{path}: throttled in {throttled} of {periods} periods: it wanted"
                                " more than it used (--want psi)")
+        if want in OF_USE[:3] and demand > 1000 * model.host.processors:
+            model.notes.append(f"{path}: {units.decimal(demand, 0)}m used: more than the host has")
         group.demand = demand
         if counters.tasks:
             needed = math.ceil(percentile(used(counters, seconds), 100) / 1000)

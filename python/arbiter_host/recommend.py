@@ -162,7 +162,10 @@ class Recommendation:
         counts = sorted({len(each.proposal.use.values) for each in self.rows})
         spans = [each.proposal.use.span or 0 for each in self.rows]
         many = " to ".join(map(str, dict.fromkeys([counts[0], counts[-1]])))
-        over = f" over {span_words(max(spans))}" if max(spans) else ""
+        is_one = all(len(each.proposal.use.values) == each.proposal.use.groups
+                     for each in self.rows) and counts[-1] > 1
+        over = (" of one moment" if is_one else f" over {span_words(max(spans))}" if max(spans)
+                else "")
         means = " to ".join(dict.fromkeys(map(self.rule.words, (counts[0], counts[-1]))))
         return (f"p{self.rule.percent} of {many} sample{'s' if counts[-1] > 1 else ''}{over}"
                 f" is {means}")

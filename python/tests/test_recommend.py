@@ -225,6 +225,10 @@ def test_an_owner_over_nodes_and_pods_that_are_gone(ctl, folder):
     one, _, _ = recommended(ctl, *words, "--node", "n1")
     assert list(one) == ["Deployment x/web/c", "StatefulSet x/db/c", "DaemonSet x/log/c"]
     assert one["Deployment x/web/c"]["set"] == by["Deployment x/web/c"]["set"]
+    (folder / "top").write_text("NAMESPACE POD NAME CPU(cores) MEMORY(bytes)\n" + "".join(
+        f"x web-5d9c-{name} c 50m 1Mi\n" for name in ("bbbbb", "ccccc")))
+    assert recommended(ctl, source, "--used", folder / "top", "--target", "p95,max")[1][
+        "percentile"] == "p95 of 2 samples of one moment is the greatest of 2"
     assert "no node n9" in ctl.run("recommend", *words, "--node", "n9", status=6)[1]
     assert list(recommended(ctl, *words, "-g", "x/alone")[0]) == ["x/alone/c"]
     out, _ = ctl.run("recommend", *words)

@@ -124,6 +124,7 @@ def test_csv_that_names_what_separates_its_cells():
     (b"Time,web\n1,\xff\n", "f.csv", "f.csv:2: not UTF-8"), (b"web\n-1\n", "f.csv", "f.csv:2: "),
     (b"Time,web,db,web\n1,2,3,4\n", "f.csv", "f.csv:1: two numbers of web"),
     (b"web 1 web 2\n", "f", "f:1: two numbers of web"),
+    (b'Time,web\n1,"1,234"\n', "f.csv", "f.csv:2: '1,234': a comma in a number of a file whose"),
 ])
 def test_files_that_are_refused(data, path, words):
     """What is no number, and what is there twice, is told with its line."""

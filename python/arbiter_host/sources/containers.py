@@ -144,9 +144,10 @@ class ContainerSource(Measurable):
         measured = {path: Measured() for path in model.groups}
         measured |= {path: self.known.get(place, Measured()) for path, place in places.items()}
         demands.set_demands(model, measured, want, self.seconds)
-        demands.stop(model, [path for path, each in zip(paths, self.running)
-                             if below(each, "State", "Paused") is True
-                             or text(each, "State", "Status") == "paused"], "paused")
+        for state in ("Paused", "Restarting"):
+            demands.stop(model, [path for path, each in zip(paths, self.running)
+                                 if below(each, "State", state) is True
+                                 or text(each, "State", "Status") == state.lower()], state.lower())
         return model, places
 
     def add(self, model: Model, container: Inspected, taken: dict[str, set[str]]) -> str:

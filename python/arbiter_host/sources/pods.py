@@ -203,6 +203,18 @@ def amounts_of(resources: dict[str, Any], where: str, notes: list[str]) -> Amoun
     return Amounts(limit if request is None else request, limit)
 
 
+def asked_amounts(container: dict[str, Any], status: dict[str, Any], where: str,
+                  notes: list[str]) -> Amounts:
+    """Request and limit of a container. What its status says is set otherwise is told."""
+    asked, now = (amounts_of(table(each, "resources"), where, notes)
+                  for each in (container, status))
+    if now not in (asked, Amounts()):
+        words = ", ".join(f"{key} {value}m" for key, value in (
+            ("request", now.request), ("limit", now.limit)) if value is not None)
+        notes.append(f"{where}: its resize is not done: what is set now is {words}")
+    return asked
+
+
 def containers_of(pod: dict[str, Any], where: str, notes: list[str]) -> tuple[Container, ...]:
     """All containers of a pod: init containers first, in order. One that has ended is not begun
     again by the policy `Never`, nor by `OnFailure` after a success."""
@@ -221,9 +233,13 @@ def containers_of(pod: dict[str, Any], where: str, notes: list[str]) -> tuple[Co
                 policy == "Never" or policy == "OnFailure" and not has_failed)
             has_group = is_sidecar or not is_over and (not is_init or "running" in state)
             containers.append(Container(
-                name, amounts_of(table(each, "resources"), f"{where}/{name}", notes),
+                name, asked_amounts(each, known, f"{where}/{name}", notes),
                 identifier and SCOPES.get(runtime, "") + identifier, is_init, is_sidecar,
                 has_group))
+    passing = sum("running" in table(each, "state")
+                  for each in tables(pod, "status", "ephemeralContainerStatuses"))
+    if passing:
+        notes.append(f"{where}: ephemeral containers, left out: {passing}")
     return tuple(containers)
 
 
