@@ -42,8 +42,8 @@ class Alerted(HostFault):
 
     status = 5
 
-    def __init__(self, alerts: Sequence[tuple[str, str]]) -> None:
-        super().__init__("\n".join(f"alert: {condition}: {group}" for condition, group in alerts)
+    def __init__(self, alerts: Sequence[tuple[str, str, object]]) -> None:
+        super().__init__("\n".join(f"alert: {condition}: {group}" for condition, group, _ in alerts)
                          or "alert: none holds any more")
 
 

@@ -17,7 +17,8 @@ from arbiter import Host, Library, Reading as RoundReading, RoundTimes
 from arbiter_host import cgroup2, hunger, names, options, progress, safe_files, units
 from arbiter_host.demands import Measured, Place, Reading, rise
 from arbiter_host.faults import HostFault, UsageFault, strerror
-from arbiter_host.model import MAX_DEPTH, Group, Model, checked, up_to_64_cpus
+from arbiter_host.model import (MAX_DEPTH, NO_POD, Group, Model, PodNames, checked,
+                                up_to_64_cpus)
 from arbiter_host.names import shown
 
 Clock = Callable[[], float]
@@ -83,6 +84,8 @@ class Look:
     # The groups that keep to CPUs of their own.
     bound: list[str] = field(default_factory=list)
     name: str = ""
+    # The folders of pods and containers that have no name of theirs.
+    unnamed: set[str] = field(default_factory=set)
 
 
 class Span(NamedTuple):
@@ -160,6 +163,8 @@ class Tree:
         cgroup2.check_tree(folder)
         self.top, self.host, self.depth = os.path.realpath(folder), checked(host), depth
         self.clock, self.has_threads = clock, has_threads
+        # The names of pods and containers by their folders below the top of the whole tree.
+        self.pods: Mapping[str, PodNames] | None = None
 
     def now(self) -> Fraction | None:
         """The seconds of the clock; None without one."""
@@ -200,16 +205,17 @@ class Tree:
     def add(self, look: Look, entry: os.DirEntry[str], above: str, depth: int,
             taken: set[str]) -> bool:
         """Adds one group and those below it. Returns whether it was there."""
-        raw, notes = entry.name, look.model.notes
-        name = names.path_name(raw, taken)
-        group = Group(names.joined(above, name), place=entry.path)
+        raw, notes, pod = entry.name, look.model.notes, self.pod_at(look, entry.path)
+        name = names.path_name(pod[2] or ":".join(filter(None, pod)) or raw, taken)
+        group = Group(names.joined(above, name), place=entry.path, pod=pod,
+                      title="/".join(filter(None, pod)))
         try:
             has_more = self.read(look, group, entry)
         except OSError:
             notes.append(f"{names.joined(above, shown(raw))}: gone while the tree was read")
             return False
         taken.add(name)
-        if name != raw:
+        if name != raw and pod == NO_POD:
             notes.append(f"{group.path}: its name on the host is {raw!r}")
         look.model.add(group)
         if not has_more or not self.add_below(look, group, depth):
@@ -231,6 +237,17 @@ class Tree:
         """Reads what is counted of a group."""
         look.bound += [group.path] if cgroup2.is_bound(handle) else []
         self.count(look, group, cgroup2.reading(handle))
+
+    def pod_at(self, look: Look, folder: str) -> PodNames:
+        """The names of the pod or container that has a folder."""
+        if self.pods is None:
+            return NO_POD
+        is_part = self.top.startswith(f"{HOST_TREE}/")
+        place = os.path.relpath(folder, HOST_TREE if is_part else self.top)
+        pod, last = self.pods.get(place, NO_POD), os.path.basename(place)
+        if pod == NO_POD and (names.HEX_ID.search(last) or names.POD_ID.search(last)):
+            look.unnamed.add(place)
+        return pod
 
     def add_tasks(self, look: Look, leaf: Group) -> None:
         """Adds the number of the tasks of a leaf, and what they did."""

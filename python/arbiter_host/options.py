@@ -35,6 +35,8 @@ NODE_WEIGHTS = ("linear", "log", "runtime-log")
 RANKS = ("least-loss", "most-left")
 WAYS = ("systemd", "persistent", "files")
 MAX_DEPTH, MAX_READINGS = 64, 10000
+# The word of a running service.
+SERVICE = re.compile("(k8s|docker|podman|systemd)://")
 
 # The forms that each subcommand writes. The first is the one without -o.
 FORMS: dict[str, tuple[str, ...]] = {
@@ -230,11 +232,15 @@ TABLE = (
                                " -A --containers` prints it, a tree of cgroups, or the address of a"
                                " Prometheus",
                   "audit": "the address of the Prometheus that knows what the groups used"}),
+    Option(("--pods",), "pods", "source", ("top",), "the pods whose groups a tree has, so that"
+           " these have their names: what `kubectl get pods -A -o json` prints, or k8s://",
+           "FILE", is_many=True, kinds=("cgroup",)),
     Option(("--range",), "range", "source", DEMAND, "the time that is asked of a Prometheus: 7d up"
-           " to now, or START/END as epochs or RFC 3339 (default 1d)", "TIME", kinds=(),
-           used=("url",)),
+           " to now, or START/END as epochs or RFC 3339 (default 1d, of recommend 14d)", "TIME",
+           kinds=(), used=("url",)),
     Option(("--step",), "step", "source", DEMAND, "time between two samples of a Prometheus, such"
-           " as 5m (default 1m)", "TIME", kinds=(), used=("url",), kinds_of={"replay": ALL},
+           " as 5m (default 1m, more for more than 3d)", "TIME", kinds=(), used=("url",),
+           kinds_of={"replay": ALL},
            helps={"replay": "how long a sample lasts, such as 5m (default: one period; of a"
                             " Prometheus 1m)"}),
     Option(("--query",), "query", "source", DEMAND, "what is asked of a Prometheus (default: the"

@@ -21,15 +21,11 @@ from arbiter_host.exports.compose import shares_of
 from arbiter_host.faults import naming
 from arbiter_host.names import shown
 from arbiter_host.sources.data import loads, table, tables, text
-from arbiter_host.sources.kubernetes import is_pod, items_of
-from arbiter_host.sources.pods import MIRROR
+from arbiter_host.sources.kubernetes import MAKERS, is_pod, items_of
+from arbiter_host.sources.pods import MIRROR, names_of, owner_of
 
 # What a name of an object may be, so that it can be a part of a file's name and of a command.
 NAME = re.compile(r"[a-z0-9]([-a-z0-9.]{0,251}[a-z0-9])?")
-# Kinds whose template of pods may be changed, and their versions.
-OWNERS = {"Deployment": "apps/v1", "StatefulSet": "apps/v1", "DaemonSet": "apps/v1",
-          "ReplicaSet": "apps/v1", "ReplicationController": "v1"}
-HASH = "pod-template-hash"
 # The amounts of a container by `requests` and `limits`; those of the containers by their names, for
 # each list of a pod. None takes an amount away.
 Resources = dict[str, dict[str, str | None]]
@@ -57,7 +53,7 @@ class Pods:
         self.items = [item for name, data in self.files for item in items_of(data, shown(name))]
         self.pods = [each for each in self.items if is_pod(each)]
         # With the pod of each, and the list of the pod in which it stands.
-        self.containers = {"/".join([*name_of(pod), text(each, "name")]): (pod, key, each)
+        self.containers = {"/".join([*names_of(pod), text(each, "name")]): (pod, key, each)
                            for pod in self.pods for key in ("initContainers", "containers")
                            for each in tables(pod, "spec", key)}
 
@@ -84,37 +80,10 @@ class Pods:
                             del cpu["cpu"]
 
 
-def name_of(item: dict[str, Any]) -> tuple[str, str]:
-    """The namespace and the name of an object."""
-    return text(item, "metadata", "namespace") or "default", text(item, "metadata", "name")
-
-
-def controller_of(item: dict[str, Any]) -> tuple[str, str]:
-    """Kind and name of what controls an object; both empty where nothing does."""
-    owners = tables(item, "metadata", "ownerReferences")
-    owner: Any = next((each for each in owners if each.get("controller") is True), {})
-    return text(owner, "kind"), text(owner, "name")
-
-
-def deployment_of(pod: dict[str, Any], name: str, items: Sequence[dict[str, Any]]) -> str:
-    """The Deployment of a pod's ReplicaSet: as its object says, else by the pod's hash."""
-    own = (name_of(pod)[0], name)
-    for each in items:
-        if each.get("kind") == "ReplicaSet" and name_of(each) == own:
-            kind, above = controller_of(each)
-            return above if kind == "Deployment" else ""
-    mark = text(pod, "metadata", "labels", HASH)
-    return name.removesuffix(f"-{mark}") if mark and name.endswith(f"-{mark}") else ""
-
-
 def target_of(pod: dict[str, Any], items: Sequence[dict[str, Any]]) -> Target:
     """What owns a pod as far up as its template may be changed; else the pod."""
-    kind, name = controller_of(pod)
-    if kind == "ReplicaSet":
-        above = deployment_of(pod, name, items)
-        kind, name = ("Deployment", above) if above else (kind, name)
-    namespace, own = name_of(pod)
-    return Target(kind, namespace, name) if kind in OWNERS else Target("Pod", namespace, own)
+    owner = owner_of(pod, items)
+    return Target(*owner) if owner[0] else Target("Pod", *names_of(pod))
 
 
 def request_of(draft: Draft, group: Differing) -> int | None:
@@ -208,7 +177,7 @@ def document(target: Target, rows: Rows, words: Sequence[str]) -> Document:
         spec = {"template": {"spec": spec}}
     file = f"{target.namespace}.{kind}.{target.name}.yaml"
     command = f"kubectl -n {target.namespace} patch {kind} {target.name}{more} --patch-file {file}"
-    data = {"apiVersion": OWNERS.get(target.kind, "v1"), "kind": target.kind,
+    data = {"apiVersion": "apps/v1" if target.kind in MAKERS else "v1", "kind": target.kind,
             "metadata": {"name": target.name, "namespace": target.namespace}, "spec": spec}
     return Document(file, head("kubectl") + "".join(f"# {each}\n" for each in (command, *words))
                     + yaml.safe_dump(data, sort_keys=False))

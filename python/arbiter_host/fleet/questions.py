@@ -33,7 +33,7 @@ def fleet_in(options: argparse.Namespace) -> Fleet | None:
     An option that has no effect on a fleet is refused. Files are read once: `load` has them then.
     """
     files = load.opened(options, options.source)
-    options.kept = dict(files)
+    options.kept = (list(options.source), files)
     words = options.used if options.asked != "replay" else []
     fleet = hosts.fleet_in(options, files, lambda: used.entries(options) if words else [])
     if fleet is None:

@@ -19,6 +19,7 @@ from arbiter_host import change, demands, load, names, series
 from arbiter_host.faults import HostFault
 from arbiter_host.model import Model
 from arbiter_host.plan import Engine, Plan, engine_of, plan
+from arbiter_host.sources import by_options
 from arbiter_host.sources.samples import History
 
 
@@ -190,13 +191,17 @@ def engine_here(path: str | None) -> Engine:
 
 def planned(job: Job, host: HostFile) -> Sent:
     """The plans of one host, and what its file says beside them."""
-    engine = engine_here(job.library)
-    model = load.of_bytes(Namespace(**job.options), host.path, host.data or b"", engine)
+    engine, options = engine_here(job.library), Namespace(**job.options)
+    model = load.of_bytes(options, host.path, host.data or b"", engine)
     if model.refused and not model.groups:
         raise HostFault(f"no host: {len(model.refused)} lines are none of a script, the first:"
                         f" {model.refused[0]}")
-    plans, told = (ACTIONS[job.action](job, model, engine) if host.history is None
-                   else replayed(job, model, engine, host.history))
+    if host.history is None:
+        plans, told = ACTIONS[job.action](job, model, engine)
+    else:
+        kind = options.kind or load.kind_of(host.path, host.data)
+        model = by_options.of_samples(options, kind, model, job.unit, job.sample_usec)
+        plans, told = replayed(job, model, engine, host.history)
     return Sent(model.host, plans, told)
 
 

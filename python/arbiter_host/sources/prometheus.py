@@ -33,6 +33,8 @@ LEAVES = ('container!="",container!="POD"', 'container="",name!=""',
           'container="",name="",id=~".*[.](service|scope)"')
 # Seconds of the rate at least: the time of some readings of cAdvisor.
 LEAST_RATE = 120
+# Samples of a series where no step is said. A server gives 11,000 at most.
+MOST_SAMPLES = 5000
 # Labels that tell the parts of one container's use apart.
 PARTS = frozenset({"cpu", "image", "name", "uid", "container_id"})
 # Labels that change where a container is made anew, maybe on another node.
@@ -128,14 +130,17 @@ def moment(text: str) -> str:
     return text
 
 
-def range_of(word: str | None, step: str | None) -> QueryRange:
-    """The range of `--range` and `--step`: a time up to now (default 1d), or START/END."""
+def range_of(word: str | None, step: str | None, default: str = "1d") -> QueryRange:
+    """The range of `--range` and `--step`: a time up to now, or START/END. The step is a minute
+    where that is not said, or as many as leave so many samples of a time."""
     try:
         seconds = units.parse_time(step or "1m") / 10**6
-        start, mark, end = (word or "1d").partition("/")
+        start, mark, end = (word or default).partition("/")
         if mark:
             return QueryRange(moment(start), moment(end), seconds)
         back = units.parse_time(start) / 10**6
+        if not step:
+            seconds *= math.ceil(back / (seconds * MOST_SAMPLES))
     except UsageFault:
         raise
     except HostFault as fault:

@@ -17,6 +17,7 @@ from fractions import Fraction
 from typing import Any, NamedTuple
 
 from arbiter_host import units
+from arbiter_host.demands import Times
 from arbiter_host.faults import HostFault, naming
 from arbiter_host.names import cut, few, shown
 from arbiter_host.sources.data import (MAX_TEXT, below, cells_of, check_memory, check_size, loads,
@@ -47,8 +48,8 @@ class Used(NamedTuple):
     pod: str = ""
     container: str = ""
     identifier: str = ""
-    # Seconds from the first amount to the last; None where that is not told.
-    span: Fraction | None = None
+    # When the first and the last amount was used; None where that is not told.
+    times: Times | None = None
 
     @property
     def word(self) -> str:
