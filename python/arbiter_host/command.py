@@ -11,11 +11,10 @@ from typing import TYPE_CHECKING, Any, NoReturn
 from arbiter_host import __version__, helps, names, options as table
 from arbiter_host.faults import HostFault, NoLibrary, missing_module
 from arbiter_host.output import drop_output, say, tell
-from arbiter_host.subcommands import PLACES, find
+from arbiter_host.subcommands import SUMMARIES, Subcommand, find
 
 if TYPE_CHECKING:
     from arbiter import Unavailable
-    from arbiter_host.subcommands.base import Subcommand
 
 
 class Parser(argparse.ArgumentParser):
@@ -57,12 +56,12 @@ def parser_of_all(words: Sequence[str]) -> Parser:
                         help="print the version, and end")
     commands = parser.add_subparsers(dest="command", required=True, metavar="COMMAND",
                                      parser_class=Parser)
-    for name, place in PLACES.items():
+    for name, summary in SUMMARIES.items():
         if name != asked:
-            commands.add_parser(name, help=place.summary)
+            commands.add_parser(name, help=summary)
             continue
         each = find(name)
-        below = commands.add_parser(name, help=place.summary, **help_of(each))
+        below = commands.add_parser(name, help=summary, **help_of(each))
         each.add_words(below)
         below.set_defaults(run=each.run)
     return parser

@@ -2,7 +2,7 @@
 from __future__ import annotations
 
 import argparse
-from collections.abc import Iterable
+from collections.abc import Iterable, Mapping
 from typing import Any
 
 from arbiter_host import options
@@ -56,7 +56,7 @@ def statuses() -> str:
     return "exit status:\n" + "\n".join(f"  {each}  {what}" for each, what in STATUSES.items())
 
 
-def examples(pairs: tuple[tuple[str, str], ...]) -> str:
+def examples(commands: Mapping[str, str]) -> str:
     """Examples for the end of a help text: what each does, and its command."""
-    lines = "\n".join(f"  {command}\n      {what}" for what, command in pairs)
-    return f"examples:\n{lines}\n\n" if pairs else ""
+    lines = "\n".join(f"  {command}\n      {what}" for what, command in commands.items())
+    return f"examples:\n{lines}\n\n" if commands else ""

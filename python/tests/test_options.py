@@ -7,7 +7,7 @@ from arbiter_host import explain, options as table, text
 from arbiter_host.faults import UsageFault
 from arbiter_host.fleet import report
 from arbiter_host.sources.register import READERS
-from arbiter_host.subcommands import PLACES
+from arbiter_host.subcommands import SUMMARIES
 
 
 def parsed(subcommand, *words):
@@ -38,8 +38,8 @@ def test_words_are_those_of_what_they_choose():
     assert set(table.STATES) == set(explain.ONLY) and set(table.SORTS) == set(explain.SORTS)
     assert set(table.UNITS) == set(text.UNIT_WORDS) and set(table.KINDS) == set(READERS)
     assert set(table.RANKS) == set(report.RULES)
-    assert set(table.FORMS) <= set(PLACES) and len(PLACES) == 12
-    assert {each for option in table.TABLE for each in option.subcommands} == set(PLACES)
+    assert set(table.FORMS) <= set(SUMMARIES) and len(SUMMARIES) == 12
+    assert {each for option in table.TABLE for each in option.subcommands} == set(SUMMARIES)
 
 
 def test_every_dest_has_its_value():

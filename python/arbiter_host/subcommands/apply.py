@@ -15,7 +15,6 @@ from arbiter_host.faults import HostFault, UsageFault
 from arbiter_host.options import Output
 from arbiter_host.output import emit
 from arbiter_host.plan import engine_of
-from arbiter_host.subcommands.base import Subcommand
 
 
 def print_steps(root: safe_files.Root, steps: Sequence[apply.Step]) -> None:
@@ -55,7 +54,7 @@ def write_form(to: Output, draft: exports.Draft) -> None:
     warn(apply.only_in_one(draft.before, draft.after, draft.moved))
 
 
-def run_apply(options: argparse.Namespace) -> None:
+def run(options: argparse.Namespace) -> None:
     """Prints the steps from one source to another; with --yes makes them."""
     outputs = table.outputs(options)
     forms = [each for each in outputs if each.form != "text"]
@@ -114,7 +113,7 @@ def set_host(options: argparse.Namespace, asked: tuple[list[apply.Change], list[
         output.say(f"done and read back; {back}")
 
 
-def run_undo(options: argparse.Namespace) -> None:
+def undo(options: argparse.Namespace) -> None:
     """Prints the steps back; with --yes makes them."""
     name = names.shown(options.file)
     content = plain_files.file_bytes(options.file, is_trusted=True)
@@ -128,7 +127,3 @@ def run_undo(options: argparse.Namespace) -> None:
             print_steps(back.root, apply.planned_steps(back.changes, back.by))
     finally:
         warn(back.left)
-
-
-APPLY = Subcommand.of_texts("apply", run_apply)
-UNDO = Subcommand.of_texts("undo", run_undo)

@@ -9,11 +9,11 @@ from arbiter_host.demands import Use
 from arbiter_host.model import Model
 from arbiter_host.names import cut, few, short, shown
 from arbiter_host.output import Styled
-from arbiter_host.plan import Engine
+from arbiter_host.plan import Engine, engine_of
 from arbiter_host.recommend import Advised, Recommendation
 from arbiter_host.sources import by_options, used
 from arbiter_host.sources.register import READERS
-from arbiter_host.subcommands.base import Subcommand, found_engine, source_name
+from arbiter_host.subcommands.base import source_name
 
 
 def loaded(options: argparse.Namespace, by: Engine) -> Model:
@@ -39,7 +39,7 @@ def uses_of(options: argparse.Namespace, model: Model) -> dict[str, Use]:
 
 def run(options: argparse.Namespace) -> None:
     rule = recommend.rule_of(options.target, options.headroom)
-    by, outputs = found_engine(options), table.outputs(options)
+    by, outputs = engine_of(options.library), table.outputs(options)
     model = loaded(options, by)
     uses = uses_of(options, model)
     load.warn(model, source_name(options.source))
@@ -95,6 +95,3 @@ def lines_of(advice: Recommendation) -> Styled:
             *zip(text.table(rows, (len(rows[0]) - 1,)),
                  ["bold", *("red" if each else "" for each in is_short)]),
             *(note if any(each.proposal.is_throttled for each in advice.rows) else [])]
-
-
-RECOMMEND = Subcommand.of_texts("recommend", run)
