@@ -52,19 +52,12 @@ class Engine:
     def __init__(self, library: Library) -> None:
         self.library = library
 
-    def plan(self, host: Host, rows: Sequence[Row]) -> Answer:
-        """A plan that the proved check accepted."""
+    def plan(self, host: Host, rows: Sequence[Row] | Columns) -> Answer:
+        """A plan that the proved check accepted for these rows."""
+        host = planned(host)
         with asking("no plan"):
             columns = Columns.of(rows)
-            amounts, certificate = self.library.certify(planned(host), columns)
-        return self.accepted(host, columns, amounts, certificate)
-
-    def accepted(self, host: Host, columns: Columns, amounts: Sequence[int],
-                 certificate: Certificate) -> Answer:
-        """The answer of a certificate that the proved check accepts for these rows."""
-        host = planned(host)
-        # The check reads the memory that is answered, after whatever wrote it has ended.
-        amounts = list(amounts)
+            amounts, certificate = self.library.certify(host, columns)
         with asking("the check refused the plan"):
             self.library.check(host, columns, amounts, certificate)
         with asking("what limits the total"):

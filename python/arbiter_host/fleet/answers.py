@@ -1,13 +1,10 @@
 """The answers of one host to the questions of a fleet, as plain data. Amounts are slices.
 
-Each is worked out from what a worker sent, after the proved check accepted its plans here. So a
-worker that is wrong costs its host the answer, and shows no other amount.
+Each is worked out from the rows that a worker sent, whose plans are made and accepted by the proved
+check here. So a worker that is wrong costs its host alone.
 """
 from __future__ import annotations
 
-import ctypes
-import zlib
-from array import array
 from collections import Counter
 from collections.abc import Callable, Iterator, Sequence
 from dataclasses import astuple, dataclass
@@ -15,22 +12,22 @@ from fractions import Fraction
 from functools import cached_property
 from typing import Any
 
-from arbiter import Certificate, Columns, Host
+from arbiter import Columns, Host
 from arbiter.c import NO_LIMIT
+from arbiter.columns import column
 from arbiter_host import series
 from arbiter_host.faults import HostFault
-from arbiter_host.fleet.work import Job, Sent, SentPlan
+from arbiter_host.fleet.work import Job, Sent, SentRows
 from arbiter_host.model import checked
 from arbiter_host.plan import Answer, Engine
 from arbiter_host.series import SampleCell
 
 # Most groups that an answer names for one reason.
 MOST_NAMED = 5
-# The types of the columns: those of the rows, the amounts, and those of the certificate.
-KINDS = ("I", "Q", "Q", "Q", "Q", "B", "Q", "Q", "I")
+# The types of the columns of rows.
+KINDS = ("I", "Q", "Q", "Q")
 # What a reply of another form than that of `work` may raise.
-BROKEN = (ValueError, KeyError, TypeError, IndexError, AttributeError, OverflowError,
-          RecursionError, zlib.error, ctypes.ArgumentError)
+BROKEN = (ValueError, KeyError, TypeError, IndexError, AttributeError, OverflowError)
 
 
 @dataclass(frozen=True)
@@ -50,21 +47,6 @@ class HostAnswer:
         for key in keys:
             found = found[key]
         return self.cpus(found)
-
-
-def unpacked(data: bytes, count: int) -> tuple[Columns, array[int], Certificate]:
-    """So many rows, their amounts and certificate. A ValueError or zlib.error where there are
-    none."""
-    size = sum(count * array(kind).itemsize for kind in KINDS)
-    raw = zlib.decompressobj().decompress(data, size + 1)
-    if len(raw) != size:
-        raise ValueError("of other rows")
-    arrays, at = [], 0
-    for kind in KINDS:
-        end = at + count * array(kind).itemsize
-        arrays.append(array(kind, raw[at:end]))
-        at = end
-    return Columns(*arrays[:4]), arrays[4], Certificate(*arrays[5:])
 
 
 @dataclass(frozen=True)
@@ -103,12 +85,13 @@ class Accepted:
                 "throttled": sum(self.answer.figures.tights[1:])}
 
 
-def accepted(engine: Engine, host: Host, plan: SentPlan) -> Accepted:
-    """A plan of a worker, once the proved check accepted it here."""
-    if not all(isinstance(each, str) for each in plan.paths):
-        raise TypeError(plan.paths)
-    return Accepted(host, plan.paths, engine.accepted(
-        host, *unpacked(plan.data, len(plan.paths))))
+def accepted(engine: Engine, host: Host, sent: SentRows) -> Accepted:
+    """The plan of rows that a worker sent."""
+    columns = Columns(*(column(kind, each, "rows")
+                        for kind, each in zip(KINDS, sent.columns, strict=True)))
+    if not all(isinstance(each, str) for each in sent.paths) or len(columns) != len(sent.paths):
+        raise TypeError(sent.paths)
+    return Accepted(host, sent.paths, engine.plan(host, columns))
 
 
 def explained(_: Job, plans: Iterator[Accepted], told: dict[str, Any]) -> dict[str, Any]:
