@@ -8,7 +8,7 @@ from __future__ import annotations
 
 import importlib
 import os
-from collections.abc import Callable, Iterator, Sequence
+from collections.abc import Iterator, Sequence
 from dataclasses import dataclass, field
 from typing import NamedTuple
 
@@ -69,8 +69,6 @@ class Draft:
     library: Library
     # The conversion of shares that the runtime makes.
     runtime: str
-    # Reads files as the first source was read.
-    reread: Callable[[Sequence[load.Opened]], Model]
     # What the form cannot say, and what is to be told beside, in words.
     refused: list[str] = field(default_factory=list)
     told: list[str] = field(default_factory=list)

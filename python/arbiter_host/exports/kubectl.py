@@ -1,14 +1,12 @@
 """Strategic merge patches of what owns pods, for `kubectl patch --patch-file` or kustomize.
 
 The requests and limits of containers are what is written. Weights and limits of pods and classes
-follow from them, so the patched pods are read again: a group that kubelet and the runtime would
-set otherwise than is asked is refused.
+follow from them: a group that kubelet and the runtime would set otherwise than is asked is refused.
 """
 from __future__ import annotations
 
-import json
 import re
-from collections.abc import Iterator, Sequence
+from collections.abc import Iterable, Iterator, Mapping, Sequence
 from fractions import Fraction
 from typing import Any, NamedTuple
 
@@ -20,6 +18,7 @@ from arbiter_host.exports import Differing, Draft, head
 from arbiter_host.exports.compose import shares_of
 from arbiter_host.faults import naming
 from arbiter_host.names import shown
+from arbiter_host.owned import Setting
 from arbiter_host.sources.data import loads, table, tables, text
 from arbiter_host.sources.kubernetes import is_pod, items_of
 from arbiter_host.sources.pods import MIRROR
@@ -50,11 +49,11 @@ class Target(NamedTuple):
 
 
 class Pods:
-    """The pods of the files, which are changed here, and the containers by their titles."""
+    """The pods of the files, and their containers by titles."""
 
     def __init__(self, files: Sequence[load.Opened]) -> None:
-        self.files = [(name, loads(data or b"{}", shown(name))) for name, data in files]
-        self.items = [item for name, data in self.files for item in items_of(data, shown(name))]
+        self.items = [item for name, data in files
+                      for item in items_of(loads(data or b"{}", shown(name)), shown(name))]
         self.pods = [each for each in self.items if is_pod(each)]
         # With the pod of each, and the list of the pod in which it stands.
         self.containers = {"/".join([*name_of(pod), text(each, "name")]): (pod, key, each)
@@ -64,24 +63,6 @@ class Pods:
     def of(self, target: Target) -> list[dict[str, Any]]:
         """The pods of a target."""
         return [each for each in self.pods if target_of(each, self.items) == target]
-
-    def written(self) -> list[load.Opened]:
-        """The files as they are after the change."""
-        return [(name, json.dumps(data).encode()) for name, data in self.files]
-
-    def patch(self, target: Target, rows: Rows) -> None:
-        """Changes all pods of a target, as its patch does. Their class is reckoned again."""
-        for pod in self.of(target):
-            table(pod, "status").pop("qosClass", None)
-            for key, entries in rows.items():
-                known = {text(each, "name"): each for each in tables(pod, "spec", key)}
-                for name in entries.keys() & known.keys():
-                    held = known[name].setdefault("resources", {})
-                    for kind, value in entries[name].items():
-                        cpu = held.setdefault(kind, {})
-                        cpu |= value
-                        if cpu["cpu"] is None:
-                            del cpu["cpu"]
 
 
 def name_of(item: dict[str, Any]) -> tuple[str, str]:
@@ -162,9 +143,21 @@ def paired(draft: Draft) -> Iterator[Differing]:
             yield Differing(path, each, draft.after.groups[then])
 
 
-def check_again(draft: Draft, pods: Pods) -> None:
+def settings_of(draft: Draft, pods: Pods, patches: Mapping[Target, Rows]) -> Iterator[Setting]:
+    """What the patches set: containers of all pods of their targets."""
+    paths = {group.title: path for path, group in draft.before.groups.items()}
+    for target, rows in patches.items():
+        for pod in pods.of(target):
+            for name, resources in (each for entries in rows.values() for each in entries.items()):
+                path = paths.get("/".join([*name_of(pod), name]))
+                yield from (Setting(path, key.removesuffix("s"), cpu["cpu"] or "none")
+                            for key, cpu in resources.items() if path)
+
+
+def check(draft: Draft, settings: Iterable[Setting]) -> None:
     """Refuses each group that kubelet and the runtime would set otherwise than is asked."""
-    groups = draft.reread(pods.written()).groups
+    assert draft.before.owned is not None
+    groups = draft.before.owned.changed(list(settings)).plain.groups
     for path, group in draft.after.groups.items():
         if path not in draft.before.groups and path not in draft.moved:
             continue
@@ -237,9 +230,7 @@ def documents(draft: Draft) -> list[Document]:
             draft.refuse(f"{target.words}, container {name}", "two of its pods are to have two"
                          " settings")
         words.setdefault(target, []).append(group.words)
-    for target, rows in patches.items():
-        pods.patch(target, rows)
-    check_again(draft, pods)
+    check(draft, settings_of(draft, pods, patches))
     for target in patches:
         draft.told.append(f"{target.words}: " + (
             "nothing owns it whose template may change: its patch lasts as long as it"
