@@ -37,9 +37,7 @@ class Formatter(argparse.HelpFormatter):
         """The usage, with the arguments alone."""
         words = [str(each.metavar) if " " in str(each.metavar) else self._format_args(
             each, each.dest) for each in actions if not each.option_strings]
-        # (with a prefix it is the beginning of a subcommand's usage)
-        more = ["[options]"] if prefix is None else []
-        super().add_usage(" ".join(["%(prog)s", *more, *words]), actions, (), prefix)
+        super().add_usage(" ".join(["%(prog)s", "[options]", *words]), actions, (), prefix)
 
     def _fill_text(self, text: str, width: int, indent: str) -> str:
         import textwrap  # (no other call lays out text)

@@ -89,7 +89,8 @@ def test_no_class_name_stands_twice():
 def imported(*words):
     """The modules that the parser of some words imports."""
     script = ("import sys; from arbiter_host import command;"
-              " command.parser_of_all(sys.argv[1:]); print(*sys.modules)")
+              " command.parser_of_all() if sys.argv[1:] == ['--help'] else"
+              " command.parsed(sys.argv[1:]); print(*sys.modules)")
     found = subprocess.run([sys.executable, "-c", script, *words], capture_output=True, text=True,
                            cwd=PACKAGE, check=True, timeout=60)
     return set(found.stdout.split())
