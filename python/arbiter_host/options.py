@@ -9,7 +9,7 @@ an option that was given and has no effect on such a source is refused with stat
 The dests, where they differ from the long flag: `kind` (--from), `used` (a list), `node_weights`,
 `group` (a list), `namespace` (a list), `selector` (a list), `output` (a list of FORM[=FILE], see
 `outputs`), `everything` (--all), `set` (a list), `goal` (a list), `pod` (a list), `map` and `scale`
-(lists). `read` is text, see `readings`. Amounts, times and percentages are text too.
+(lists). Amounts, times, readings and percentages are text.
 """
 from __future__ import annotations
 
@@ -34,7 +34,7 @@ UNITS = ("cpu", "m", "%", "slices", "us")
 NODE_WEIGHTS = ("linear", "log", "runtime-log")
 RANKS = ("least-loss", "most-left")
 WAYS = ("systemd", "persistent", "files")
-MAX_DEPTH, MAX_READINGS = 64, 10000
+MAX_DEPTH = 64
 
 # The forms that each subcommand writes. The first is the one without -o.
 FORMS: dict[str, tuple[str, ...]] = {
@@ -272,13 +272,6 @@ class Output(NamedTuple):
     path: str
 
 
-class Readings(NamedTuple):
-    """How often a tree is read, None for ever, and the time from one reading to the next."""
-
-    number: int | None
-    time: str
-
-
 def of(subcommand: str) -> list[Option]:
     """The options of a subcommand, in the order of the table."""
     return [each for each in TABLE if subcommand in each.subcommands]
@@ -354,12 +347,3 @@ def outputs(options: argparse.Namespace) -> list[Output]:
         if option.dest in options.given and option.forms and not {*asked} & {*option.forms}:
             raise UsageFault(f"{option.name}: it has no effect on -o {' and '.join(asked)}")
     return named
-
-
-def readings(text: str) -> Readings:
-    """The number of readings and their time, from `10x1s` or `x1s`."""
-    match = re.fullmatch(r"([0-9]{1,5})?x(.+)", text)
-    if not match or match.group(1) and not 1 <= int(match.group(1)) <= MAX_READINGS:
-        raise UsageFault(f"--read {shown(text)}: NxTIME, such as 10x1s, with N from 1 to"
-                         f" {MAX_READINGS}")
-    return Readings(int(match.group(1)) if match.group(1) else None, match.group(2))

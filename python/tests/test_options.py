@@ -3,7 +3,7 @@ import argparse
 import re
 
 import pytest
-from arbiter_host import explain, options as table, text
+from arbiter_host import explain, looks, options as table, text
 from arbiter_host.faults import UsageFault
 from arbiter_host.fleet import report
 from arbiter_host.sources.register import READERS
@@ -101,8 +101,8 @@ def test_no_effect_on_a_form_is_refused(words, said):
 
 
 def test_readings():
-    assert table.readings("10x1s") == (10, "1s")
-    assert table.readings("x5min") == (None, "5min")
+    assert looks.times_of("10x1s") == (1, 10)
+    assert looks.times_of("x5min") == (300, None)
     for words in ("10", "x", "0x1s", "10001x1s", "-1x1s"):
         with pytest.raises(UsageFault):
-            table.readings(words)
+            looks.times_of(words)

@@ -50,13 +50,11 @@ def check_sets(words: Sequence[str]) -> None:
     """A fault where a change is none on any host."""
     for word in words:
         _, key, value = change.split(word)
-        try:
+        with change.naming(word):
             if change.is_owned(word):
                 change.check_value(word)
             else:
                 change.apply(Group("any"), key, value, False)
-        except HostFault as fault:
-            raise UsageFault(f"--set {names.shown(word)}: {fault.message}") from fault
 
 
 def job_of(options: argparse.Namespace, fleet: Fleet) -> Job:
