@@ -9,7 +9,7 @@ import pytest
 from arbiter import Host
 from arbiter_host import command
 from arbiter_host.faults import UsageFault
-from arbiter_host.fleet import report, work
+from arbiter_host.fleet import work
 from arbiter_host.fleet.work import Sent, SentRows
 from places import PACKAGE
 
@@ -309,17 +309,6 @@ def test_what_is_one_host(folder):
     (folder / "{list").write_text("{a.toml\n[b.toml\n")
     (folder / "[b.toml").write_text("")
     assert fleets.of(folder / "{list") is None
-
-
-def test_quantiles():
-    """Nearest ranks, with weights."""
-    def of(pairs):
-        return list(report.quantiles(pairs).values())
-
-    assert of([]) == []
-    assert of([(Fraction(3), 1)]) == [3] * 7
-    assert of((Fraction(each), 1) for each in range(1, 101)) == [1, 5, 25, 50, 75, 95, 100]
-    assert of([(Fraction(0), 94), (Fraction(9), 6)]) == [0, 0, 0, 0, 0, 9, 9]
 
 
 @pytest.mark.parametrize("words", [

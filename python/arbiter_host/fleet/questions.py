@@ -10,7 +10,7 @@ from typing import Any
 
 from arbiter_host import change, load, names, options as table, plain_files, progress
 from arbiter_host.faults import HostFault, NothingFound, UsageFault
-from arbiter_host.fleet import answers, hosts, pending, pool, report
+from arbiter_host.fleet import answers, hosts, pool, report
 from arbiter_host.fleet.answers import HostAnswer
 from arbiter_host.fleet.hosts import Fleet
 from arbiter_host.fleet.work import HostFile, Job
@@ -131,7 +131,8 @@ def with_pending(options: argparse.Namespace, job: Job, fleet: Fleet,
         return told
     pods = [(f"{each.title}.json", each.data) for each in fleet.shapes().values()]
     placing, _ = asked(options, replace(job, action="place", pods=pods), fleet)
-    return pending.added(told, pending.placed(fleet, placing, options.rank), options.rank)
+    rows = report.pending(fleet, placing, options.rank)
+    return report.with_pending(told, rows, options.rank)
 
 
 FORMS = ("text", "json", "html")
