@@ -83,17 +83,11 @@ def lines_of(ranked: Ranked) -> list[tuple[str, str]]:
             *((line, "") for line in answer.foot(ranked))]
 
 
-
-
 def run(asked: argparse.Namespace) -> None:
     """Measures how far off the plan is, and writes the answers."""
     outputs, name = options.outputs(asked), source_name(asked.source or [looks.HOST_TREE])
     ranked = audited(asked)
     load.warn(Model(notes=ranked.audit.notes), name)
 
-    def page_of() -> str:
-        from arbiter_host.audit import page
-        return page.page(ranked, f"Audit of {name}")
-
-    write_forms(outputs, {"text": lambda: lines_of(ranked), "html": page_of,
-                          "json": lambda: json_text(answer.as_data(ranked))})
+    write_forms(outputs, {"text": lambda: lines_of(ranked), "json": lambda: json_text(answer.as_data(ranked)),
+                          "html": lambda: answer.page(ranked, f"Audit of {name}")})
