@@ -47,7 +47,7 @@ FORMS: dict[str, tuple[str, ...]] = {
     "place": ("text", "json", "html"),
     "export": ("script", "toml", "json"),
     "audit": ("text", "json", "html"),
-    "apply": ("text", "kubectl", "dropin", "compose", "shell", "slurm"),
+    "apply": ("text", "kubectl", "dropin", "compose", "slurm"),
     "hold": ("json", "openmetrics"),
 }
 # Forms that list groups.

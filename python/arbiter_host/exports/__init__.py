@@ -59,13 +59,12 @@ class Differing(NamedTuple):
 
 @dataclass
 class Draft:
-    """A change that is to be written: both models, the files of BEFORE, and the way."""
+    """A change that is to be written: both models, the files of BEFORE, and the top of the tree."""
 
     before: Model
     after: Model
     files: Sequence[load.Opened]
     root: Root
-    by: apply.By
     library: Library
     # The conversion of shares that the runtime makes.
     runtime: str
