@@ -99,7 +99,7 @@ def imported(*words):
 def test_a_short_command_imports_little():
     """The list of all imports no subcommand, and a subcommand no other one."""
     place = "arbiter_host.subcommands."
-    for words, wanted in ((["--help"], set()), (["undo", "x"], {place + "apply", place + "base"})):
+    for words, wanted in ((["--help"], set()), (["undo", "x"], {place + "apply"})):
         found = imported(*words)
         assert {name for name in found if name.startswith(place)} == wanted
     unused = {"textwrap", "signal", "dataclasses", "ctypes", "arbiter"}

@@ -196,7 +196,7 @@ def picture(row: AuditRow, intervals: Sequence[Interval]) -> str:
 
 
 def page(found: Ranked, title: str) -> str:
-    """One HTML page: the table, and plan and use over time of the worst groups. The table sorts by the texts of its columns."""
+    """One HTML page: the table, which sorts, and plan and use over time of the worst groups."""
     rows = []
     for row in found.busy:
         *cells, cause, name = cells_of(row)

@@ -41,8 +41,8 @@ def documents(draft: Draft) -> list[Document]:
             draft.refuse(group.path, "a burst: units have no setting for it (--yes writes it)")
         elif group.has_limit and apply.percent(apply.settings_of(group.after)) is None:
             limit = apply.settings_of(group.after)
-            draft.refuse(group.path, "CPUQuota= has two decimals of a percent, and"
-                         f" {limit.quota} in {limit.period} microseconds has more (--yes writes it)")
+            draft.refuse(group.path, f"CPUQuota= has two decimals of a percent, and {limit.quota}"
+                         f" in {limit.period} microseconds has more (--yes writes it)")
         else:
             seen[unit] = group.path
             section = SECTIONS[unit.rpartition(".")[2]]

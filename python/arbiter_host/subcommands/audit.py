@@ -89,5 +89,6 @@ def run(asked: argparse.Namespace) -> None:
     ranked = audited(asked)
     load.warn(Model(notes=ranked.audit.notes), name)
 
-    write_forms(outputs, {"text": lambda: lines_of(ranked), "json": lambda: json_text(answer.as_data(ranked)),
+    write_forms(outputs, {"text": lambda: lines_of(ranked),
+                          "json": lambda: json_text(answer.as_data(ranked)),
                           "html": lambda: answer.page(ranked, f"Audit of {name}")})
