@@ -13,7 +13,7 @@ from dataclasses import dataclass, field
 from typing import NamedTuple
 
 from arbiter import Library
-from arbiter_host import apply, load
+from arbiter_host import apply
 from arbiter_host.atomic_files import Document, own_folder, put_all
 from arbiter_host.faults import HostFault, UsageFault
 from arbiter_host.model import Group, Model, check_settings
@@ -59,11 +59,10 @@ class Differing(NamedTuple):
 
 @dataclass
 class Draft:
-    """A change that is to be written: both models, the files of BEFORE, and the top of the tree."""
+    """A change that is to be written: both models, and the top of the tree."""
 
     before: Model
     after: Model
-    files: Sequence[load.Opened]
     root: Root
     library: Library
     # The conversion of shares that the runtime makes.

@@ -6,29 +6,28 @@ follow from them: a group that kubelet and the runtime would set otherwise than 
 from __future__ import annotations
 
 import re
-from collections.abc import Iterable, Iterator, Mapping, Sequence
+from collections.abc import Iterator, Mapping, Sequence
 from fractions import Fraction
 from typing import Any, NamedTuple
 
 import yaml
 
-from arbiter_host import apply, load
+from arbiter_host import apply
 from arbiter_host.atomic_files import Document
 from arbiter_host.exports import Differing, Draft, head
 from arbiter_host.exports.compose import shares_of
-from arbiter_host.faults import naming
+from arbiter_host.faults import HostFault
+from arbiter_host.model import Group
 from arbiter_host.names import shown
-from arbiter_host.owned import Setting
-from arbiter_host.sources.data import loads, table, tables, text
-from arbiter_host.sources.kubernetes import is_pod, items_of
-from arbiter_host.sources.pods import MIRROR
+from arbiter_host.owned import Amounts, Setting
+from arbiter_host.sources.kubernetes import PodSource
+from arbiter_host.sources.pods import Container, Pod
 
 # What a name of an object may be, so that it can be a part of a file's name and of a command.
 NAME = re.compile(r"[a-z0-9]([-a-z0-9.]{0,251}[a-z0-9])?")
 # Kinds whose template of pods may be changed, and their versions.
 OWNERS = {"Deployment": "apps/v1", "StatefulSet": "apps/v1", "DaemonSet": "apps/v1",
           "ReplicaSet": "apps/v1", "ReplicationController": "v1"}
-HASH = "pod-template-hash"
 # The amounts of a container by `requests` and `limits`; those of the containers by their names, for
 # each list of a pod. None takes an amount away.
 Resources = dict[str, dict[str, str | None]]
@@ -48,54 +47,16 @@ class Target(NamedTuple):
         return f"{self.kind} {shown(self.namespace)}/{shown(self.name)}"
 
 
-class Pods:
-    """The pods of the files, and their containers by titles."""
-
-    def __init__(self, files: Sequence[load.Opened]) -> None:
-        self.items = [item for name, data in files
-                      for item in items_of(loads(data or b"{}", shown(name)), shown(name))]
-        self.pods = [each for each in self.items if is_pod(each)]
-        # With the pod of each, and the list of the pod in which it stands.
-        self.containers = {"/".join([*name_of(pod), text(each, "name")]): (pod, key, each)
-                           for pod in self.pods for key in ("initContainers", "containers")
-                           for each in tables(pod, "spec", key)}
-
-    def of(self, target: Target) -> list[dict[str, Any]]:
-        """The pods of a target."""
-        return [each for each in self.pods if target_of(each, self.items) == target]
-
-
-def name_of(item: dict[str, Any]) -> tuple[str, str]:
-    """The namespace and the name of an object."""
-    return text(item, "metadata", "namespace") or "default", text(item, "metadata", "name")
-
-
-def controller_of(item: dict[str, Any]) -> tuple[str, str]:
-    """Kind and name of what controls an object; both empty where nothing does."""
-    owners = tables(item, "metadata", "ownerReferences")
-    owner: Any = next((each for each in owners if each.get("controller") is True), {})
-    return text(owner, "kind"), text(owner, "name")
-
-
-def deployment_of(pod: dict[str, Any], name: str, items: Sequence[dict[str, Any]]) -> str:
-    """The Deployment of a pod's ReplicaSet: as its object says, else by the pod's hash."""
-    own = (name_of(pod)[0], name)
-    for each in items:
-        if each.get("kind") == "ReplicaSet" and name_of(each) == own:
-            kind, above = controller_of(each)
-            return above if kind == "Deployment" else ""
-    mark = text(pod, "metadata", "labels", HASH)
-    return name.removesuffix(f"-{mark}") if mark and name.endswith(f"-{mark}") else ""
-
-
-def target_of(pod: dict[str, Any], items: Sequence[dict[str, Any]]) -> Target:
+def target_of(pod: Pod) -> Target:
     """What owns a pod as far up as its template may be changed; else the pod."""
-    kind, name = controller_of(pod)
-    if kind == "ReplicaSet":
-        above = deployment_of(pod, name, items)
-        kind, name = ("Deployment", above) if above else (kind, name)
-    namespace, own = name_of(pod)
-    return Target(kind, namespace, name) if kind in OWNERS else Target("Pod", namespace, own)
+    kind, _, owner = pod.owner.partition(" ")
+    namespace, _, name = owner.partition("/")
+    return Target(kind, namespace, name) if kind else Target("Pod", pod.namespace, pod.name)
+
+
+def list_of(container: Container) -> str:
+    """The list of a pod in which a container stands."""
+    return "initContainers" if container.is_init else "containers"
 
 
 def request_of(draft: Draft, group: Differing) -> int | None:
@@ -118,12 +79,12 @@ def limit_of(draft: Draft, group: Differing) -> int | None:
     return int(exact)
 
 
-def changes(draft: Draft, group: Differing, raw: dict[str, Any]) -> Resources:
+def changes(draft: Draft, group: Differing, now: Amounts) -> Resources:
     """The resources of a container that change. A limit alone must not become the request."""
     amounts = {}
     if group.has_weight or group.has_request:
         amounts["requests"] = request_of(draft, group)
-    elif group.has_limit and "cpu" not in table(raw, "resources", "requests"):
+    elif group.has_limit and now.request == now.limit:
         amounts["requests"] = int(group.before.request or 0)
     if group.has_limit:
         amounts["limits"] = limit_of(draft, group)
@@ -143,21 +104,17 @@ def paired(draft: Draft) -> Iterator[Differing]:
             yield Differing(path, each, draft.after.groups[then])
 
 
-def settings_of(draft: Draft, pods: Pods, patches: Mapping[Target, Rows]) -> Iterator[Setting]:
+def settings_of(source: PodSource, patches: Mapping[Target, Rows]) -> Iterator[Setting]:
     """What the patches set: containers of all pods of their targets."""
-    paths = {group.title: path for path, group in draft.before.groups.items()}
-    for target, rows in patches.items():
-        for pod in pods.of(target):
-            for name, resources in (each for entries in rows.values() for each in entries.items()):
-                path = paths.get("/".join([*name_of(pod), name]))
-                yield from (Setting(path, key.removesuffix("s"), cpu["cpu"] or "none")
-                            for key, cpu in resources.items() if path)
+    for path in source.own:
+        pod, number, _ = source.part(path)
+        rows = patches.get(target_of(pod), {}).get(list_of(pod.parts[number]), {})
+        for key, cpu in rows.get(pod.parts[number].name, {}).items():
+            yield Setting(path, key.removesuffix("s"), cpu["cpu"] or "none")
 
 
-def check(draft: Draft, settings: Iterable[Setting]) -> None:
+def check(draft: Draft, groups: Mapping[str, Group]) -> None:
     """Refuses each group that kubelet and the runtime would set otherwise than is asked."""
-    assert draft.before.owned is not None
-    groups = draft.before.owned.changed(list(settings)).plain.groups
     for path, group in draft.after.groups.items():
         if path not in draft.before.groups and path not in draft.moved:
             continue
@@ -169,11 +126,11 @@ def check(draft: Draft, settings: Iterable[Setting]) -> None:
                          f" {told}: requests and limits of containers decide it")
 
 
-def refusal_of(pod: dict[str, Any], target: Target) -> str:
+def refusal_of(pod: Pod, target: Target) -> str:
     """Why a pod cannot be patched; empty where it can."""
     if not (NAME.fullmatch(target.namespace) and NAME.fullmatch(target.name)):
         return f"{target.words} is no name that Kubernetes takes"
-    if text(pod, "metadata", "annotations", MIRROR):
+    if pod.is_static:
         return f"{target.words} is a static pod: its file on the node says its requests and limits"
     return ""
 
@@ -209,31 +166,33 @@ def document(target: Target, rows: Rows, words: Sequence[str]) -> Document:
 
 def documents(draft: Draft) -> list[Document]:
     """A patch of each owner, or of a pod without one."""
-    with naming("-o kubectl is for pods"):
-        pods = Pods(draft.files)
+    source = draft.before.owned
+    if not isinstance(source, PodSource):
+        raise HostFault("-o kubectl is for pods")
     patches: dict[Target, Rows] = {}
     words: dict[Target, list[str]] = {}
     for group in paired(draft):
-        if group.before.title not in pods.containers or not (
+        if not source.has(group.path) or not (
                 group.has_weight or group.has_limit or group.has_request):
             continue
-        pod, key, container = pods.containers[group.before.title]
-        target, name = target_of(pod, pods.items), text(container, "name")
+        pod, number, now = source.part(group.path)
+        target, container = target_of(pod), pod.parts[number]
         refusal = refusal_of(pod, target)
         if refusal:
             draft.refuse(group.path, refusal)
             continue
         check_class(draft, group, target)
-        resources = changes(draft, group, container)
-        row = patches.setdefault(target, {}).setdefault(key, {})
-        if row.setdefault(name, resources) != resources:
-            draft.refuse(f"{target.words}, container {name}", "two of its pods are to have two"
-                         " settings")
+        resources = changes(draft, group, now)
+        row = patches.setdefault(target, {}).setdefault(list_of(container), {})
+        if row.setdefault(container.name, resources) != resources:
+            draft.refuse(f"{target.words}, container {container.name}", "two of its pods are to"
+                         " have two settings")
         words.setdefault(target, []).append(group.words)
-    check(draft, settings_of(draft, pods, patches))
+    check(draft, source.changed(list(settings_of(source, patches))).plain.groups)
     for target in patches:
+        count = sum(target_of(pod) == target for pod in source.pods)
         draft.told.append(f"{target.words}: " + (
             "nothing owns it whose template may change: its patch lasts as long as it"
-            if target.kind == "Pod" else "the patch changes all its pods, on all nodes; in these"
-            f" files it has {len(pods.of(target))}"))
+            if target.kind == "Pod" else "the patch changes all its pods, on all nodes; here it"
+            f" has {count}"))
     return [document(target, rows, words[target]) for target, rows in patches.items()]

@@ -88,6 +88,8 @@ class Pod:
     labels: tuple[tuple[str, str], ...] = ()
     # What makes it of a template: kind, namespace and name; empty for nothing.
     owner: str = ""
+    # Whether a file on its node says it, and the API server has a copy alone.
+    is_static: bool = False
 
     @property
     def title(self) -> str:
@@ -307,7 +309,8 @@ def pod_of(pod: dict[str, Any], notes: list[str]) -> Pod:
         tolerations=tuple(Toleration(
             text(each, "key"), None if text(each, "operator") == "Exists" else text(each, "value"),
             text(each, "effect")) for each in tables(spec, "tolerations")),
-        labels=pairs_of(table(metadata, "labels")), owner=owner_of(metadata, namespace))
+        labels=pairs_of(table(metadata, "labels")), owner=owner_of(metadata, namespace),
+        is_static=bool(text(metadata, "annotations", MIRROR)))
 
 
 def node_facts(node: dict[str, Any] | None) -> NodeFacts:

@@ -74,7 +74,7 @@ def run(options: argparse.Namespace) -> None:
     after = change.warned(models[-1], change.changed(models[-1], options.set))
     root, way = safe_files.Root(options.root), apply.By(options.by)
     for each in forms:
-        write_form(each, exports.Draft(models[0], after, sources[0], root, by.library,
+        write_form(each, exports.Draft(models[0], after, root, by.library,
                                        load.wish_of(options).runtime))
     if len(forms) < len(outputs):
         set_host(options, apply.changes(models[0], after, root), root, way)
