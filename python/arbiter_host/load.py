@@ -52,7 +52,6 @@ def wish_of(options: argparse.Namespace) -> Wish:
 
 
 def opened(options: argparse.Namespace, paths: Sequence[str]) -> list[Opened]:
-    """The files of some paths."""
     kept: dict[str, bytes | None] = getattr(options, "kept", {})
     return [(path, kept[path]) if path in kept else
             (path, None if os.path.isdir(path) else plain_files.file_bytes(path)) for path in paths]

@@ -16,7 +16,7 @@ from __future__ import annotations
 import argparse
 import os
 import re
-from collections.abc import Mapping
+from collections.abc import Collection, Mapping
 from typing import Any, NamedTuple
 
 from arbiter_host.faults import UsageFault
@@ -329,10 +329,10 @@ def check(options: argparse.Namespace, kind: str) -> None:
         raise UsageFault(f"{each.name}: it has no effect on {source}")
 
 
-def outputs(options: argparse.Namespace) -> list[Output]:
+def outputs(options: argparse.Namespace, among: Collection[str] = ()) -> list[Output]:
     """The forms and files that are asked for, at most one on standard output. A fault where an
-    option was given that shows in none of them."""
-    forms = FORMS[options.asked]
+    option was given that shows in none of them. `among` leaves some forms alone."""
+    forms = [each for each in FORMS[options.asked] if not among or each in among]
     named = []
     for word in options.output or [forms[0]]:
         form, mark, path = word.partition("=")

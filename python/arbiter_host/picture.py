@@ -47,7 +47,6 @@ def entry_of(plan: Plan, group: Planned, view: View) -> Entry:
 
 
 def entries(plan: Plan, view: View) -> list[Entry]:
-    """All rows as a tree is read."""
     groups = [group for group in explain.family(plan, view)
               if group.parent is None or group.want and group.depth <= view.depth]
     if len(groups) > MOST_ROWS:
@@ -150,7 +149,6 @@ def title_of(plan: Plan, unit: str) -> str:
 
 
 def picture(plan: Plan, view: View = View()) -> str:
-    """A plan as SVG."""
     drawing = Drawing(plan, entries(plan, view), view.unit)
     title = title_of(plan, view.unit)
     parts = [svg.words((EDGE, 20), title, svg.INK, 13, "start", True), *legend(40),

@@ -160,7 +160,6 @@ class Plan:
 
     @property
     def root(self) -> Planned:
-        """The host itself."""
         return self.groups[0]
 
     @property
@@ -205,9 +204,9 @@ class Plan:
             return self.engine.library.reasons(planned(self.model.host), self.columns)
 
     @functools.cached_property
-    def explanations(self) -> dict[int, Explanation]:
-        """The reasons in words that were asked for, by row."""
-        return {}
+    def explanations(self) -> list[Explanation]:
+        """The reason of each group in words."""
+        return [explained(self, group) for group in self.groups]
 
     def guaranteed(self, row: int) -> int:
         """What a group gets whatever the groups that are not under it ask for, in slices."""
@@ -215,9 +214,6 @@ class Plan:
             return self.engine.library.guarantee(planned(self.model.host), self.columns, row)
 
     def reason(self, group: Planned) -> Explanation:
-        """The reason of a group in words. Each answer asks for it several times."""
-        if group.row not in self.explanations:
-            self.explanations[group.row] = explained(self, group)
         return self.explanations[group.row]
 
 

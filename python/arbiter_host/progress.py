@@ -20,12 +20,8 @@ def bar(what: str, total: int) -> Iterator[Callable[[], None]]:
     if not is_allowed or sys.stderr is None or not sys.stderr.isatty() or total < 2:
         yield nothing
         return
-    try:
-        from rich.console import Console
-        from rich.progress import Progress
-    except ModuleNotFoundError:
-        yield nothing
-        return
+    from rich.console import Console  # (few calls show one)
+    from rich.progress import Progress
     with Progress(console=Console(stderr=True), transient=True) as progress:
         task = progress.add_task(what, total=total)
         yield lambda: progress.advance(task)

@@ -115,7 +115,6 @@ def head(ranked: Ranked) -> Iterator[str]:
 
 
 def cells_of(row: AuditRow) -> list[str]:
-    """The cells of a row."""
     average, most = row.average, row.most
     return [cpus(average.used), cpus(average.planned), points(average.off), percent(average.part),
             points(most.off), percent(most.part), str(row.count), row.cause,
@@ -143,7 +142,6 @@ def off_data(off: Off) -> dict[str, Any]:
 
 
 def row_data(row: AuditRow, intervals: Sequence[Interval]) -> dict[str, Any]:
-    """A row as data."""
     return {"group": row.path, "title": row.group.title, "weight": row.group.weight,
             "quota_usec": row.group.quota, "period_usec": row.group.period,
             "intervals": row.count,
@@ -156,7 +154,6 @@ def row_data(row: AuditRow, intervals: Sequence[Interval]) -> dict[str, Any]:
 
 
 def as_data(ranked: Ranked) -> dict[str, Any]:
-    """An audit as data."""
     audit, host = ranked.audit, ranked.audit.plan.model.host
     return {"host": {"processors": host.processors, "period_usec": host.period_us,
                      "slice_usec": host.slice_us},

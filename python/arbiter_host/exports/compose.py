@@ -71,7 +71,6 @@ def service_of(container: dict[str, Any]) -> tuple[str, str]:
 
 
 def documents(draft: Draft) -> list[Document]:
-    """An override of each project."""
     source, changed = draft.before.owned, set()
     containers = {path: source.running[at] for path, (at, _) in source.built[1].items()
                   } if isinstance(source, ContainerSource) else {}
@@ -99,7 +98,6 @@ def documents(draft: Draft) -> list[Document]:
 
 
 def document(project: str, services: dict[str, dict[str, Any]], words: Sequence[str]) -> Document:
-    """The override of a project."""
     use = f"# docker compose -p {project} -f COMPOSE.yaml -f {project}.override.yaml up -d\n"
     if any("cpus" in keys for keys in services.values()):
         use += ("# Compose takes no `cpus` beside deploy.resources.limits.cpus: where a service"

@@ -86,7 +86,6 @@ class Accepted:
 
 
 def accepted(engine: Engine, host: Host, sent: SentRows) -> Accepted:
-    """The plan of rows that a worker sent."""
     columns = Columns(*(column(kind, each, "rows")
                         for kind, each in zip(KINDS, sent.columns, strict=True)))
     if not all(isinstance(each, str) for each in sent.paths) or len(columns) != len(sent.paths):

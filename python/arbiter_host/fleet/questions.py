@@ -135,16 +135,8 @@ def with_pending(options: argparse.Namespace, job: Job, fleet: Fleet,
     return report.with_pending(told, rows, options.rank)
 
 
+# The forms of an answer of many hosts.
 FORMS = ("text", "json", "html")
-
-
-def outputs_of(options: argparse.Namespace) -> list[table.Output]:
-    """The forms and files that are asked for. A fault for a form that many hosts have not."""
-    outputs = table.outputs(options)
-    for form, _ in outputs:
-        if form not in FORMS:
-            raise UsageFault(f"-o {form}: of many hosts there is {', '.join(FORMS)}")
-    return outputs
 
 
 def answered(options: argparse.Namespace) -> bool:
@@ -157,7 +149,7 @@ def answered(options: argparse.Namespace) -> bool:
 
 def answer(options: argparse.Namespace, fleet: Fleet) -> None:
     """Asks each host of a fleet, and reports."""
-    outputs, job = outputs_of(options), job_of(options, fleet)
+    outputs, job = table.outputs(options, FORMS), job_of(options, fleet)
     samples = samples_of(options, fleet) if options.asked == "replay" else None
     answers, missing = asked(options, job, fleet, samples)
     made = report.built(options.asked, answers, missing, options.rank)

@@ -64,12 +64,11 @@ def amount_of(*keys: str) -> Cell:
 
 def table(title: str, hosts: Iterable[HostAnswer], columns: Columns) -> Table:
     """A table with a row for each host, in the order in which they are given."""
-    return Table(title, list(columns), [[cell(host) for cell in columns.values()]
-                                        for host in hosts])
+    return Table(title, ["host", *columns], [
+        [host.name, *(cell(host) for cell in columns.values())] for host in hosts])
 
 
 def cpu(value: Fraction) -> str:
-    """CPUs."""
     return f"{float(value):.2f}"
 
 
@@ -104,7 +103,6 @@ def lack(host: HostAnswer) -> Fraction:
 
 PLANNED = ("groups", "lacking", "starved", "throttled")
 PLAN_COLUMNS: Columns = {
-    "host": lambda host: host.name,
     "cpus": count_of("cpus"), "served": amount_of("served"), "wanted": amount_of("wanted"),
     "lack": lambda host: cpu(lack(host)),
     "use": lambda host: part(host.of("served"), host.of("capacity")),
@@ -134,7 +132,6 @@ def lost(host: HostAnswer) -> Fraction:
 
 
 CHANGE_COLUMNS: Columns = {
-    "host": lambda host: host.name,
     "matched": count_of("matched"),
     "served": amount_of("before", "served"), "then": amount_of("after", "served"),
     "changed groups": lambda host: signed(host.of("changed_groups")),
@@ -190,8 +187,7 @@ def place_columns(place: int) -> Columns:
     def amount(key: str) -> Callable[[HostAnswer], str]:
         return lambda host: cpu(host.cpus(host.answer["pods"][place][key]))
 
-    return {"host": lambda host: host.name, "gets": amount("gets"), "wants": amount("wants"),
-            "others lose": amount("lost"),
+    return {"gets": amount("gets"), "wants": amount("wants"), "others lose": amount("lost"),
             "losing": lambda host: str(host.answer["pods"][place]["losing"]),
             "left": amount("left"),
             "lose most": lambda host: group_words(host.answer["pods"][place]["losers"], host)}
@@ -227,7 +223,6 @@ def count(host: HostAnswer, key: str) -> int:
 
 
 SERIES_COLUMNS: Columns = {
-    "host": lambda host: host.name,
     "samples": count_of("samples"),
     "wanted": lambda host: cpu(mean(host, "wanted")),
     "got": lambda host: cpu(mean(host, "got")),

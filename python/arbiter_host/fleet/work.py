@@ -177,10 +177,8 @@ def replayed(job: Job, model: Model, engine: Engine, history: History) -> Asked:
 ACTIONS = {"explain": explained, "diff": compared, "place": placed}
 
 
-@functools.cache
-def engine_here(path: str | None) -> Engine:
-    """The engine over the library of a path, once for each process."""
-    return engine_of(path)
+# The engine over the library of a path, once for each process.
+engine_here = functools.cache(engine_of)
 
 
 def planned(job: Job, host: HostFile) -> Sent:

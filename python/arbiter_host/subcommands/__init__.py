@@ -62,5 +62,4 @@ def find(name: str) -> Subcommand:
 
 
 def every() -> tuple[Subcommand, ...]:
-    """All subcommands in order."""
     return tuple(map(find, SUMMARIES))

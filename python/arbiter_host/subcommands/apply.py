@@ -18,7 +18,6 @@ from arbiter_host.plan import engine_of
 
 
 def print_steps(root: safe_files.Root, steps: Sequence[apply.Step]) -> None:
-    """Prints steps, one line each."""
     emit("".join(f"{names.shown(step.words(root))}\n" for step in steps) or "# no change\n")
 
 
@@ -44,7 +43,6 @@ def warn(notes: Iterable[str]) -> None:
 
 
 def write_form(to: Output, draft: exports.Draft) -> None:
-    """Writes the change as files for review."""
     documents = exports.documents(to.form, draft)
     warn(draft.told)
     if not documents:

@@ -61,7 +61,6 @@ def of_trees(asked: argparse.Namespace) -> list[Look]:
 
 
 def audited(asked: argparse.Namespace) -> Ranked:
-    """The audit that the options ask for."""
     by, away = engine_of(asked.library), set[int]()
     if asked.used:
         seen, notes, away = of_range(asked)

@@ -121,7 +121,6 @@ class Watch:
 
 
 def shown_view(asked: argparse.Namespace, plan: Plan) -> View:
-    """A plan as it is shown."""
     return view_of(asked, choosing.chosen(plan.model, asked))
 
 

@@ -53,11 +53,9 @@ class Told:
         self.where = f"{MEASURES[answer.asked.is_guaranteed]}, in {text.UNIT_WORDS[unit]}"
 
     def amount(self, slices: int) -> str:
-        """Slices in the unit."""
         return text.amount(self.before, slices, self.unit)
 
     def lines(self) -> Lines:
-        """All lines."""
         answer = self.answer
         lines: Lines = [(text.host_words(self.before), ""), *self.rounded()]
         if answer.best is not None:
