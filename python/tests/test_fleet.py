@@ -280,14 +280,12 @@ def test_demands_that_are_no_file_are_named(ctl, fleet):
     assert "no plain file" in missing["why"] and missing["host"] == f"host-{HOSTS - 1:05}"
 
 
-def test_hosts_of_lists_and_folders(ctl, folder):
+def test_hosts_of_folders(folder):
     """Names are paths without endings; two of one name are refused."""
     for name in ("a/one.toml", "b/one.script", ".hidden/x.toml"):
         (folder / "f" / name).parent.mkdir(parents=True, exist_ok=True)
         (folder / "f" / name).write_text("")
-    (folder / "list").write_text("# hosts\nf/a/one.toml\n\nf/b/one.script\n")
-    for path in (folder / "list", folder / "f"):
-        assert [host.name for host in fleets.of(path).hosts] == ["a/one", "b/one"]
+    assert [host.name for host in fleets.of(folder / "f").hosts] == ["a/one", "b/one"]
     (folder / "f/a/one.script").write_text("")
     with pytest.raises(UsageFault, match="two hosts of the name a/one"):
         fleets.of(folder / "f")
@@ -301,14 +299,11 @@ def test_what_is_one_host(folder):
     (folder / "t/top/web/cpu.stat").write_text("usage_usec 5\n")
     assert fleets.of(folder / "t") is None
     (folder / "plan").write_text("")
-    (folder / "s").write_text("mkdir a\nplan\n")
+    (folder / "s").write_text("plan\n")
     assert fleets.of(folder / "s") is None
     (folder / "n.json").write_text(json.dumps({"items": [
         {"kind": "Node"}, {"kind": "Pod", "metadata": {"ownerReferences": [{"kind": "Node"}]}}]}))
     assert fleets.of(folder / "n.json") is None
-    (folder / "{list").write_text("{a.toml\n[b.toml\n")
-    (folder / "[b.toml").write_text("")
-    assert fleets.of(folder / "{list") is None
 
 
 @pytest.mark.parametrize("words", [
