@@ -111,11 +111,9 @@ def fleet_in(options: argparse.Namespace, files: Sequence[load.Opened],
     if data is None:
         paths = below(path)
         return Fleet(named(paths, path)) if paths else None
-    if options.kind in (None, "kubernetes") and not options.node:
-        items = items_of(path, data)
-        if items:
-            return of_cluster(path, items, used(), options.want)
-    return None
+    is_meant = options.kind in (None, "kubernetes") and not options.node
+    items = items_of(path, data) if is_meant else []
+    return of_cluster(path, items, used(), options.want) if items else None
 
 
 def of_one(files: Sequence[load.Opened]) -> Fleet:
