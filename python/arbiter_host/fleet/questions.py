@@ -124,17 +124,6 @@ def asked(options: argparse.Namespace, job: Job, fleet: Fleet,
     return [found[name] for name in sorted(found)], sorted(missing.items())
 
 
-def with_pending(options: argparse.Namespace, job: Job, fleet: Fleet,
-                 told: report.Report) -> report.Report:
-    """The report of a cluster's plan, with where its pods go that no node has yet."""
-    if options.asked != "explain" or not fleet.pending:
-        return told
-    pods = [(f"{each.title}.json", each.data) for each in fleet.shapes().values()]
-    placing, _ = asked(options, replace(job, action="place", pods=pods), fleet)
-    rows = report.pending(fleet, placing, options.rank)
-    return report.with_pending(told, rows, options.rank)
-
-
 # The forms of an answer of many hosts.
 FORMS = ("text", "json", "html")
 
@@ -152,8 +141,11 @@ def answer(options: argparse.Namespace, fleet: Fleet) -> None:
     outputs, job = table.outputs(options, FORMS), job_of(options, fleet)
     samples = samples_of(options, fleet) if options.asked == "replay" else None
     answers, missing = asked(options, job, fleet, samples)
-    made = report.built(options.asked, answers, missing, options.rank)
-    told = with_pending(options, job, fleet, made)
+    told = report.built(options.asked, answers, missing, options.rank)
+    if options.asked == "explain" and fleet.pending:
+        pods = [(f"{each.title}.json", each.data) for each in fleet.shapes().values()]
+        placing, _ = asked(options, replace(job, action="place", pods=pods), fleet)
+        told = report.with_pending(told, fleet, placing, options.rank)
     write_forms(outputs, {"text": lambda: report.text(told, options.everything),
                           "json": lambda: json_text(told.data), "html": lambda: report.page(told)})
     check_answered(fleet, answers, missing)

@@ -300,15 +300,16 @@ def refusal(place: int, hosts: Sequence[HostAnswer], order: Sequence[HostAnswer]
     return f"{hosts[0].name}: {hosts[0].answer['pods'][place]['why']}{rest}"
 
 
-def with_pending(to: Report, pods: Sequence[dict[str, Any]], rule: str) -> Report:
-    """A report with the pods that no node has yet."""
+def with_pending(to: Report, fleet: Fleet, hosts: Sequence[HostAnswer], rule: str) -> Report:
+    """A report with where the pods go that no node has yet."""
+    pods = pending(fleet, hosts, rule)
     unplaced = sum(each["host"] is None for each in pods)
     rows = [[each["pod"], f"{each['request_millicpu']}m", each["host"] or "unplaced",
              *(f"{each[f'{key}_cpus']:.2f}" if each["host"] else "-" for key in AMOUNTS),
              each.get("why", "-")] for each in pods]
     line = (f"pods that no node has yet: {len(pods)}, unplaced: {unplaced}; by {rule}:"
             f" {RULES[rule]}")
-    return replace(to, lines=[*to.lines, line], data={**to.data, "pending": list(pods)}, tables=[
+    return replace(to, lines=[*to.lines, line], data={**to.data, "pending": pods}, tables=[
         *to.tables, Table("Pods that no node has yet", PENDING, rows)])
 
 
