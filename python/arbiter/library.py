@@ -102,6 +102,12 @@ class Library:
         if number:
             raise self.of_rows(number, columns)
 
+    def ask_host(self, name: str, host: Host, *words: object) -> None:
+        """One call about a host."""
+        number = getattr(self.calls, f"arbiter_{name}")(*self.host(host), *words)
+        if number:
+            raise self.refused(number)
+
     def plan(self, host: Host, rows: Rows) -> list[int]:
         """The amounts of the plan, in slices of one period, one for each row."""
         columns = Columns.of(rows)
@@ -282,12 +288,9 @@ class Library:
         settings = [zeros(U64, groups) for _ in range(4)]
         names, at, faults = zeros(U8, len(text) + 1), zeros(U64, lines), zeros(U32, lines)
         count, length, refused = c.U32(), c.U64(), c.U64()
-        number = self.calls.arbiter_script(
-            *self.host(host), int.from_bytes(os.urandom(8), "big"),
-            *given(array(U8, text), *tree, *settings, names, at, faults),
-            ctypes.byref(count), ctypes.byref(length), ctypes.byref(refused))
-        if number:
-            raise self.refused(number)
+        self.ask_host("script", host, int.from_bytes(os.urandom(8), "big"),
+                      *given(array(U8, text), *tree, *settings, names, at, faults),
+                      ctypes.byref(count), ctypes.byref(length), ctypes.byref(refused))
         told = names[:length.value].tobytes().decode().split("\n")[:-1]
         quotas, periods, bursts, carries = (each[:count.value] for each in settings)
         return Script(Columns(*(each[:count.value] for each in tree)), told, quotas, periods,
@@ -299,11 +302,8 @@ class Library:
         It is in microseconds of its own period.
         """
         slices = c.U64()
-        number = self.calls.arbiter_slices(*self.host(host), in_range(usec, 64, "quota or burst"),
-                                           in_range(own_period_us, 64, "period"),
-                                           ctypes.byref(slices))
-        if number:
-            raise self.refused(number)
+        self.ask_host("slices", host, in_range(usec, 64, "quota or burst"),
+                      in_range(own_period_us, 64, "period"), ctypes.byref(slices))
         return slices.value
 
     def period_limit(self, host: Host, quota: int | None, own_period_us: int = 100000,
@@ -339,10 +339,7 @@ class Library:
     def demand(self, host: Host, thousandths: int) -> int:
         """The slices of one period that thousandths of a CPU take, rounded up."""
         slices = c.U64()
-        number = self.calls.arbiter_demand(*self.host(host), in_range(thousandths, 64, "demand"),
-                                           ctypes.byref(slices))
-        if number:
-            raise self.refused(number)
+        self.ask_host("demand", host, in_range(thousandths, 64, "demand"), ctypes.byref(slices))
         return slices.value
 
     def weight_of_shares(self, shares: int, conversion: str = "linear") -> int:

@@ -54,12 +54,12 @@ class NothingFound(HostFault):
 
 
 @contextmanager
-def naming(place: str) -> Iterator[None]:
+def naming(place: str, kind: type[HostFault] = HostFault) -> Iterator[None]:
     """Faults of what is done here, each with the place where it was found before it."""
     try:
         yield
     except HostFault as fault:
-        raise HostFault(f"{place}: {fault.message}") from fault
+        raise kind(f"{place}: {fault.message}") from fault
 
 
 # Debian's packages of modules that are imported where they are needed.

@@ -14,7 +14,7 @@ from fractions import Fraction
 from typing import NamedTuple
 
 from arbiter import Host, Library, Reading as RoundReading, RoundTimes
-from arbiter_host import cgroup2, hunger, names, options, progress, safe_files, units
+from arbiter_host import cgroup2, hunger, names, progress, safe_files, units
 from arbiter_host.demands import Measured, Place, Reading, rise
 from arbiter_host.faults import HostFault, UsageFault, strerror
 from arbiter_host.model import (MAX_DEPTH, NO_POD, Group, Model, PodNames, checked,
@@ -24,7 +24,7 @@ from arbiter_host.names import shown
 Clock = Callable[[], float]
 Sleep = Callable[[float], None]
 HOST_TREE = "/sys/fs/cgroup"
-MICROSECONDS, MAX_SECONDS = 10**6, 86400
+MICROSECONDS, MAX_SECONDS, MAX_READINGS = 10**6, 86400, 10000
 # Why nothing is known of what a group used between two looks.
 CAME, FELL, STILL = ("groups that came or went", "groups whose counters fell",
                      "groups without a new sample")
@@ -39,16 +39,20 @@ class Times(NamedTuple):
 
 def times_of(text: str) -> Times:
     """The times of `--read`, such as 10x1s. A plain number is seconds."""
-    asked = options.readings(text)
-    parsed = units.number_and_unit(asked.time)
+    count, mark, time_ = text.partition("x")
+    number = units.whole(count, 5) if count else None
+    if not mark or count and not 1 <= (number or 0) <= MAX_READINGS:
+        raise UsageFault(f"--read {shown(text)}: NxTIME, such as 10x1s, with N from 1 to"
+                         f" {MAX_READINGS}")
+    parsed = units.number_and_unit(time_)
     try:
         seconds = (parsed[0] if parsed and not parsed[1]
-                   else Fraction(units.parse_time(asked.time), MICROSECONDS))
+                   else Fraction(units.parse_time(time_), MICROSECONDS))
     except HostFault as fault:
         raise UsageFault(f"--read: {shown(fault.message)}") from fault
     if not 0 < seconds <= MAX_SECONDS:
         raise UsageFault(f"--read: a time above 0 and at most {MAX_SECONDS} seconds")
-    return Times(seconds, asked.number)
+    return Times(seconds, number)
 
 
 def turns(times: Times, clock: Clock = time.monotonic, sleep: Sleep = time.sleep,

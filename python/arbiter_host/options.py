@@ -9,14 +9,14 @@ an option that was given and has no effect on such a source is refused with stat
 The dests, where they differ from the long flag: `kind` (--from), `used` (a list), `node_weights`,
 `group` (a list), `namespace` (a list), `selector` (a list), `output` (a list of FORM[=FILE], see
 `outputs`), `everything` (--all), `set` (a list), `goal` (a list), `pod` (a list), `map` and `scale`
-(lists). `read` is text, see `readings`. Amounts, times and percentages are text too.
+(lists). Amounts, times, readings and percentages are text.
 """
 from __future__ import annotations
 
 import argparse
 import os
 import re
-from collections.abc import Mapping
+from collections.abc import Collection, Mapping
 from typing import Any, NamedTuple
 
 from arbiter_host.faults import UsageFault
@@ -34,7 +34,7 @@ UNITS = ("cpu", "m", "%", "slices", "us")
 NODE_WEIGHTS = ("linear", "log", "runtime-log")
 RANKS = ("least-loss", "most-left")
 WAYS = ("systemd", "persistent", "files")
-MAX_DEPTH, MAX_READINGS = 64, 10000
+MAX_DEPTH = 64
 # The word of a running service.
 SERVICE = re.compile("(k8s|docker|podman|systemd)://")
 
@@ -49,7 +49,7 @@ FORMS: dict[str, tuple[str, ...]] = {
     "place": ("text", "json", "html"),
     "export": ("script", "toml", "json"),
     "audit": ("text", "json", "html"),
-    "apply": ("text", "kubectl", "dropin", "compose", "shell", "slurm"),
+    "apply": ("text", "kubectl", "dropin", "compose", "slurm"),
     "hold": ("json", "openmetrics"),
 }
 # Forms that list groups.
@@ -278,13 +278,6 @@ class Output(NamedTuple):
     path: str
 
 
-class Readings(NamedTuple):
-    """How often a tree is read, None for ever, and the time from one reading to the next."""
-
-    number: int | None
-    time: str
-
-
 def of(subcommand: str) -> list[Option]:
     """The options of a subcommand, in the order of the table."""
     return [each for each in TABLE if subcommand in each.subcommands]
@@ -342,10 +335,10 @@ def check(options: argparse.Namespace, kind: str) -> None:
         raise UsageFault(f"{each.name}: it has no effect on {source}")
 
 
-def outputs(options: argparse.Namespace) -> list[Output]:
+def outputs(options: argparse.Namespace, among: Collection[str] = ()) -> list[Output]:
     """The forms and files that are asked for, at most one on standard output. A fault where an
-    option was given that shows in none of them."""
-    forms = FORMS[options.asked]
+    option was given that shows in none of them. `among` leaves some forms alone."""
+    forms = [each for each in FORMS[options.asked] if not among or each in among]
     named = []
     for word in options.output or [forms[0]]:
         form, mark, path = word.partition("=")
@@ -360,12 +353,3 @@ def outputs(options: argparse.Namespace) -> list[Output]:
         if option.dest in options.given and option.forms and not {*asked} & {*option.forms}:
             raise UsageFault(f"{option.name}: it has no effect on -o {' and '.join(asked)}")
     return named
-
-
-def readings(text: str) -> Readings:
-    """The number of readings and their time, from `10x1s` or `x1s`."""
-    match = re.fullmatch(r"([0-9]{1,5})?x(.+)", text)
-    if not match or match.group(1) and not 1 <= int(match.group(1)) <= MAX_READINGS:
-        raise UsageFault(f"--read {shown(text)}: NxTIME, such as 10x1s, with N from 1 to"
-                         f" {MAX_READINGS}")
-    return Readings(int(match.group(1)) if match.group(1) else None, match.group(2))

@@ -270,7 +270,7 @@ _arbiterctl() {
             ;;
         apply)
             case $given in
-                -o|--output) mapfile -t COMPREPLY < <(compgen -W "text kubectl dropin compose shell slurm" -- "$word") ;;
+                -o|--output) mapfile -t COMPREPLY < <(compgen -W "text kubectl dropin compose slurm" -- "$word") ;;
                 --set) ;;
                 --root) ;;
                 --by) mapfile -t COMPREPLY < <(compgen -W "systemd persistent files" -- "$word") ;;

@@ -244,7 +244,7 @@ complete -c arbiterctl -n '__fish_seen_subcommand_from place' -l slice -x -d 'sl
 complete -c arbiterctl -n '__fish_seen_subcommand_from place' -l library -r -F -d 'the C library (default: the first that is found)'
 complete -c arbiterctl -n '__fish_seen_subcommand_from place' -s h -l help -d 'print help'
 
-complete -c arbiterctl -n '__fish_seen_subcommand_from apply' -s o -l output -x -a 'text kubectl dropin compose shell slurm' -d 'write the change in a form to be reviewed and merged, to a file or a folder: text, kubectl, dropin, compose, shell, slurm; nothing of the host is changed'
+complete -c arbiterctl -n '__fish_seen_subcommand_from apply' -s o -l output -x -a 'text kubectl dropin compose slurm' -d 'write the change in a form to be reviewed and merged, to a file or a folder: text, kubectl, dropin, compose, slurm; nothing of the host is changed'
 complete -c arbiterctl -n '__fish_seen_subcommand_from apply' -s v -l verbose -d 'say on standard error how long it took'
 complete -c arbiterctl -n '__fish_seen_subcommand_from apply' -l set -x -d 'a change, such as web.weight=200, web.max=2cpu, \'*/batch.demand=1\'; `.cpus=8` is the host\'s; may be said again'
 complete -c arbiterctl -n '__fish_seen_subcommand_from apply' -l yes -d 'do it (default: print what would be done)'

@@ -92,6 +92,8 @@ class Pod:
     labels: tuple[tuple[str, str], ...] = ()
     # What makes it of a template: kind, namespace and name; empty for nothing.
     owner: str = ""
+    # Whether a file on its node says it, and the API server has a copy alone.
+    is_static: bool = False
 
     @property
     def title(self) -> str:
@@ -363,7 +365,8 @@ def pod_of(pod: dict[str, Any], notes: list[str]) -> Pod:
         tolerations=tuple(Toleration(
             text(each, "key"), None if text(each, "operator") == "Exists" else text(each, "value"),
             text(each, "effect")) for each in tables(spec, "tolerations")),
-        labels=pairs_of(table(metadata, "labels")), owner=owner_words(owner_of(pod)))
+        labels=pairs_of(table(metadata, "labels")), owner=owner_words(owner_of(pod)),
+        is_static=bool(text(metadata, "annotations", MIRROR)))
 
 
 def node_facts(node: dict[str, Any] | None) -> NodeFacts:

@@ -21,7 +21,6 @@ from arbiter_host.faults import HostFault, UsageFault
 from arbiter_host.model import MAX_CAPACITY, MAX_DEPTH
 from arbiter_host.plan import engine_of
 from arbiter_host.sources import by_options
-from arbiter_host.subcommands.base import Subcommand
 
 if TYPE_CHECKING:
     from arbiter_host.metrics import File
@@ -212,6 +211,3 @@ def run(asked: argparse.Namespace) -> None:
         loop = hold.Loop(engine, root, asked.source, host, kept, ways, service.clock)
         hold.run(loop, times, service.wait, functools.partial(service.show, host),
                  lambda: service.notifier.send("READY=1"))
-
-
-HOLD = Subcommand.of_texts("hold", run)

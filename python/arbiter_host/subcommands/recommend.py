@@ -12,13 +12,13 @@ from arbiter_host.fleet.hosts import Fleet
 from arbiter_host.model import Model
 from arbiter_host.names import cut, few, short, shown
 from arbiter_host.output import Styled
-from arbiter_host.plan import Engine
+from arbiter_host.plan import Engine, engine_of
 from arbiter_host.recommend import Advised, Recommendation, SeenHost
 from arbiter_host.sources import by_options, kubernetes, used
 from arbiter_host.sources.data import loads
 from arbiter_host.sources.measurable import Measurable, measured
 from arbiter_host.sources.register import READERS
-from arbiter_host.subcommands.base import Subcommand, found_engine, source_name
+from arbiter_host.subcommands.base import source_name
 
 
 def cluster_of(options: argparse.Namespace, files: Sequence[load.Opened]) -> Fleet | None:
@@ -91,7 +91,7 @@ def chosen_of(options: argparse.Namespace, models: Sequence[tuple[str, Model]]
 
 def run(options: argparse.Namespace) -> None:
     rule = recommend.rule_of(options.target, options.headroom)
-    by, outputs = found_engine(options), table.outputs(options)
+    by, outputs = engine_of(options.library), table.outputs(options)
     models, wish = models_of(options, by), by_options.of_host(options)
     uses = [uses_of(options, model) for _, model in models]
     for name, model in models:
@@ -159,6 +159,3 @@ def lines_of(advice: Recommendation) -> Styled:
     return [*heading(advice, short_),
             *zip(text.table(rows, (len(rows[0]) - 1,)),
                  ["bold", *("red" if each.is_short else "" for each in advice.rows)]), *notes]
-
-
-RECOMMEND = Subcommand.of_texts("recommend", run)

@@ -7,11 +7,11 @@ from arbiter_host import choosing, load, options as table, output, progress, ser
 from arbiter_host.faults import HostFault, UsageFault
 from arbiter_host.fleet import questions
 from arbiter_host.model import Model
-from arbiter_host.plan import Engine
+from arbiter_host.plan import Engine, engine_of
 from arbiter_host.series import Series
 from arbiter_host.sources import by_options, used
 from arbiter_host.sources.usage import some
-from arbiter_host.subcommands.base import Subcommand, found_engine, source_name
+from arbiter_host.subcommands.base import source_name
 
 
 def sample_of(options: argparse.Namespace) -> int:
@@ -58,11 +58,8 @@ def run(options: argparse.Namespace) -> None:
         return
     if any(form == "html" for form, _ in outputs):
         raise UsageFault("-o html: of one host there is text, json, csv and svg")
-    series_ = replayed(options, found_engine(options))
+    series_ = replayed(options, engine_of(options.library))
     output.write_forms(outputs, {"text": lambda: series.as_text(series_, options.unit),
                                  "csv": lambda: series.as_csv(series_, options.unit),
                                  "json": lambda: series.as_json(series_, options.unit),
                                  "svg": lambda: series.picture(series_)})
-
-
-REPLAY = Subcommand.of_texts("replay", run)

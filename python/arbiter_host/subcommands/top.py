@@ -18,9 +18,9 @@ from arbiter_host.explain import View
 from arbiter_host.faults import Alerted, HostFault, UsageFault, strerror
 from arbiter_host.model import PodNames
 from arbiter_host.names import shown
-from arbiter_host.plan import Plan, plan
+from arbiter_host.plan import Plan, engine_of, plan
 from arbiter_host.sources import by_options, kubernetes
-from arbiter_host.subcommands.base import Subcommand, found_engine, view_of
+from arbiter_host.subcommands.base import view_of
 
 if TYPE_CHECKING:
     from arbiter_host.metrics import Figured, File
@@ -35,7 +35,7 @@ MEASURED = ("throttled", "off")
 def reader(asked: argparse.Namespace, wanted: Sequence[top.Condition],
            warn: Callable[[str], None]) -> tuple[Callable[[], top.PlannedRound], int]:
     """Reader of a round, and the readings that it takes before the first one."""
-    by, paths = found_engine(asked), asked.source or [looks.HOST_TREE]
+    by, paths = engine_of(asked.library), asked.source or [looks.HOST_TREE]
     if len(paths) == 1 and os.path.isdir(paths[0]) and asked.kind in (None, "cgroup"):
         options.check(asked, "cgroup")
         want = asked.want or "psi"
@@ -130,7 +130,6 @@ class Watch:
 
 
 def shown_view(asked: argparse.Namespace, plan: Plan) -> View:
-    """A plan as it is shown."""
     return view_of(asked, choosing.chosen(plan.model, asked))
 
 
@@ -174,6 +173,3 @@ def run(asked: argparse.Namespace) -> None:
             watch.take(each)
     if watch.is_raised:
         raise Alerted(watch.state.held)
-
-
-TOP = Subcommand.of_texts("top", run)
