@@ -32,7 +32,7 @@ pub struct CounterColumns<'a> {
     pub burst_usec: &'a [u64],
 }
 
-/// The columns that a period leaves, one entry in each column for each row.
+/// Carries and counters after a period, one entry in each column for each row.
 #[derive(Drop)]
 pub struct BookedColumns {
     /// Slices of each limit that were not drawn, 0 without a limit.
@@ -130,7 +130,7 @@ fn stats_after(
     Ok(stats)
 }
 
-// The slices that each row leaves of its limit.
+// Carry of each row: the slices of its limit that were not drawn.
 fn carries_after(alloc: Global, instance: &Instance, drawn: &[u64]) -> Result<Vec<u64>, AllocError>
     requires { length drawn.now ≡ length instance.now.rows }
     ensures { IfOk result (λ carries. carries.items
