@@ -12,7 +12,7 @@ library_names=share/arbiter.map
 # Debian's packages that independent/build needs.
 # shellcheck disable=SC2034
 coq_packages='coq ocaml-findlib libzarith-ocaml-dev'
-# The kits that pass these sources, as README.md has them.
+# The kits that pass these sources, and their logic, as README.md has them.
 kits='rattle-kit-13f or rattle-kit-13b (logic dac8208d650f15bf)'
 
 # Sets `version` to the version of the program, the library and the packages.
@@ -39,10 +39,16 @@ of_library() {
 
 of_program
 
+# Ends a command without a kit of the logic with which these sources were proved.
 need_kit() { # NAME OF THE COMMAND
-  command -v rt >/dev/null 2>&1 && return
+  local why='the command rt of the Rattle kit is not on the PATH' logic=${kits##*\(}
+  if command -v rt >/dev/null 2>&1; then
+    find_kit
+    [[ $kit == *" ${logic%)}" ]] && return
+    why="the Rattle kit on the PATH is of another logic: $kit"
+  fi
   cat >&2 <<END
-$1: the command rt of the Rattle kit is not on the PATH.
+$1: $why.
 $1: these sources need $kits: README.md, 'Build and run'.
 $1: an installed program or a .deb needs no kit.
 END

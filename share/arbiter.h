@@ -20,7 +20,7 @@
  * Answers of all calls but arbiter_name, arbiter_version and arbiter_weight_of_shares: 0, or
  *   1 to 3    the host is refused (BadProcessors, BadPeriod, BadSlice)
  *   4 to 10   the rows are (TooMany, BadParent, BadWeight, TooDeep, InnerDemand, DemandTooLarge, RootLimited)
- *   13 to 15  the quota or burst is, or its own period (QuotaTooSmall, QuotaTooLarge, PeriodOutOfRange)
+ *   13 to 15  the quota, burst or limit is, or its own period or the round (QuotaTooSmall, QuotaTooLarge, PeriodOutOfRange)
  *   20        the group is no row (NotFound)
  *   26        a goal is of row 0 (RootFixed)
  *   29        a goal's group is another goal's group, or above it (GoalAbove)
@@ -30,7 +30,8 @@
  *   71        memory was refused (OutOfMemory)
  * The first that applies is answered, in this order:
  *   1. 50, where the columns of the rows differ in length, or a column of an answer or `hungry` from them, or nums, dens and
- *      places of arbiter_check from each other, or goal_groups, goal_amounts and together of arbiter_tune
+ *      places of arbiter_check from each other, or goal_groups, goal_amounts and together of arbiter_tune, or ran and waited of
+ *      arbiter_reading
  *   2. 1 to 3
  *   3. 4 to 10, of a text 40 to 43 too
  *   4. of a check 50, where amounts, flags or levels are not one for each row, and then 51 to 58; of a question about a group
@@ -42,8 +43,8 @@
  * arbiter_name gives the name of each, and of those that arbiter_script writes for lines. docs/USING.md says what to do about
  * each. Where a call does not answer 0, all that it may write is as it was, but for `row` in step 4 and in arbiter_refused_row.
  *
- * arbiter_slices, arbiter_period_limit, arbiter_demand, arbiter_weight_of_shares, arbiter_refused_row, arbiter_name and
- * arbiter_version ask for no memory: their answers are exact.
+ * arbiter_reading, arbiter_written, arbiter_slices, arbiter_period_limit, arbiter_demand, arbiter_weight_of_shares,
+ * arbiter_refused_row, arbiter_name and arbiter_version ask for no memory: their answers are exact.
  */
 #ifndef ARBITER_H
 #define ARBITER_H
@@ -98,6 +99,8 @@ uint32_t arbiter_check_text(const uint8_t *text, size_t text_length, uint32_t *r
 
 /* Reads a script, as `arbiter run` does on this host, and writes the groups after its last line and the refused lines. Lines that
  * only ask for an answer change nothing. Each `period` serves the plan where every leaf uses its slices, without a thread.
+ * `hash_key` is a number that whoever writes the script cannot know, as of getrandom: one who knows it can choose names that take
+ * long. No answer depends on it.
  *
  * Groups stand in order of creation, the root first, one entry in each of the eight columns that begin with `parents`. The first
  * four, cut to `count` entries, are what arbiter_plan takes: a limit is that of the next period. A quota and a burst are in
@@ -111,7 +114,8 @@ uint32_t arbiter_check_text(const uint8_t *text, size_t text_length, uint32_t *r
  * Answers 50 where the eight columns differ in length, or the two of refused lines do; then 1 to 3; then 71, or 50 where a column
  * is too short. For a text with n newlines n + 2 groups, and never more than 16384, text_length + 1 bytes of names, and n + 1
  * refused lines have room. What stands behind the written entries is as it was. */
-uint32_t arbiter_script(uint64_t processors, uint64_t period_us, uint64_t slice_us, const uint8_t *text, size_t text_length,
+uint32_t arbiter_script(uint64_t processors, uint64_t period_us, uint64_t slice_us, uint64_t hash_key,
+                        const uint8_t *text, size_t text_length,
                         uint32_t *parents, size_t parents_length, uint64_t *weights, size_t weights_length,
                         uint64_t *limits, size_t limits_length, uint64_t *demands, size_t demands_length,
                         uint64_t *quotas, size_t quotas_length, uint64_t *periods, size_t periods_length,
@@ -215,6 +219,37 @@ uint32_t arbiter_hold(uint64_t processors, uint64_t period_us, uint64_t slice_us
                       uint64_t *demands, size_t demands_length, uint64_t *amounts, size_t amounts_length,
                       uint8_t *flags, size_t flags_length, uint64_t *nums, size_t nums_length,
                       uint64_t *dens, size_t dens_length, uint32_t *places, size_t places_length);
+
+/* What a group used in a round, and what it asks for in the next one. A round is the time between two readings. In one of
+ * `passed_ns` nanoseconds the group used `used_us` microseconds, and some task of it waited for a processor for `waited_us`. It
+ * has `tasks` at the end. `throttled` is not 0 where it was throttled at a limit of its own. `ran` and `waited` have, for each
+ * task that was there at both readings, the nanoseconds that it ran and waited.
+ * Writes to `used` the slices of one period of the host that it used, rounded up, and to `hungry` 1 where it would have used more,
+ * else 0. `asked` is what it asks for: the same where it is not hungry, else the most that its tasks could have used, or 1000000
+ * for everything. It is never less than `used`. Of arbiter_hold, `asked` stands in `used`, and `hungry` is 1 where it is 1000000.
+ * A group is hungry where it was throttled. Else not where tasks waited for less than a hundredth of the round. Else where a task
+ * is starved: it waited for a hundredth of the round or more, and slept for no longer than that and than a twentieth of the round.
+ * Where `ran` adds up to less than half of what was used, or nothing was used, it is hungry where tasks waited for half of the
+ * round.
+ * The tasks of a throttled group could have used the whole round each. Of another, so could one that is starved or new; each other
+ * used all that it wanted. A hungry group asks for everything where that is the whole host, or `ran` adds up to less than 19
+ * twentieths of what was used.
+ * Answers 50 where `ran` and `waited` differ in length or are longer than `tasks`, then 1 to 3, then 15 where no time passed. */
+uint32_t arbiter_reading(uint64_t processors, uint64_t period_us, uint64_t slice_us,
+                         uint64_t passed_ns, uint64_t used_us, uint64_t waited_us, uint32_t tasks, uint32_t throttled,
+                         const uint64_t *ran, size_t ran_length, const uint64_t *waited, size_t waited_length,
+                         uint64_t *used, uint64_t *asked, uint32_t *hungry);
+
+/* What is written for a leaf's limit of a round. `limit` is that of arbiter_hold, and `own` its own limit, both in slices.
+ * `stands_us` is the quota that stands in it, in microseconds of the host's period; 0 where another one stands. It has `tasks`.
+ * Writes to `quota` ARBITER_NO_LIMIT where its own limit is to be written, since that allows no more. Else it is in microseconds
+ * of the host's period, from the limit to a sixty-fourth above it and not above the own limit. What stands there stays, since the
+ * kernel gives a new quota at each writing; else it is a 128th above the limit. A limit below 1000 microseconds counts as that.
+ * Writes to `weight` a cpu.weight, 1 to 10000, that tells Linux how near each task is to a whole processor: the nearest to 100 d /
+ * (1.01 - d), where d is the part that the limit is of a whole processor for each task.
+ * Answers 1 to 3, then 14 where a sixty-fourth above the limit is more than 10^15 microseconds. */
+uint32_t arbiter_written(uint64_t processors, uint64_t period_us, uint64_t slice_us,
+                         uint64_t limit, uint64_t own, uint64_t stands_us, uint32_t tasks, uint64_t *quota, uint64_t *weight);
 
 /* The number with which each call refuses these rows: 0, 4 to 10, or 50. For 4 to 10 `row` is written: the first row that is too
  * many, or has a bad parent, weight, depth, demand or limit; for 8 the parent of the first row whose parent has a demand. For 0

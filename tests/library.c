@@ -41,6 +41,9 @@ int main(void)
     const uint64_t goal_amounts[2] = {14, 6}, too_much[2] = {14, 7};
     uint8_t together[2] = {7, 7};
     uint64_t unmet = 9;
+    const uint64_t half[1] = {500000000};
+    uint64_t used_now = 9, asked_now = 9;
+    uint32_t is_hungry = 9;
     const uint64_t used[3] = {0, 4, 10};
     const uint8_t hungry[3] = {0, 0, 1};
     uint64_t caps[3] = {0, 0, 0}, asks[3];
@@ -145,10 +148,10 @@ int main(void)
         return 40;
     if (arbiter_check(1, 100000, 5000, parents, 3, weights, 3, limits, 3, asks, 3, amounts, 3, flags, 3, nums, 3, dens, 3, places, 3, &row) != 0)
         return 41;
-    if (arbiter_script(1, 100000, 5000, (const uint8_t *)script, sizeof script - 1, up, 3, heavy, 3, capped, 3, asked, 3, quotas, 3, periods, 3,
+    if (arbiter_script(1, 100000, 5000, 7, (const uint8_t *)script, sizeof script - 1, up, 3, heavy, 3, capped, 3, asked, 3, quotas, 3, periods, 3,
                        bursts, 3, carries, 2, (uint8_t *)path, 7, line, 1, fault, 1, &count, &names_count, &refused_count) != 50 || count != 1)
         return 42;
-    if (arbiter_script(1, 100000, 5000, (const uint8_t *)script, sizeof script - 1, up, 3, heavy, 3, capped, 3, asked, 3, quotas, 3, periods, 3,
+    if (arbiter_script(1, 100000, 5000, 7, (const uint8_t *)script, sizeof script - 1, up, 3, heavy, 3, capped, 3, asked, 3, quotas, 3, periods, 3,
                        bursts, 3, carries, 3, (uint8_t *)path, 7, line, 1, fault, 1, &count, &names_count, &refused_count) != 0)
         return 43;
     path[7] = 0;
@@ -175,6 +178,19 @@ int main(void)
         return 53;
     if (heavy[0] != 100 || heavy[1] != 100 || heavy[2] != 100 || together[0] != 1 || together[1] != 1 || unmet != 1)
         return 54;
+    /* A starved task used half of the processor and could have used it whole. Its group may use three quarters of it. */
+    if (arbiter_reading(1, 100000, 5000, 1000000000, 500000, 500000, 1, 0, half, 1, half, 0, &used_now, &asked_now, &is_hungry) != 50
+            || arbiter_reading(1, 100000, 5000, 0, 500000, 500000, 1, 0, half, 1, half, 1, &used_now, &asked_now, &is_hungry) != 15 || used_now != 9)
+        return 56;
+    if (arbiter_reading(2, 100000, 5000, 1000000000, 500000, 500000, 1, 0, half, 1, half, 1, &used_now, &asked_now, &is_hungry) != 0
+            || used_now != 10 || asked_now != 20 || is_hungry != 1)
+        return 57;
+    if (arbiter_written(1, 100000, 5000, ARBITER_NO_LIMIT, 0, 0, 1, &used_now, &asked_now) != 14 || used_now != 10)
+        return 58;
+    if (arbiter_written(1, 100000, 5000, 15, 20, 0, 1, &used_now, &asked_now) != 0 || used_now != 75585 || asked_now != 288)
+        return 59;
+    if (arbiter_written(1, 100000, 5000, 15, 15, 0, 1, &used_now, &asked_now) != 0 || used_now != ARBITER_NO_LIMIT)
+        return 60;
     if (arbiter_name(29, name, sizeof name) != 9 || !is_same(name, "GoalAbove"))
         return 55;
     /* A quota of 10 slices and a burst of 5: with 6 left of the last period the next has 15. */

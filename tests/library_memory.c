@@ -111,7 +111,7 @@ static uint32_t call(int which)
     case 8: return arbiter_least_processors(ROWS, 4, 15, &rest);
     case 9: return arbiter_figures(ROWS, wants, 5, mosts, 5, tights, 5, actives, 5, active_weights, 5, withheld, 5);
     case 10: return arbiter_hold(ROWS, hungry, 5, caps, 5, asks, 5, amounts, 5, flags, 5, nums, 5, dens, 5, places, 5);
-    case 11: return arbiter_script(1, 100000, 5000, (const uint8_t *)script, sizeof script - 1, above, 5, columns[0], 5,
+    case 11: return arbiter_script(1, 100000, 5000, 7, (const uint8_t *)script, sizeof script - 1, above, 5, columns[0], 5,
                                   columns[1], 5, columns[2], 5, columns[3], 5, columns[4], 5, columns[5], 5, columns[6], 5,
                                   names, sizeof names, lines, 5, faults, 5, &count, &names_count, &refused_count);
     case 12: return arbiter_tune(1, 100000, 5000, parents, 5, greatest, 5, limits, 5, demands, 5, goal_groups, 2,
@@ -169,5 +169,12 @@ int main(void)
         return 52;
     if (arbiter_version(words, sizeof words) != 5 || arbiter_name(71, words, sizeof words) != 11)
         return 53;
+    const uint64_t ran[1] = {500000000};
+    uint64_t two[2];
+    uint32_t is_hungry;
+    if (arbiter_reading(1, 100000, 5000, 1000000000, 500000, 500000, 1, 0, ran, 1, ran, 1, two, two + 1, &is_hungry) != 0 || is_hungry != 1)
+        return 55;
+    if (arbiter_written(1, 100000, 5000, 10, ARBITER_NO_LIMIT, 0, 1, two, two + 1) != 0)
+        return 56;
     return turn == 0 ? 0 : 54;
 }

@@ -57,6 +57,19 @@ def ended(*words, seconds=120):
     return run.stdout + run.stderr
 
 
+def test_each_call_is_attacked():
+    """At its extremes, and those that ask for memory by a fuzzer and by sixteen threads too."""
+    header = (ROOT / "share/arbiter.h").read_text(encoding="ascii")
+    calls = set(re.findall(r"^uint(?:32|64)_t (arbiter_\w+)\(", header, re.M))
+    some = re.search(r"\n \* (arbiter_[\w, \n*]+?) ask for no\b", header).group(1)
+    plain = set(re.findall(r"arbiter_\w+", some))
+    assert len(calls) > 19 and plain < calls
+    for names, wanted in ((["extremes"], calls), (["threads"], calls - plain),
+                          (["fuzz_text", "fuzz_columns"], calls - plain)):
+        text = "".join((ATTACK / f"{name}.c").read_text(encoding="ascii") for name in names)
+        assert [each for each in sorted(wanted) if f"{each}(" not in text] == [], names
+
+
 def test_guard_pages_end_a_program(built, tmp_path):
     """One byte before or behind a block, and of a block of none, ends the process."""
     (tmp_path / "touch.c").write_text(

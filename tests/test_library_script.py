@@ -20,6 +20,7 @@ HOST_OF_ONE = (1, 100000, 5000)
 MARK = 7
 COLUMNS = [U32] + [U64] * 7
 SEED = 20261126
+HASH_KEY = 2**63 + SEED
 SCRIPTS = 40
 MOST_GROUPS = 16384
 
@@ -75,7 +76,7 @@ def number_of(calls, host, text, room, lengths=None):
     """The answer of the call. `lengths` stand in place of those of the columns."""
     columns = [*room.columns, room.names, *room.refused]
     lengths = lengths or [len(column) for column in columns]
-    words = [U64(number) for number in host] + [text, ctypes.c_size_t(len(text))]
+    words = [U64(number) for number in (*host, HASH_KEY)] + [text, ctypes.c_size_t(len(text))]
     for column, length in zip(columns, lengths):
         words += [column, ctypes.c_size_t(length)]
     return calls.arbiter_script(*words, *[ctypes.byref(count) for count in room.counts])

@@ -3,9 +3,11 @@
 Steps are of a model of the table; instructions are of the program, by valgrind. Neither depends on
 what else the machine does.
 """
+import ctypes
 import itertools
 import random
 import shutil
+import time
 from concurrent.futures import ThreadPoolExecutor
 
 import meeting_names
@@ -17,6 +19,8 @@ from shapes import host, text_of
 from support import same
 
 OTHER_BYTES = [1, 77, 200]
+# Numbers of callers of the library.
+OTHER_KEYS = [1, 2**32 + 5, 2**64 - 1]
 # Names may cost so many times ordinary ones, if no key is known.
 MOST = 3
 # Names that meet under the known key cost at least so many times ordinary ones there: in steps of
@@ -118,4 +122,41 @@ def test_known_key(instructions):
 def test_other_keys(instructions, byte):
     """Under another key it takes what it takes for ordinary names."""
     met, usual = (instructions[kind, byte] for kind in ("met", "usual"))
+    assert met < MOST * usual, (met, usual)
+
+
+@pytest.fixture(scope="module")
+def seconds(library, names, ordinary):
+    """The least time of five in which the library reads a script of siblings, by names and key."""
+    call = ctypes.CDLL(str(library)).arbiter_script
+
+    def once(words):
+        before = time.thread_time()
+        same(call(*words), 0)
+        return time.thread_time() - before
+
+    def least(some, key):
+        text = "".join(f"mkdir {name}\n" for name in some).encode()
+        sizes = [(ctypes.c_uint32, len(some) + 1)] + [(ctypes.c_uint64, len(some) + 1)] * 7 + [
+            (ctypes.c_uint8, len(text) + 1), (ctypes.c_uint64, 1), (ctypes.c_uint32, 1)]
+        words = [ctypes.c_uint64(number) for number in (1, 100000, 5000, key)]
+        words += [text, ctypes.c_size_t(len(text))]
+        for kind, size in sizes:
+            words += [(kind * size)(), ctypes.c_size_t(size)]
+        words += [ctypes.byref(kind()) for kind in (ctypes.c_uint32, *[ctypes.c_uint64] * 2)]
+        return min(once(words) for _ in range(5))
+
+    return lambda kind, key: least(names if kind == "met" else ordinary, key)
+
+
+def test_a_known_key_of_the_library(seconds):
+    """Under the number that these names were chosen for, the library takes many times as long."""
+    met, usual = seconds("met", KNOWN_BYTE), seconds("usual", KNOWN_BYTE)
+    assert met > MET_INSTRUCTIONS * usual, (met, usual)
+
+
+@pytest.mark.parametrize("key", OTHER_KEYS)
+def test_other_keys_of_the_library(seconds, key):
+    """Under the number of a caller who chose another one, they take what ordinary names do."""
+    met, usual = seconds("met", key), seconds("usual", key)
     assert met < MOST * usual, (met, usual)

@@ -313,8 +313,9 @@ ITERATOR = (r"\.(?:into_)?iter\w*\(|\biter::|\bIterator\b|\brepeat\w*\(|\.by_ref
 
 def sources_of(crate: str) -> dict:
     """The code of each file of a crate, without comments."""
-    files = sorted((ROOT / "crates" / crate / "src").glob("*.rt"))
-    return {file.name: re.sub(r"//.*", "", file.read_text(encoding="utf-8")) for file in files}
+    top = ROOT / "crates" / crate / "src"
+    return {str(file.relative_to(top)): re.sub(r"//.*", "", file.read_text(encoding="utf-8"))
+            for file in sorted(top.rglob("*.rt"))}
 
 
 def functions_in(text: str) -> list:
@@ -419,6 +420,38 @@ def test_another_call_of_the_planner_is_found(call):
     sources = sources_of("bw_plan")
     for name in ("by_rows.rt", "by_depth.rt", "children.rt"):
         assert misplaced(CALLS_OF_THE_PLANNER, {**sources, name: sources[name] + call})
+
+
+# Where the checker goes over the rows, each turn a visit, and where questions make plans.
+CALLS_OF_COUNTS = {
+    "bw_check": {
+        r"\bfor \w+ in \(?0\.\.\w+.*{\n +\*visits = visits\.one_more\(\);":
+            {"tables.rt": 3, "one_pass.rt": 1, "conditions.rt": 1},
+        r"\bfor\b(?=.* in )|\bwhile\b|\bloop\b|\.iter|Count::none\(":
+            {"tables.rt": 3, "one_pass.rt": 1, "conditions.rt": 1, "checking.rt": 1},
+    },
+    "bw_questions": {
+        r"\*plans = plans\.one_more\(\);": {"least.rt": 1, "tuned/excess.rt": 1},
+        r"\bplan(?:_\w+)?\((?:rt, )?alloc":
+            {"guaranteed.rt": 1, "held.rt": 2, "least.rt": 1, "tuned/excess.rt": 1},
+        r"\bCount::none\(": {},
+    },
+}
+
+
+@pytest.mark.parametrize("crate", CALLS_OF_COUNTS)
+def test_calls_of_counts(crate):
+    """PROVED: visits of rows and plans are counted where they are made."""
+    same(misplaced(CALLS_OF_COUNTS[crate], sources_of(crate)), [], "counts")
+
+
+@pytest.mark.parametrize("crate, file, call", [
+    ("bw_check", "checking.rt", "for g in 0..count {"), ("bw_check", "marks.rt", "Count::none()"),
+    ("bw_questions", "tuned/judged.rt", "plan(alloc, &shown)?"),
+    ("bw_questions", "tuned.rt", "&mut Count::none()")])
+def test_another_call_of_a_count_is_found(crate, file, call):
+    sources = sources_of(crate)
+    assert misplaced(CALLS_OF_COUNTS[crate], {**sources, file: sources[file] + call})
 
 
 def test_no_repeat_beside_the_calls():

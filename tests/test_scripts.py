@@ -14,8 +14,8 @@ import time
 
 import pytest
 
-from stand_in import (LIBRARY, LIBRARY_PROVED, NATIVE, OUT, PROGRAM, PROVED, STAMP, Copy, holds,
-                      sources, time_of, version)
+from stand_in import (LIBRARY, LIBRARY_PROVED, LOGIC, NATIVE, OUT, PROGRAM, PROVED, STAMP, Copy,
+                      holds, sources, time_of, version)
 from support import ROOT, SECONDS, run, same
 
 RUNNING = ("arbiter: running the checked build, which proves nothing; "
@@ -77,10 +77,36 @@ def test_checked_build_of_each_source_and_kit(copy):
         copy.write(sources("bw_cert")[1], f"edit {number}\n")
         copy.is_checked("an edit")
         same("rt try" in " ".join(copy.log()), True, "an edit is compiled")
-    copy.write("../kit/KIT-ID", "kit 2\n")
+    copy.write("../kit/KIT-ID", f"kit 2 {LOGIC}\n")
     copy.is_checked("another kit")
     same("rt try" in " ".join(copy.log()), True, "another kit compiles")
     same(len(os.listdir(f"{copy.cache}/arbiter/checked")), 8, "kept programs")
+
+
+def test_checked_build_of_each_clone(copy):
+    """Two clones of the same sources run nothing that the other one kept."""
+    copy.is_checked("the first run")
+    copy.log()
+    first, copy.top = copy.top, f"{copy.folder}/other"
+    shutil.copytree(first, copy.top)
+    copy.is_checked("another clone")
+    same("rt try" in " ".join(copy.log()), True, "another clone compiles")
+    for copy.top in (first, copy.top):
+        copy.is_checked("a later run")
+    same("rt try" in " ".join(copy.log()), False, "later runs compile")
+
+
+def test_a_kit_of_another_logic(copy):
+    """It is named, and neither proves nor compiles these sources."""
+    copy.build()
+    copy.write("../kit/KIT-ID", "kit 3 logic 0123456789abcdef\n")
+    for command in ("build", "test", "arbiter"):
+        status, out, err = copy.call([f"./{command}", *["run"][: command == "arbiter"]])
+        same((status, out), (2, ""), f"./{command} with another kit")
+        for part in (f"{command}: the Rattle kit on the PATH is of another logic: kit 3 logic 0123",
+                     "these sources need rattle-kit-13f or rattle-kit-13b (logic dac8208d"):
+            holds(part, err, f"./{command} with another kit")
+    same(copy.proved(), [], "what another kit proved")
 
 
 def test_checked_build_that_fails(copy):
@@ -381,7 +407,7 @@ def test_sees_the_kit(copy):
     copy.build()
     copy.is_native("the same kit")
     same(copy.log().count("rt version"), 0, "calls of rt version")
-    copy.write("../kit/KIT-ID", "kit 2\n")
+    copy.write("../kit/KIT-ID", f"kit 2 {LOGIC}\n")
     copy.is_checked("another kit")
     copy.rt_there(False)
     copy.is_native("no kit")

@@ -109,7 +109,7 @@ def test_every_edit_has_a_place():
     """Each edit of the code is in a function or a module, and nine of ten have a neutral text."""
     tops = sorted({path.parents[1] for path in ROOT.glob("crates/*/must-fail/*.edit")})
     found = [each for top in tops for each in telling.edits(top, {})]
-    assert len(found) > 150
+    assert len(found) >= 100
     same([each.name for each in found if not each.function.startswith(each.crate)], [])
     assert 10 * sum(1 for each in found if each.neutral) >= 9 * len(found)
 

@@ -11,11 +11,12 @@
 The package needs the standard library alone. The code that plans and checks is proved; this
 package is not.
 """
-from arbiter.columns import (Certificate, Columns, Counters, Figures, Host, Kind, Level, Reason,
-                             Round, Row, Script, Unmet)
+from arbiter.columns import (Certificate, Columns, Counters, Figures, Host, Kind, Level, Reading,
+                             Reason, Round, RoundTimes, Row, Script, Unmet)
 from arbiter.found import Unavailable
 from arbiter.library import Library, Refused
 
 __all__ = ["Certificate", "Columns", "Counters", "Figures", "Host", "Kind", "Level", "Library",
-           "Reason", "Refused", "Round", "Row", "Script", "Unavailable", "Unmet"]
+           "Reading", "Reason", "Refused", "Round", "RoundTimes", "Row", "Script", "Unavailable",
+           "Unmet"]
 __version__ = "1.0.0"

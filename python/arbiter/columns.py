@@ -242,3 +242,27 @@ class Round(NamedTuple):
     # The plan of the demands, and its certificate for the rows with these demands.
     amounts: list[int]
     certificate: Certificate
+
+
+class RoundTimes(NamedTuple):
+    """What is counted of a group in a round, which is the time between two readings."""
+
+    # Nanoseconds that passed.
+    passed: int
+    # Microseconds that it used, and in which some task of it waited for a processor.
+    used: int
+    waited: int
+    # Its tasks at the end.
+    tasks: int
+    # Whether it was throttled at a limit of its own.
+    is_throttled: bool = False
+
+
+class Reading(NamedTuple):
+    """What a group used in a round and asks for, in slices of one period, rounded up."""
+
+    used: int
+    # 1000000 for everything.
+    asked: int
+    # Whether it would have used more.
+    is_hungry: bool

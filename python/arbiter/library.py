@@ -10,8 +10,8 @@ from typing import TypeAlias
 
 from arbiter import c, found, pipe
 from arbiter.columns import (U8, U32, U64, Certificate, Columns, Counters, Figures, Host, Kind,
-                             Reason, Round, Row, Script, Unmet, column, given, in_range,
-                             number_or_none, zeros)
+                             Reading, Reason, Round, RoundTimes, Row, Script, Unmet, column,
+                             given, in_range, number_or_none, zeros)
 
 # The rows of a tree, or their columns, which are made once for several calls.
 Rows: TypeAlias = Sequence[Row] | Columns
@@ -102,6 +102,12 @@ class Library:
         if number:
             raise self.of_rows(number, columns)
 
+    def ask_host(self, name: str, host: Host, *words: object) -> None:
+        """One call about a host."""
+        number = getattr(self.calls, f"arbiter_{name}")(*self.host(host), *words)
+        if number:
+            raise self.refused(number)
+
     def plan(self, host: Host, rows: Rows) -> list[int]:
         """The amounts of the plan, in slices of one period, one for each row."""
         columns = Columns.of(rows)
@@ -173,6 +179,42 @@ class Library:
         self.ask("hold", host, columns, *given(flags, held, demands, amounts, *evidence))
         limits = [None if limit == c.NO_LIMIT else limit for limit in held]
         return Round(limits, demands.tolist(), amounts.tolist(), evidence)
+
+    def reading(self, host: Host, times: RoundTimes, tasks: Sequence[tuple[int, int]]) -> Reading:
+        """What a group used in a round, whether it would have used more, and what it asks for.
+
+        `tasks` has the nanoseconds that each task ran, and waited for a CPU, that was there at both
+        readings. Refused by 50 WrongLength if there are more than the group has, as a host is, and
+        by 15 PeriodOutOfRange if no time passed.
+        """
+        ran, waited = (column(U64, [each[part] for each in tasks], "task") for part in (0, 1))
+        used, asked, hungry = c.U64(), c.U64(), c.U32()
+        number = self.calls.arbiter_reading(
+            *self.host(host), *(in_range(each, 64, "time") for each in times[:3]),
+            in_range(times.tasks, 32, "tasks"), int(times.is_throttled), *given(ran, waited),
+            *map(ctypes.byref, (used, asked, hungry)))
+        if number:
+            raise self.refused(number)
+        return Reading(used.value, asked.value, bool(hungry.value))
+
+    def written(self, host: Host, limit: int, own: int | None, stands: int, tasks: int
+                ) -> tuple[int | None, int]:
+        """The quota and the weight that are written for a leaf's limit of a round, in microseconds
+        of the host's period. None is its own limit, which allows no more.
+
+        `own` is its own limit in slices, and `stands` the quota that stands; 0 for another period.
+        The quota lies from the limit to a sixty-fourth above it, and what stands there stays.
+        Refused as a host is, and by 14 QuotaTooLarge.
+        """
+        quota, weight = c.U64(), c.U64()
+        number = self.calls.arbiter_written(
+            *self.host(host), in_range(limit, 64, "limit"),
+            in_range(number_or_none(own, c.NO_LIMIT, "limit"), 64, "limit"),
+            in_range(stands, 64, "quota"), in_range(tasks, 32, "tasks"), ctypes.byref(quota),
+            ctypes.byref(weight))
+        if number:
+            raise self.refused(number)
+        return None if quota.value == c.NO_LIMIT else quota.value, weight.value
 
     def tune(self, host: Host, rows: Rows, goals: Sequence[Goal],
              guaranteed: bool = False) -> list[int] | Unmet:
@@ -246,11 +288,9 @@ class Library:
         settings = [zeros(U64, groups) for _ in range(4)]
         names, at, faults = zeros(U8, len(text) + 1), zeros(U64, lines), zeros(U32, lines)
         count, length, refused = c.U32(), c.U64(), c.U64()
-        number = self.calls.arbiter_script(
-            *self.host(host), *given(array(U8, text), *tree, *settings, names, at, faults),
-            ctypes.byref(count), ctypes.byref(length), ctypes.byref(refused))
-        if number:
-            raise self.refused(number)
+        self.ask_host("script", host, int.from_bytes(os.urandom(8), "big"),
+                      *given(array(U8, text), *tree, *settings, names, at, faults),
+                      ctypes.byref(count), ctypes.byref(length), ctypes.byref(refused))
         told = names[:length.value].tobytes().decode().split("\n")[:-1]
         quotas, periods, bursts, carries = (each[:count.value] for each in settings)
         return Script(Columns(*(each[:count.value] for each in tree)), told, quotas, periods,
@@ -258,11 +298,9 @@ class Library:
 
     def of_host(self, name: str, host: Host, *words: int) -> int:
         """The number that a conversion for a host gives."""
-        found, given_ = c.U64(), [in_range(word, 64, name) for word in words]
-        number = getattr(self.calls, f"arbiter_{name}")(*self.host(host), *given_,
-                                                        ctypes.byref(found))
-        if number:
-            raise self.refused(number)
+        found = c.U64()
+        self.ask_host(name, host, *(in_range(word, 64, name) for word in words),
+                      ctypes.byref(found))
         return found.value
 
     def slices(self, host: Host, usec: int, own_period_us: int = 100000) -> int:

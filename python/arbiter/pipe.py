@@ -59,7 +59,8 @@ class Calls:
         own = [(kind, word) for kind, word, before in zip(c.WORDS[name], words, (None, *words))
                if not isinstance(before, ctypes.Array)]
         number, *told = self.answer(" ".join([name, *(word_of(*each) for each in own)]))
-        for into, each in zip([word for kind, word in own if issubclass(kind, c.WRITTEN)], told, strict=True):
+        for into, each in zip([word for kind, word in own if issubclass(kind, c.WRITTEN)], told,
+                              strict=True):
             write(into, each)
         return int(number)
 

@@ -6,13 +6,14 @@ above the quota that stands beside it.
 """
 from __future__ import annotations
 
+import functools
 import json
 import os
 import shlex
 import subprocess
 from collections.abc import Container, Iterable, Iterator, Sequence
 from contextlib import closing
-from dataclasses import asdict, dataclass, field, replace
+from dataclasses import dataclass, field, replace
 from enum import Enum
 from fractions import Fraction
 from typing import Any
@@ -155,14 +156,20 @@ def number(text: str) -> int:
     return int(text)
 
 
+@functools.cache
+def settings_in(weight: str, quota: str, period: str, burst: str) -> Settings:
+    """The settings of the words of the files of a group."""
+    return Settings(number(weight), None if quota == "max" else number(quota), number(period),
+                    number(burst))
+
+
 def current(root: Root, folder: str) -> Settings:
     """Contents of the files of a group now; weight 0 for an idle one."""
-    weight, words = root.read(folder, WEIGHT), root.read(folder, MAXIMUM).split()
-    burst = root.read(folder, BURST)
+    weight, maximum, burst = (root.read(folder, file) for file in FIELDS)
+    words = maximum.split()
     if len(words) != 2:
         raise HostFault(f"{shown(folder)}: cpu.max is {shown(' '.join(words)[:40])!r}")
-    quota = None if words[0] == "max" else number(words[0])
-    return Settings(number(weight), quota, number(words[1]), number(burst))
+    return settings_in(weight, *words, burst)
 
 
 def standing(root: Root, folder: str) -> Settings | None:
@@ -300,20 +307,22 @@ def all_done(root: Root, steps: Sequence[Step],
             yield step, fault
 
 
-def undo_text(root: Root, changes_: Sequence[Change], by: By) -> str:
-    """The old settings of all groups that change, and the new ones. No weight in it is 0."""
+def undo_text(root: Root, changes_: Iterable[Change], by: By) -> str:
+    """The old settings of all groups that change, and the new ones, a line for each. No weight in
+    it is 0."""
     def entry(settings: Settings) -> dict[str, Any]:
-        return asdict(replace(settings, weight=settings.weight or 1))
+        return {**vars(settings), "weight": settings.weight or 1}
 
-    groups: list[dict[str, Any]] = []
-    for change in changes_:
-        groups.append({"folder": change.folder, **entry(change.before),
-                       "after": entry(change.after)})
-        if change.earlier:
-            groups[-1]["earlier"] = [entry(each) for each in change.earlier]
-    return json.dumps({"arbiter_undo": VERSION, "root": root.path,
-                       "systemd": by is not By.FILES, "persistent": by is By.PERSISTENT,
-                       "groups": groups}, indent=1) + "\n"
+    def line(change: Change) -> str:
+        earlier = [entry(each) for each in change.earlier]
+        return json.dumps({"folder": change.folder, **entry(change.before),
+                           "after": entry(change.after),
+                           **({"earlier": earlier} if earlier else {})})
+
+    head = json.dumps({"arbiter_undo": VERSION, "root": root.path, "systemd": by is not By.FILES,
+                       "persistent": by is By.PERSISTENT, "groups": []})
+    lines = ",\n ".join(map(line, changes_))
+    return f"{head[:-2]}\n {lines}]}}\n" if lines else f"{head}\n"
 
 
 def write_synced(path: str, text: str) -> None:
@@ -456,9 +465,12 @@ def undo(back: Back, done: list[Step]) -> None:
             back.left.append(f"{fault.message}: it is left (undo once more, or --force)")
         else:
             wrong.append(fault.message)
-    there = [change for change in back.changes if standing(back.root, change.folder)]
-    back.left += [f"{change.folder}: the group is gone, nothing of it is undone"
-                  for change in back.changes if change not in there]
+    there = []
+    for change in back.changes:
+        if standing(back.root, change.folder):
+            there.append(change)
+        else:
+            back.left.append(f"{change.folder}: the group is gone, nothing of it is undone")
     if wrong:
         raise HostFault("\n".join(wrong))
     check_after(back.root, [change for change in there if change.folder not in skipped])

@@ -12,6 +12,8 @@ from arbiter_host.model import Group
 from arbiter_host.names import shown
 
 MAX_FILE = 1 << 20
+COUNTERS = re.compile(r"^(usage_usec|nr_periods|nr_throttled) ([0-9]{1,30})$", re.M)
+WAITED = re.compile(r"^some .*\btotal=([0-9]{1,20})", re.M)
 # The file that a group has if the controller is enabled for it.
 MARK = "cpu.weight"
 
@@ -45,9 +47,9 @@ def keyed(text: str | None) -> dict[str, int]:
 
 def counters(stat_text: str | None, pressure_text: str | None) -> Reading:
     """The counters of the texts of `cpu.stat` and `cpu.pressure`."""
-    stat_ = keyed(stat_text)
-    waited = re.search(r"^some .*\btotal=([0-9]{1,20})", pressure_text or "", re.M)
-    return Reading(stat_.get("usage_usec"), stat_.get("nr_periods"), stat_.get("nr_throttled"),
+    found = {key: int(number) for key, number in COUNTERS.findall(stat_text or "")}
+    waited = WAITED.search(pressure_text or "")
+    return Reading(found.get("usage_usec"), found.get("nr_periods"), found.get("nr_throttled"),
                    int(waited.group(1)) if waited else None)
 
 

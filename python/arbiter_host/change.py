@@ -1,12 +1,12 @@
 """Changes of a model by words such as `web.weight=200`, `prod/web/app.request=500m`, `.cpus=8`."""
 from __future__ import annotations
 
-from collections.abc import Iterator, Sequence
-from contextlib import contextmanager
+from collections.abc import Sequence
+from contextlib import AbstractContextManager
 from dataclasses import replace
 
 from arbiter import Host
-from arbiter_host import demands, names, output, owned, units
+from arbiter_host import demands, faults, names, output, owned, units
 from arbiter_host.faults import HostFault, UsageFault
 from arbiter_host.model import Group, Model, check_settings, checked
 from arbiter_host.owned import Owned, Setting
@@ -15,13 +15,9 @@ from arbiter_host.sources import hostfile
 KEYS = ("weight", "max", "burst", "period", "demand", "tasks")
 
 
-@contextmanager
-def naming(word: str) -> Iterator[None]:
+def naming(word: str) -> AbstractContextManager[None]:
     """Faults as those of a word of --set."""
-    try:
-        yield
-    except HostFault as fault:
-        raise UsageFault(f"--set {names.shown(word)}: {fault.message}") from fault
+    return faults.naming(f"--set {names.shown(word)}", UsageFault)
 
 
 def split(word: str) -> tuple[str, str, str]:
@@ -106,7 +102,6 @@ def made_again(model: Model, words: Sequence[str]) -> Model:
 
 
 def on_host(model: Model, host: Host) -> Model:
-    """The model on another host."""
     if host == model.host:
         return model
     return model.with_host(host) if model.owned is None else model.owned.on_host(host).model()

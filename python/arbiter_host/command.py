@@ -6,78 +6,59 @@ import os
 import sys
 import time
 from collections.abc import Sequence
-from typing import TYPE_CHECKING, Any, NoReturn
+from typing import TYPE_CHECKING, NoReturn
 
 from arbiter_host import __version__, helps, names, options as table
 from arbiter_host.faults import HostFault, NoLibrary, missing_module
 from arbiter_host.output import drop_output, say, tell
-from arbiter_host.subcommands import PLACES, find
+from arbiter_host.subcommands import SUMMARIES, Subcommand, find
 
 if TYPE_CHECKING:
     from arbiter import Unavailable
-    from arbiter_host.subcommands.base import Subcommand
 
 
 class Parser(argparse.ArgumentParser):
-    """A parser whose faults are one line, without any raw control character.
-
-    That of a subcommand which is not asked for has no layout. It is never called, and is left
-    empty: to make all of them takes a tenth of a short command's time.
-    """
-
-    def __init__(self, **words: Any) -> None:
-        if "formatter_class" in words:
-            super().__init__(**words)
+    """A parser whose faults are one line, without any raw control character."""
 
     def error(self, message: str) -> NoReturn:
         """Ends with a line that says where the words are explained."""
         self.exit(2, f"{self.prog}: {names.shown(message)}; {self.prog} --help says more\n")
 
 
-def help_of(each: Subcommand) -> dict[str, Any]:
-    """The texts of a subcommand's help, and how they are laid out."""
-    return {"description": "\n\n".join([each.description, *each.details]),
-            "epilog": helps.examples(each.examples) + helps.statuses(),
-            "formatter_class": helps.Formatter}
-
-
 def parser_of(each: Subcommand) -> Parser:
-    """The parser of one subcommand alone."""
-    parser = Parser(prog=f"arbiterctl {each.name}", **help_of(each))
+    parser = Parser(prog=f"arbiterctl {each.name}", formatter_class=helps.Formatter,
+                    description="\n\n".join([each.description, *each.details]),
+                    epilog=helps.examples(each.examples) + helps.statuses())
     each.add_words(parser)
     return parser
 
 
-def parser_of_all(words: Sequence[str]) -> Parser:
-    """The parser of all subcommands. Only the one that the words name is imported and has words."""
-    asked = next((word for word in words if not word.startswith("-")), "")
+def parser_of_all() -> Parser:
+    """The parser of words without a subcommand: it knows the names of all."""
     parser = Parser(prog="arbiterctl", description=helps.ABOUT, epilog=helps.statuses(),
                     formatter_class=helps.Formatter, allow_abbrev=False)
     parser.add_argument("-V", "--version", action="version", version=f"arbiterctl {__version__}",
                         help="print the version, and end")
-    commands = parser.add_subparsers(dest="command", required=True, metavar="COMMAND",
-                                     parser_class=Parser)
-    for name, place in PLACES.items():
-        if name != asked:
-            commands.add_parser(name, help=place.summary)
-            continue
-        each = find(name)
-        below = commands.add_parser(name, help=place.summary, **help_of(each))
-        each.add_words(below)
-        below.set_defaults(run=each.run)
+    commands = parser.add_subparsers(required=True, metavar="COMMAND", prog="arbiterctl")
+    for name, summary in SUMMARIES.items():
+        commands.add_parser(name, help=summary)
     return parser
 
 
 def parsed(words: Sequence[str]) -> argparse.Namespace:
     """What the words ask for. Options may stand between the sources."""
-    options, unknown = parser_of_all(words).parse_known_args(words)
+    name = next((word for word in words if not word.startswith("-")), "")
+    at = words.index(name) if name in SUMMARIES else len(words)
+    if name not in SUMMARIES or not {"-h", "--help", "-V", "--version"}.isdisjoint(words[:at]):
+        parser_of_all().parse_args(words)
+    each = find(name)
+    parser = parser_of(each)
+    options, unknown = parser.parse_known_args(words[at + 1:])
     if unknown:
-        at = words.index(options.command)
-        parser = parser_of(find(options.command))
-        mixed, unknown = parser.parse_known_intermixed_args(words[at + 1:])
-        if at or unknown:
-            parser.error(f"unrecognized arguments: {' '.join([*words[:at], *unknown])}")
-        options = argparse.Namespace(**{**vars(options), **vars(mixed)})
+        options, unknown = parser.parse_known_intermixed_args(words[at + 1:])
+    if at or unknown:
+        parser.error(f"unrecognized arguments: {' '.join([*words[:at], *unknown])}")
+    options.run = each.run
     return table.fill(options)
 
 

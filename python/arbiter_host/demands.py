@@ -17,6 +17,10 @@ from arbiter_host.options import WANTS
 OF_USE = WANTS[:4]
 # The greatest part of the time that pressure is taken for: above it the estimate has no meaning.
 MOST_PRESSURE = Fraction(19, 20)
+# The place of a group among what a source has read.
+Place = tuple[int, int]
+# The seconds at which the first and the last sample was.
+Times = tuple[Fraction, Fraction]
 
 
 class Reading(NamedTuple):
@@ -37,33 +41,36 @@ class Measured:
     request: Fraction | None = None
     # Number of its tasks where it was read.
     tasks: int | None = None
-    # Thousandths of a CPU that it used at one time or more, as others have measured it, and the
-    # seconds from the first to the last of them; None where that is not told.
+    # Thousandths of a CPU that it used at one time or more, as others have measured it, and when.
     told: tuple[Fraction, ...] = ()
-    span: Fraction | None = None
-
-
-# The place of a group among what a source has read.
-Place = tuple[int, int]
+    times: Times | None = None
 
 
 @dataclass(frozen=True)
 class Use:
     """What was seen of a group: thousandths in each sample, what it wanted at least where its limit
-    has throttled it, and the seconds from first to last; None where that is not told."""
+    has throttled it, and when; None where that is not told."""
 
     values: tuple[Fraction, ...]
     wanted: Fraction = Fraction(0)
-    span: Fraction | None = None
+    times: Times | None = None
     # The groups of which it is, such as replicas of one container.
     groups: int = 1
+    # The part of its periods in which it was throttled; None where that is not told.
+    throttled: Fraction | None = None
+
+    @property
+    def span(self) -> Fraction | None:
+        """The seconds from the first sample to the last."""
+        return None if self.times is None else self.times[1] - self.times[0]
 
 
 def together(uses: Sequence[Use]) -> Use:
     """What was seen of several groups that have the same settings."""
-    spans = [each.span for each in uses if each.span is not None]
+    times = [each.times for each in uses if each.times is not None]
     return Use(tuple(value for each in uses for value in each.values),
-               max(each.wanted for each in uses), max(spans, default=None), len(uses))
+               max(each.wanted for each in uses),
+               (min(times)[0], max(last for _, last in times)) if times else None, len(uses))
 
 
 def rise(before: int | None, after: int | None) -> int | None:
@@ -129,11 +136,13 @@ def use_of(group: Group, measured: Measured, host: Host, seconds: Fraction) -> U
     values = used(measured, seconds)
     if not values:
         return None
-    span = measured.span if measured.told else seconds * len(values)
-    if not sum(rises(measured.readings, "throttled")):
-        return Use(tuple(values), span=span)
+    times = measured.times if measured.told else (Fraction(0), seconds * len(values))
+    periods, throttled = (sum(rises(measured.readings, key)) for key in ("periods", "throttled"))
+    part = Fraction(min(throttled, periods), periods) if periods else None
+    if not throttled:
+        return Use(tuple(values), times=times, throttled=part)
     counted = replace(measured, readings=[each._replace(pressure=0) for each in measured.readings])
-    return Use(tuple(values), pressed(group, counted, host, seconds), span)
+    return Use(tuple(values), pressed(group, counted, host, seconds), times, throttled=part)
 
 
 def wanted(want: str, group: Group, measured: Measured, host: Host,
@@ -174,6 +183,8 @@ def set_demands(model: Model, measured: dict[str, Measured], want: str, seconds:
             periods = sum(rises(counters.readings, "periods"))
             model.notes.append(f"{path}: throttled in {throttled} of {periods} periods: it wanted"
                                " more than it used (--want psi)")
+        if want in OF_USE[:3] and demand > 1000 * model.host.processors:
+            model.notes.append(f"{path}: {units.decimal(demand, 0)}m used: more than the host has")
         group.demand = demand
         if counters.tasks:
             needed = math.ceil(percentile(used(counters, seconds), 100) / 1000)

@@ -42,8 +42,8 @@ class Alerted(HostFault):
 
     status = 5
 
-    def __init__(self, alerts: Sequence[tuple[str, str]]) -> None:
-        super().__init__("\n".join(f"alert: {condition}: {group}" for condition, group in alerts)
+    def __init__(self, alerts: Sequence[tuple[str, str, object]]) -> None:
+        super().__init__("\n".join(f"alert: {condition}: {group}" for condition, group, _ in alerts)
                          or "alert: none holds any more")
 
 
@@ -54,12 +54,12 @@ class NothingFound(HostFault):
 
 
 @contextmanager
-def naming(place: str) -> Iterator[None]:
+def naming(place: str, kind: type[HostFault] = HostFault) -> Iterator[None]:
     """Faults of what is done here, each with the place where it was found before it."""
     try:
         yield
     except HostFault as fault:
-        raise HostFault(f"{place}: {fault.message}") from fault
+        raise kind(f"{place}: {fault.message}") from fault
 
 
 # Debian's packages of modules that are imported where they are needed.

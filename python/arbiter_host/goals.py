@@ -8,7 +8,7 @@ from fractions import Fraction
 from typing import NamedTuple
 
 from arbiter_host import demands, search, units
-from arbiter_host.faults import HostFault, UsageFault
+from arbiter_host.faults import HostFault, UsageFault, naming
 from arbiter_host.model import Model
 from arbiter_host.names import parent_path, shown
 from arbiter_host.plan import Plan, Planned, plan
@@ -158,10 +158,8 @@ def goal_of(word: str) -> tuple[str, Fraction]:
         raise UsageFault(f"--goal {shown(word)}: not GROUP=AMOUNT, such as web=1.5cpu")
     if pattern == ".":
         raise UsageFault(f"--goal {shown(word)}: the host has no weight: name a group")
-    try:
+    with naming(f"--goal {shown(word)}", UsageFault):
         thousandths = units.parse_cpu(amount)
-    except HostFault as fault:
-        raise UsageFault(f"--goal {shown(word)}: {fault.message}") from fault
     if thousandths == 0:
         raise UsageFault(f"--goal {shown(word)}: an amount of 0 needs nothing")
     return pattern, thousandths

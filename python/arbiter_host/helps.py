@@ -2,7 +2,7 @@
 from __future__ import annotations
 
 import argparse
-from collections.abc import Iterable
+from collections.abc import Iterable, Mapping
 from typing import Any
 
 from arbiter_host import options
@@ -37,9 +37,7 @@ class Formatter(argparse.HelpFormatter):
         """The usage, with the arguments alone."""
         words = [str(each.metavar) if " " in str(each.metavar) else self._format_args(
             each, each.dest) for each in actions if not each.option_strings]
-        # (with a prefix it is the beginning of a subcommand's usage)
-        more = ["[options]"] if prefix is None else []
-        super().add_usage(" ".join(["%(prog)s", *more, *words]), actions, (), prefix)
+        super().add_usage(" ".join(["%(prog)s", "[options]", *words]), actions, (), prefix)
 
     def _fill_text(self, text: str, width: int, indent: str) -> str:
         import textwrap  # (no other call lays out text)
@@ -56,7 +54,7 @@ def statuses() -> str:
     return "exit status:\n" + "\n".join(f"  {each}  {what}" for each, what in STATUSES.items())
 
 
-def examples(pairs: tuple[tuple[str, str], ...]) -> str:
+def examples(commands: Mapping[str, str]) -> str:
     """Examples for the end of a help text: what each does, and its command."""
-    lines = "\n".join(f"  {command}\n      {what}" for what, command in pairs)
-    return f"examples:\n{lines}\n\n" if pairs else ""
+    lines = "\n".join(f"  {command}\n      {what}" for what, command in commands.items())
+    return f"examples:\n{lines}\n\n" if commands else ""

@@ -12,18 +12,19 @@ from __future__ import annotations
 import os
 import re
 import time
+from collections import Counter
 from collections.abc import Callable, Iterable, Mapping
 from dataclasses import dataclass, replace
 from fractions import Fraction
 from typing import Any, NamedTuple
 
-from arbiter import Columns, Host, Row
+from arbiter import Columns, Host, Reading, Row
 from arbiter_host import apply, cgroup2, hunger, looks, output, safe_files, units
-from arbiter_host.apply import BURST, WEIGHT, Back, By, Change, Settings
+from arbiter_host.apply import BURST, MAXIMUM, WEIGHT, Back, By, Change, Settings
 from arbiter_host.demands import rise
 from arbiter_host.faults import HostFault
 from arbiter_host.looks import Counted, Times
-from arbiter_host.model import MAX_DEPTH, Group, Model, planned
+from arbiter_host.model import MAX_DEPTH, Group, Model, TooMany, planned, up_to_64_cpus
 from arbiter_host.names import shown
 from arbiter_host.plan import Engine, asking
 from arbiter_host.record import Record
@@ -39,14 +40,14 @@ MOST_FAILED = 2
 # clock has jumped, or nothing ran for long. A round that took long is none of it.
 SECOND = 10**9
 MOST_MISSED, LONGEST_MISSED = 5, 5 * SECOND
+# Groups of another user that are held one by one, and the time that a round may take for them.
+MOST_OF_OTHERS, LONGEST_PART = 1024, SECOND // 2
+# Groups whose settings are read in a round; of more they are read in turn, and before a writing.
+MOST_SETTINGS = 4096
+# Links of a folder without folders.
+LINKS = 2
 # Files that are open beside those of the groups.
 SPARE_FILES = 64
-# A quota stands that is up to this part of it above the limit of the rule; half as much is written
-# above it. The kernel gives a new quota at each writing, so a group could use two in a period.
-MOST_ABOVE = 64
-# A weight is as the part d of a CPU that a task is to have, to 1.01 - d, in hundredths: a whole CPU
-# has the greatest weight, half of one about 100.
-WHOLE = 101
 
 
 class Ways(NamedTuple):
@@ -72,36 +73,28 @@ class Kept:
     stands: Settings
     # What is being written; what stands where nothing is.
     target: Settings
-    # Its last reading.
+    # Its last reading: the nanoseconds of the clock, its cpu.stat, and what is counted.
+    at: int
+    stat: str
     counted: Counted
+    # Whether neither its use nor its waiting rose in the last round.
+    is_idle: bool = False
     # Whether its limit is left alone, since somebody else sets it.
     is_left: bool = False
     # Slices that the plan of the last round gave it; None before its first round.
     planned: int | None = None
 
 
-class LeafUse(NamedTuple):
-    """What a leaf used in a round, and whether it would have used more, in thousandths of a CPU."""
-
-    thousandths: Fraction
-    hungry: bool
-    # The most that a hungry leaf could have used; None if its tasks do not tell.
-    most: Fraction | None = None
-
-    def asks_for_all(self, processors: int) -> bool:
-        """Whether it asks for everything: a hungry leaf whose tasks could have used the host."""
-        return self.hungry and (self.most is None or self.most >= 1000 * processors)
-
-    @property
-    def asked(self) -> Fraction:
-        """What it asks for, if that is not everything."""
-        return self.thousandths if self.most is None else self.most
+# The reading of a group that was idle and still is.
+IDLE = Reading(0, 0, False)
 
 
 class Written(NamedTuple):
-    """What a round writes: the line of each leaf, which has its limit, and all weights, by path."""
+    """What a round writes, by path: the line of each leaf, its quota, None for its own limit, and
+    all weights."""
 
     told: dict[str, Line]
+    quotas: dict[str, int | None]
     weights: dict[str, int]
 
 
@@ -123,14 +116,19 @@ def own_group() -> Identity | None:
         return None
 
 
+def is_of_others(folder: str, default: bool = False) -> bool:
+    """Whether a folder is neither root's nor this user's; the default where it is gone."""
+    try:
+        return safe_files.is_of_others(os.lstat(folder))
+    except OSError:
+        return default
+
+
 def of_kubelet(folder: str, top: str = "") -> str:
     """The part of a path below a top up to a group of kubelet, which is root's or this user's:
     others may give theirs any name. Empty where there is none."""
     above = kubelets(folder[len(top):])
-    try:
-        return above if above and not safe_files.is_of_others(os.lstat(top + above)) else ""
-    except OSError:
-        return ""
+    return above if above and not is_of_others(top + above, True) else ""
 
 
 def own_settings(group: Group, old: Settings) -> None:
@@ -141,14 +139,6 @@ def own_settings(group: Group, old: Settings) -> None:
 def bounded(weight: int) -> int:
     """A weight in the kernel's range."""
     return min(max(weight, units.MIN_WEIGHT), units.MAX_WEIGHT)
-
-
-def leaf_weight(limit: int, most: int) -> int:
-    """The weight of a leaf that may use `limit` of the `most` slices of its tasks: 1 to 10000, the
-    nearest whole number to 100 d / (1.01 - d) with d = limit / most."""
-    amount = min(limit, most)
-    part, rest = 10000 * amount, WHOLE * most - 100 * amount
-    return bounded((2 * part + rest) // (2 * rest))
 
 
 def tree_weights(model: Model, leaves: Mapping[str, int]) -> dict[str, int]:
@@ -165,6 +155,89 @@ def tree_weights(model: Model, leaves: Mapping[str, int]) -> dict[str, int]:
     return found
 
 
+class Crowded(Exception):
+    """More groups of another user than are held one by one."""
+
+
+class HeldTree(looks.Tree):
+    """The tree of a loop, which reads itself what is counted, and what stands in a group that is
+    open. The topmost group of another user and those below it are a part of the tree. It is held as
+    one group from the time on when it has too many groups, or takes too long."""
+
+    def __init__(self, loop: Loop, top: str) -> None:
+        super().__init__(top, loop.host, depth=loop.ways.depth)
+        self.loop, self.most = loop, MOST_OF_OTHERS
+        # The parts that are held as one; the part of each group that is in another one.
+        self.whole = set[Identity | None]()
+        self.parts: dict[str, Group] = {}
+        # The part that is being read, and how many groups there may be then; the parts that took
+        # too long in the last round.
+        self.part: Group | None = None
+        self.last, self.slow = 0, set[Identity | None]()
+
+    def look(self) -> looks.Look:
+        """A look at all groups. Where there are too many in all, fewer of others are held."""
+        while True:
+            self.parts = {}
+            try:
+                return super().look()
+            except TooMany:
+                if not self.parts or not self.most:
+                    raise
+                self.most //= 4
+
+    def took(self, spent: Mapping[Identity | None, int]) -> None:
+        """Takes how long the parts took in a round. One that takes too long twice in a row is held
+        as one. (A stop may come in any round.)"""
+        slow = {part for part, each in spent.items() if each > LONGEST_PART}
+        self.whole |= slow & self.slow
+        self.slow = slow
+
+    def add(self, look: looks.Look, entry: os.DirEntry[str], above: str, depth: int,
+            taken: set[str]) -> bool:
+        """Adds one group and those below it."""
+        if self.part and len(look.model.groups) >= self.last:
+            raise Crowded
+        return super().add(look, entry, above, depth, taken)
+
+    def add_below(self, look: looks.Look, group: Group, depth: int) -> bool:
+        """Adds the groups below one, unless they are a part that is held as one."""
+        if self.part or not depth or not is_of_others(group.place):
+            return super().add_below(look, group, depth)
+        groups, notes = look.model.groups, look.model.notes
+        before, said = len(groups), len(notes)
+        if group.identity not in self.whole:
+            self.part, self.last = group, before + self.most
+            try:
+                return super().add_below(look, group, depth)
+            except Crowded:
+                self.whole.add(group.identity)
+            finally:
+                self.part = None
+        for path in list(groups)[before:]:
+            del groups[path], self.parts[path]
+        notes[said:] = [f"{group.path}: another user has more than {self.most} groups there, or"
+                        " they take too long to read: they are held as one"]
+        return False
+
+    def read(self, look: looks.Look, group: Group, entry: os.DirEntry[str]) -> bool:
+        """Reads a group. One that is open has others below it where its folder has more links."""
+        if self.part:
+            self.parts[group.path] = self.part
+        kept = self.loop.groups.get(group.path)
+        if kept is None or kept.identity[1] != entry.inode():
+            return super().read(look, group, entry)
+        group.identity = kept.identity
+        return os.fstat(self.loop.root.kept[kept.folder]).st_nlink != LINKS
+
+    def measure(self, look: looks.Look, group: Group, handle: int) -> None:
+        """Leaves that to the loop."""
+
+    def add_tasks(self, look: looks.Look, leaf: Group) -> None:
+        if self.loop.ways.has_weights:
+            super().add_tasks(look, leaf)
+
+
 class Loop:
     """The rounds over one tree. `record` is None where nothing is written."""
 
@@ -172,10 +245,10 @@ class Loop:
                  record: Record | None = None, ways: Ways = Ways(),
                  clock: Callable[[], int] = time.monotonic_ns) -> None:
         self.engine, self.root, self.host, self.record = engine, root, host, record
-        self.tree = looks.Tree(top, host, depth=ways.depth)
         self.ways, self.clock, self.own = ways, clock, own_group()
         # The groups that are open, by their paths.
         self.groups: dict[str, Kept] = {}
+        self.tree = HeldTree(self, top)
         # The number of tasks of each leaf at the last reading.
         self.tasks: dict[str, int] = {}
         self.tell = output.Remarks().tell
@@ -183,9 +256,10 @@ class Loop:
         self.has_rounded = False
         # Whether no group was kubelet's when the loop began.
         self.is_checked = ways.is_forced
-        self.rounds = 0
+        self.rounds = self.readings = 0
 
-    def counted(self, folder: str, is_leaf: bool, before: Counted | None = None) -> Counted:
+    def counted(self, folder: str, stat: str, is_leaf: bool, before: Counted | None = None
+                ) -> Counted:
         """What is counted of a group, and what its tasks did if some waited since the last time."""
         def text(file: str, most: int = safe_files.MAX_TEXT) -> str:
             try:
@@ -193,12 +267,10 @@ class Loop:
             except HostFault:
                 return ""
 
-        stat = self.root.read(folder, "cpu.stat")
         reading = cgroup2.counters(stat, text("cpu.pressure"))
-        at = Fraction(self.clock(), SECOND)
         has_waited = before is None or rise(before.reading.pressure, reading.pressure)
         list_ = text("cgroup.threads", hunger.MOST_TEXT) if is_leaf and has_waited else ""
-        return Counted(reading, hunger.tasks(list_), at)
+        return Counted(reading, hunger.tasks(list_))
 
     def take_up(self, group: Group, is_leaf: bool) -> None:
         """Opens a group that is new, and reads what stands in it."""
@@ -209,14 +281,14 @@ class Loop:
             return
         try:
             self.root.keep(folder, group.identity)
-            stands = apply.current(self.root, folder)
-            counted = self.counted(folder, is_leaf)
+            stands, stat = apply.current(self.root, folder), self.root.read(folder, "cpu.stat")
+            at, counted = self.clock(), self.counted(folder, stat, is_leaf)
         except HostFault as fault:
             self.root.let_go(folder)
             self.tell([f"{path}: left alone: {fault.message}"])
             return
         self.groups[path] = Kept(folder, group.identity or (0, 0), is_leaf, stands, stands, stands,
-                                 counted)
+                                 at, stat, counted)
 
     def drop(self, path: str, model: Model) -> None:
         """Closes a group that went, or that has children now or none any more. What stood is put
@@ -275,9 +347,9 @@ class Loop:
                                 " over these (--force)")
         self.is_checked = True
 
-    def read(self) -> tuple[Model, dict[str, LeafUse]]:
-        """The groups as they stand, and what each leaf used since the last reading of it. New
-        groups are opened, those that went are closed."""
+    def read(self) -> tuple[Model, dict[str, Reading]]:
+        """The groups as they stand, and what each leaf used since the last reading of it. Those
+        that went are closed."""
         look = self.tree.look()
         model = look.model
         if not model.groups:
@@ -294,97 +366,116 @@ class Loop:
             is_same = path in there and model.groups[path].identity == kept.identity
             if not is_same or kept.is_leaf != there[path]:
                 self.drop(path, model)
-        used, faults = dict[str, LeafUse](), list[HostFault]()
-        for path, is_leaf in there.items():
+        return model, self.read_groups(model, there)
+
+    def read_groups(self, model: Model, there: Mapping[str, bool]) -> dict[str, Reading]:
+        """What each leaf used since its last reading. New groups are opened."""
+        used, faults = dict[str, Reading](), list[HostFault]()
+        spent = Counter[Identity | None]()
+        self.readings += 1
+        turns = 1 + len(self.groups) // MOST_SETTINGS
+        for turn, (path, is_leaf) in enumerate(there.items(), self.readings):
             if path not in self.groups:
                 self.take_up(model.groups[path], is_leaf)
                 continue
+            begun = self.clock()
             try:
-                found = self.read_group(path)
-                used |= {path: found} if is_leaf else {}
+                found = self.read_group(path, turn % turns == 0)
+                if is_leaf:
+                    used[path] = found
             except Gone:
                 self.drop(path, model)
             except HostFault as fault:
-                faults.append(fault)
+                if self.is_of_others(self.groups[path]):
+                    self.tell([f"{fault.message}: its limit is left as it is"])
+                else:
+                    faults.append(fault)
+            if path in self.tree.parts:
+                spent[self.tree.parts[path].identity] += self.clock() - begun
+        self.tree.took(spent)
         if faults:
             raise faults[0]
-        return model, used
+        return used
 
-    def read_group(self, path: str) -> LeafUse:
-        """What a group used since its last reading, and whether it would have used more."""
+    def read_group(self, path: str, has_look: bool) -> Reading:
+        """What a group used since its last reading, and what it asks for. Of a group that was idle
+        cpu.stat tells whether it still is."""
         kept = self.groups[path]
-        self.look(kept, path)
-        before, kept.counted = kept.counted, self.counted(kept.folder, kept.is_leaf, kept.counted)
-        span, has_limit = looks.risen(before, kept.counted), kept.stands.quota is not None
+        if has_look:
+            self.look(kept, path)
+        stat, begun = self.root.read(kept.folder, "cpu.stat"), kept.at
+        kept.at = self.clock()
+        if kept.is_idle and stat == kept.stat and kept.at > begun:
+            return IDLE
+        before, kept.stat = kept.counted, stat
+        kept.counted = self.counted(kept.folder, stat, kept.is_leaf, before)
+        span = looks.risen(before, kept.counted, Fraction(kept.at - begun, SECOND))
+        kept.is_idle = span.risen.usage == 0 and not span.risen.pressure
+        has_limit = kept.stands.quota is not None
         if span.risen.usage is None or span.seconds <= 0:
             raise HostFault(f"{shown(kept.folder)}: its reading is older than the last: nothing is"
                             " written")
-        if not span.is_hungry(has_limit):
-            return LeafUse(span.used, False)
-        return LeafUse(span.used, True, span.most_wanted(has_limit))
+        with asking(shown(kept.folder)):
+            return span.reading(self.engine.library, self.host, has_limit)
 
-    def rows(self, model: Model, amounts: dict[str, Fraction]) -> list[Row]:
-        """The rows of the operator's own settings and of amounts in thousandths of a CPU."""
+    def rows(self, model: Model) -> list[Row]:
+        """The rows of the operator's own settings, which ask for nothing."""
         for path, kept in self.groups.items():
             group = model.groups[path]
             own_settings(group, kept.old)
             group.burst, group.saved = 0, 0
-            group.demand = amounts.get(path, Fraction(0))
         return model.rows(self.engine.library)
 
-    def planned(self, model: Model, used: dict[str, LeafUse]) -> Written:
+    def planned(self, model: Model, used: dict[str, Reading]) -> Written:
         """The limits and weights of the next round, whose plan the proved check accepted."""
-        rows = self.rows(model, {path: each.thousandths for path, each in used.items()})
-        asks = self.rows(model, {path: each.asked for path, each in used.items()})
-        host = planned(self.host)
-        for_all = [False, *(path in used and used[path].asks_for_all(host.processors)
-                            for path in model.groups)]
+        rows, host, library = self.rows(model), planned(self.host), self.engine.library
+        places = {path: row for row, path in enumerate(model.groups, 1) if path in used}
+        asks, for_all = list(rows), [False] * len(rows)
+        for path, row in places.items():
+            each = used[path]
+            for_all[row] = each.asked == units.MAX_DEMAND
+            asks[row] = rows[row]._replace(demand=each.used if for_all[row] else each.asked)
         with asking("no limits"):
-            held = self.engine.library.hold(host, Columns.of(asks), for_all)
+            held = library.hold(host, Columns.of(asks), for_all)
         asked = [row._replace(demand=demand) for row, demand in zip(rows, held.demands)]
         with asking("the check refused the plan"):
-            self.engine.library.check(host, Columns.of(asked), held.amounts, held.certificate)
-        told = {}
-        for row, path in enumerate(model.groups, 1):
-            limit = held.limits[row]
-            if path in used and limit is not None:
-                kept, hungry = self.groups[path], used[path].hungry
-                lacks = (kept.planned or 0) - rows[row].demand if hungry else 0
-                kept.planned = held.amounts[row]
-                told[path] = {"want": held.demands[row], "plan": held.amounts[row],
-                              "used": rows[row].demand, "limit": limit, "hungry": hungry,
-                              "unserved": max(lacks, 0)}
-        return Written(told, self.weights(model, told) if self.ways.has_weights else {})
+            library.check(host, Columns.of(asked), held.amounts, held.certificate)
+        found = Written({}, {}, {})
+        weights = dict[str, int]()
+        for path, row in places.items():
+            limit, kept, each = held.limits[row], self.groups[path], used[path]
+            if limit is None:
+                continue
+            lacks = (kept.planned or 0) - each.used if each.is_hungry else 0
+            kept.planned = held.amounts[row]
+            found.told[path] = {"want": held.demands[row], "plan": held.amounts[row],
+                                "used": each.used, "limit": limit, "hungry": each.is_hungry,
+                                "unserved": max(lacks, 0)}
+            with asking(f"{path}: no limit"):
+                found.quotas[path], weights[path] = library.written(
+                    up_to_64_cpus(self.host), limit, rows[row].limit, self.standing(kept),
+                    self.tasks[path])
+        if self.ways.has_weights:
+            found.weights.update(tree_weights(model, weights))
+            for path, line in found.told.items():
+                line["weight"] = found.weights[path]
+        return found
 
-    def weights(self, model: Model, told: dict[str, Line]) -> dict[str, int]:
-        """The weights of a round, which the line of each leaf gets too."""
-        most = self.host.period_us // self.host.slice_us
-        written = tree_weights(model, {
-            path: leaf_weight(line["limit"], self.tasks[path] * most)
-            for path, line in told.items()})
-        for path, line in told.items():
-            line["weight"] = written[path]
-        return written
+    def standing(self, kept: Kept) -> int:
+        """The quota that stands in a group as the loop writes it; 0 for another one."""
+        stands = kept.stands
+        is_alike = (stands.period, stands.burst) == (self.host.period_us, 0)
+        return stands.quota or 0 if is_alike else 0
 
-    def limited(self, path: str, kept: Kept, limit: int) -> Settings:
-        """What is written for a limit: what stood where that allows no more, and what stands where
-        that is little more."""
-        quota, old, period = limit * self.host.slice_us, kept.old, self.host.period_us
-        if quota < units.MIN_QUOTA and not self.has_rounded:
+    def limited(self, path: str, kept: Kept, found: Written) -> Settings:
+        """What is written for a limit: what stood where that allows no more."""
+        quota = found.quotas[path]
+        if found.told[path]["limit"] == 0 and not self.has_rounded:
             self.has_rounded = True
             self.tell([f"{path}: a limit below 1 ms is rounded up to it, and so is each other"])
-        quota = max(quota, units.MIN_QUOTA)
-        most = quota + quota // (2 * MOST_ABOVE)
-        if old.quota is not None:
-            own = int(Fraction(old.quota * period, old.period * self.host.slice_us))
-            if quota >= own * self.host.slice_us:
-                return old
-            most = min(most, own * self.host.slice_us)
-        stands = kept.stands
-        if (stands.quota is not None and (stands.period, stands.burst) == (period, 0)
-                and quota <= stands.quota <= quota + quota // MOST_ABOVE):
-            return stands
-        return replace(old, quota=most, period=period, burst=0)
+        if quota is None:
+            return kept.old
+        return replace(kept.old, quota=quota, period=self.host.period_us, burst=0)
 
     def target_of(self, path: str, kept: Kept, found: Written) -> Settings:
         """What a group is to hold. A leaf without a limit of the rule holds what it holds."""
@@ -392,7 +483,7 @@ class Loop:
             return kept.old
         if kept.is_leaf and path not in found.told:
             return kept.stands
-        target = self.limited(path, kept, found.told[path]["limit"]) if kept.is_leaf else kept.old
+        target = self.limited(path, kept, found) if kept.is_leaf else kept.old
         # An idle group has no weight to be set.
         weight = found.weights.get(path, target.weight) if kept.stands.weight else target.weight
         return replace(target, weight=weight)
@@ -432,15 +523,19 @@ class Loop:
             self.tell([f"{fault.message}: its owner may have set it meanwhile"])
 
     def is_of_others(self, kept: Kept) -> bool:
-        """Whether users that are not trusted may set its limit. What they set must end no loop."""
-        status = self.root.status(kept.folder, "cpu.max")
-        return status is None or safe_files.is_of_others(status, 0o022)
+        """Whether users that are not trusted may set its limit. What they do must end no loop."""
+        try:
+            status = os.stat(MAXIMUM, dir_fd=self.root.kept[kept.folder], follow_symlinks=False)
+        except OSError:
+            return True
+        return safe_files.is_of_others(status, 0o022)
 
     def undo_text(self) -> str:
         """What stood in each group, and what it may hold by this loop."""
-        return apply.undo_text(self.root, [
+        return apply.undo_text(self.root, (
             Change(kept.folder, kept.old, kept.target, earlier=(kept.stands,))
-            for kept in self.groups.values() if {kept.stands, kept.target} != {kept.old}], By.FILES)
+            for kept in self.groups.values() if not kept.old == kept.stands == kept.target),
+            By.FILES)
 
     def put_back(self, groups: Iterable[Kept]) -> None:
         """Puts back what stood; what somebody else set stays, and is told. A fault of one group is

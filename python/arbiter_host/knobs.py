@@ -12,12 +12,13 @@ from functools import partial
 from typing import Any, NamedTuple
 
 from arbiter import Columns, Host
-from arbiter_host import owned, progress, search
+from arbiter_host import progress
 from arbiter_host.faults import HostFault
 from arbiter_host.goals import Goals
-from arbiter_host.model import MAX_PROCESSORS, Model, planned
-from arbiter_host.owned import Owned, Range, Setting
+from arbiter_host.model import Model, planned, up_to_64_cpus
+from arbiter_host.owned import Range
 from arbiter_host.plan import Plan, asking, payers
+from arbiter_host.tune_settings import Raised
 
 
 class Knob(NamedTuple):
@@ -37,85 +38,67 @@ class Knob(NamedTuple):
     is_owned: bool = False
 
 
-def with_weight(model: Model, path: str, weight: int) -> Model:
-    """The model with another weight of one group."""
-    after = model.copy()
-    after.groups[path].weight = weight
-    return after
-
-
-def with_limit(model: Model, path: str, slices: int) -> Model:
-    """The model with another limit of one group, in slices of the host's period."""
+def with_value(model: Model, path: str, name: str, value: int) -> Model:
+    """The model with another weight or limit of one group, or with other CPUs. A limit is in slices
+    of the host's period."""
     after, host = model.copy(), model.host
     group = after.groups[path]
-    group.quota, group.period = slices * host.slice_us, host.period_us
-    group.burst, group.saved = 0, 0
+    if name == "CPUs":
+        after.host = replace(host, processors=value)
+    elif name == "weight":
+        group.weight = value
+    else:
+        group.quota, group.period = value * host.slice_us, host.period_us
+        group.burst, group.saved = 0, 0
     return after
 
 
-def with_cpus(model: Model, _: str, cpus: int) -> Model:
-    return replace(model, host=replace(model.host, processors=cpus))
+def knob(goals: Goals, name: str, now: int | None, host: Host,
+         call: Callable[[Host, Columns, int, int], int | None]) -> Knob:
+    """A setting with its least value by a call of the library, whose accepted plan has to reach the
+    amount."""
+    (goal,), before = goals.goals, goals.before
+    with asking(call.__name__):
+        value = call(host, before.columns, goal.group.row, goal.amount)
+    if value is None:
+        return Knob(name, now, None, None)
+    after = goals.plan_of(with_value(before.model, goal.group.path, name, value))
+    if after.groups[goal.group.row].gets < goal.amount:
+        raise HostFault(f"{name} {value}: the accepted plan does not reach the amount")
+    return Knob(name, now, value, after)
 
 
-class Knobs:
-    """The settings of the group of one goal."""
+def owned_knob(goals: Goals, known: Raised, row: int, of: Range) -> Knob:
+    """The least of a setting that people own of a group, which is the goal's or below it."""
+    value = known.least(goals.goals[0], row, of)
+    if value is None:
+        return Knob(of.key, of.now, None, None, of.most, True)
+    after = known.with_value(row, of, value).plan()
+    told = [note for note in after.model.notes if note not in goals.before.model.notes]
+    return Knob(of.key, of.now, of.written(value), after, "; ".join(told), True)
 
-    def __init__(self, goals: Goals) -> None:
-        self.goals, self.before = goals, goals.before
-        (self.goal,) = goals.goals
-        self.path, self.model = self.goal.group.path, goals.before.model
 
-    def each(self) -> list[Knob]:
-        """Each setting with its least value."""
-        library, host, group = self.before.engine.library, self.model.host, self.goal.group
-        # Above 64 CPUs the planner's host has another period. The answer is of any number of CPUs.
-        any_host = replace(host, processors=min(host.processors, MAX_PROCESSORS))
-        finds: list[Callable[[], Knob]] = [
-            partial(self.knob, "weight", group.weight, planned(host), library.least_weight,
-                    with_weight),
-            partial(self.knob, "limit", group.limit, planned(host), library.least_limit,
-                    with_limit),
-            partial(self.knob, "CPUs", host.processors, any_host, library.least_processors,
-                    with_cpus)]
-        source = self.model.owned
-        meant = source.meant(self.path) if source else []
-        if source is not None and len(meant) == 1:
-            finds += [partial(self.owned_knob, source, meant[0], of)
-                      for of in source.ranges(meant[0])]
-        knobs = []
-        with progress.bar("settings", len(finds)) as step:
-            for find in finds:
-                knobs.append(find())
-                step()
-        return knobs
-
-    def knob(self, name: str, now: int | None, host: Host,
-             call: Callable[[Host, Columns, int, int], int | None],
-             with_value: Callable[[Model, str, int], Model]) -> Knob:
-        """A setting with its least value by a call of the library, whose accepted plan has to reach
-        the amount."""
-        with asking(call.__name__):
-            value = call(host, self.before.columns, self.goal.group.row, self.goal.amount)
-        if value is None:
-            return Knob(name, now, None, None)
-        after = self.goals.plan_of(with_value(self.model, self.path, value))
-        if after.groups[self.goal.group.row].gets < self.goal.amount:
-            raise HostFault(f"{name} {value}: the accepted plan does not reach the amount")
-        return Knob(name, now, value, after)
-
-    def owned_knob(self, source: Owned, path: str, of: Range) -> Knob:
-        """The least of a setting that people own of a group, which is the goal's or below it."""
-        def with_value(value: int) -> Plan:
-            return self.goals.plan_of(owned.remade(
-                self.model, source, [Setting(path, of.key, of.written(value))]))
-
-        value = search.least_of(of.parts, lambda each: with_value(each).groups[
-            self.goal.group.row].gets >= self.goal.amount)
-        if value is None:
-            return Knob(of.key, of.now, None, None, of.most, True)
-        after = with_value(value)
-        told = [note for note in after.model.notes if note not in self.model.notes]
-        return Knob(of.key, of.now, of.written(value), after, "; ".join(told), True)
+def each_of(goals: Goals) -> list[Knob]:
+    """Each setting of the group of the one goal, with its least value."""
+    (goal,), before, source = goals.goals, goals.before, goals.before.model.owned
+    library, host = before.engine.library, before.model.host
+    # Above 64 CPUs the planner's host has another period. The answer is of any number of CPUs.
+    any_host = up_to_64_cpus(host)
+    finds: list[Callable[[], Knob]] = [
+        partial(knob, goals, "weight", goal.group.weight, planned(host), library.least_weight),
+        partial(knob, goals, "limit", goal.group.limit, planned(host), library.least_limit),
+        partial(knob, goals, "CPUs", host.processors, any_host, library.least_processors)]
+    meant = source.meant(goal.group.path) if source else []
+    if source is not None and len(meant) == 1:
+        row = before.by_path()[meant[0]].row
+        finds += [partial(owned_knob, goals, Raised(goals, source, {}), row, of)
+                  for of in source.ranges(meant[0])]
+    knobs = []
+    with progress.bar("settings", len(finds)) as step:
+        for find in finds:
+            knobs.append(find())
+            step()
+    return knobs
 
 
 def losses(goals: Goals, knob: Knob) -> list[tuple[str, int]]:

@@ -11,7 +11,7 @@ from collections.abc import Sequence
 from dataclasses import replace
 
 from arbiter import Library
-from arbiter_host import demands, names, options as table, output, plain_files
+from arbiter_host import demands, looks, names, options as table, output, plain_files
 from arbiter_host.faults import HostFault, RefusedLines, UsageFault
 from arbiter_host.model import Model
 from arbiter_host.plan import Engine
@@ -28,9 +28,6 @@ def kind_of(path: str, data: bytes | None) -> str:
     if data is None:
         return "cgroup"
     name = path.lower()
-    if name.endswith((".yaml", ".yml")):
-        raise HostFault(f"{names.shown(path)}: YAML is not read: write TOML or JSON (of pods:"
-                        " kubectl get pods -o json)")
     is_named = name.endswith((".toml", ".script"))
     return next((kind for kind, each in READERS.items()
                  if each.is_one(name, b"" if is_named else data)), "script")
@@ -51,11 +48,25 @@ def wish_of(options: argparse.Namespace) -> Wish:
                    measured=measured)
 
 
+def told(options: argparse.Namespace, word: str) -> list[Opened]:
+    """What a service tells, as files. Units are asked again after a time, so that their use is
+    known, unless it is not asked for."""
+    from arbiter_host.sources.services import RunningService
+    service, times = RunningService(word), by_options.times_of(options)
+    is_once = service.kind != "systemd" or options.asked == "diff" or (
+        (options.want or "usage") not in demands.OF_USE)
+    return [(word, service.source(options.node)) for _ in looks.turns(
+        times._replace(number=1) if is_once else times)]
+
+
 def opened(options: argparse.Namespace, paths: Sequence[str]) -> list[Opened]:
-    """The files of some paths."""
-    kept: dict[str, bytes | None] = getattr(options, "kept", {})
-    return [(path, kept[path]) if path in kept else
-            (path, None if os.path.isdir(path) else plain_files.file_bytes(path)) for path in paths]
+    """The files of some paths, and what services tell."""
+    of, files = getattr(options, "kept", ([], []))
+    if of == list(paths):
+        return list(files)
+    return [file for path in paths for file in (
+        told(options, path) if table.SERVICE.match(path) else
+        [(path, None if os.path.isdir(path) else plain_files.file_bytes(path))])]
 
 
 def sources(options: argparse.Namespace, paths: Sequence[str]) -> list[list[Opened]]:

@@ -13,17 +13,18 @@ from dataclasses import dataclass, field
 from fractions import Fraction
 from typing import NamedTuple
 
-from arbiter import Host
-from arbiter_host import cgroup2, hunger, names, options, progress, safe_files, units
+from arbiter import Host, Library, Reading as RoundReading, RoundTimes
+from arbiter_host import cgroup2, hunger, names, progress, safe_files, units
 from arbiter_host.demands import Measured, Place, Reading, rise
 from arbiter_host.faults import HostFault, UsageFault, strerror
-from arbiter_host.model import MAX_DEPTH, Group, Model, checked
+from arbiter_host.model import (MAX_DEPTH, NO_POD, Group, Model, PodNames, checked,
+                                up_to_64_cpus)
 from arbiter_host.names import shown
 
 Clock = Callable[[], float]
 Sleep = Callable[[float], None]
 HOST_TREE = "/sys/fs/cgroup"
-MICROSECONDS, MAX_SECONDS = 10**6, 86400
+MICROSECONDS, MAX_SECONDS, MAX_READINGS = 10**6, 86400, 10000
 # Why nothing is known of what a group used between two looks.
 CAME, FELL, STILL = ("groups that came or went", "groups whose counters fell",
                      "groups without a new sample")
@@ -38,16 +39,20 @@ class Times(NamedTuple):
 
 def times_of(text: str) -> Times:
     """The times of `--read`, such as 10x1s. A plain number is seconds."""
-    asked = options.readings(text)
-    parsed = units.number_and_unit(asked.time)
+    count, mark, time_ = text.partition("x")
+    number = units.whole(count, 5) if count else None
+    if not mark or count and not 1 <= (number or 0) <= MAX_READINGS:
+        raise UsageFault(f"--read {shown(text)}: NxTIME, such as 10x1s, with N from 1 to"
+                         f" {MAX_READINGS}")
+    parsed = units.number_and_unit(time_)
     try:
         seconds = (parsed[0] if parsed and not parsed[1]
-                   else Fraction(units.parse_time(asked.time), MICROSECONDS))
+                   else Fraction(units.parse_time(time_), MICROSECONDS))
     except HostFault as fault:
         raise UsageFault(f"--read: {shown(fault.message)}") from fault
     if not 0 < seconds <= MAX_SECONDS:
         raise UsageFault(f"--read: a time above 0 and at most {MAX_SECONDS} seconds")
-    return Times(seconds, asked.number)
+    return Times(seconds, number)
 
 
 def turns(times: Times, clock: Clock = time.monotonic, sleep: Sleep = time.sleep,
@@ -83,6 +88,8 @@ class Look:
     # The groups that keep to CPUs of their own.
     bound: list[str] = field(default_factory=list)
     name: str = ""
+    # The folders of pods and containers that have no name of theirs.
+    unnamed: set[str] = field(default_factory=set)
 
 
 class Span(NamedTuple):
@@ -98,20 +105,12 @@ class Span(NamedTuple):
         """What it used, in thousandths of a CPU."""
         return units.thousandths_of_usage(self.risen.usage or 0, self.seconds)
 
-    def round(self, has_limit: bool) -> hunger.RoundTimes:
-        """The same for the rule of hunger."""
-        return hunger.RoundTimes(int(self.seconds * 10**9), self.risen.usage or 0,
-                            self.risen.pressure or 0, has_limit and bool(self.risen.throttled))
-
-    def is_hungry(self, has_limit: bool) -> bool:
-        return hunger.is_hungry(self.before, self.after, self.round(has_limit))
-
-    def most_wanted(self, has_limit: bool) -> Fraction | None:
-        """The most that it could have used if it is hungry, in thousandths of a CPU; None if its
-        tasks do not tell."""
-        found = self.round(has_limit)
-        most = hunger.most_wanted(self.before, self.after, found)
-        return None if most is None else max(self.used, Fraction(1000 * most, found.passed))
+    def reading(self, library: Library, host: Host, has_limit: bool) -> RoundReading:
+        """What it used and asks for, and whether it would have used more, by the library."""
+        times = RoundTimes(int(self.seconds * 10**9), self.risen.usage or 0,
+                           self.risen.pressure or 0, len(self.after),
+                           has_limit and bool(self.risen.throttled))
+        return library.reading(up_to_64_cpus(host), times, list(hunger.rises(self.before, self.after)))
 
     def measured(self, tasks: int | None) -> Measured:
         """The same as two readings."""
@@ -168,6 +167,8 @@ class Tree:
         cgroup2.check_tree(folder)
         self.top, self.host, self.depth = os.path.realpath(folder), checked(host), depth
         self.clock, self.has_threads = clock, has_threads
+        # The names of pods and containers by their folders below the top of the whole tree.
+        self.pods: Mapping[str, PodNames] | None = None
 
     def now(self) -> Fraction | None:
         """The seconds of the clock; None without one."""
@@ -178,8 +179,9 @@ class Tree:
         """A look at all groups. That at a copy is of second 0."""
         cgroup2.check_folder(self.top)
         look = Look(Fraction(0), Model(self.host, notes=cgroup2.top_notes(self.top)))
-        self.count(look, Group("."), cgroup2.reading(self.top))
-        self.add_below(look, self.top, ".", 0)
+        top = Group(".", place=self.top)
+        self.count(look, top, cgroup2.reading(self.top))
+        self.add_below(look, top, 0)
         look.at = self.now() or look.at
         return look
 
@@ -189,46 +191,67 @@ class Tree:
             key = None if self.clock is None else group.identity
             look.counted[group.path] = {key: Counted(reading, {}, self.now())}
 
-    def add_below(self, look: Look, folder: str, path: str, depth: int) -> bool:
-        """Adds the groups below a folder. Returns whether there are any."""
-        notes, raws = look.model.notes, subfolders(folder, path, look.model.notes)
+    def add_below(self, look: Look, group: Group, depth: int) -> bool:
+        """Adds the groups below one. Returns whether there are any."""
+        path, notes = group.path, look.model.notes
+        raws = subfolders(group.place, path, notes)
         if raws and depth >= self.depth:
             notes.append(f"{path}: {len(raws)} groups below it are deeper than {depth}")
             return False
-        if raws and all(cgroup2.file_text(os.path.join(folder, each), cgroup2.MARK) is None
-                        for each in raws):
-            if os.path.isdir(folder):
+        if raws and all(cgroup2.file_text(each.path, cgroup2.MARK) is None for each in raws):
+            if os.path.isdir(group.place):
                 notes.append(f"{path}: its {len(raws)} groups have no {cgroup2.MARK} (the cpu"
                              " controller is not enabled for them): it stands as one group")
             return False
         taken: set[str] = set()
-        return any([self.add(look, os.path.join(folder, raw), path, depth + 1, taken)
-                    for raw in raws])
+        return any([self.add(look, each, path, depth + 1, taken) for each in raws])
 
-    def add(self, look: Look, folder: str, above: str, depth: int, taken: set[str]) -> bool:
+    def add(self, look: Look, entry: os.DirEntry[str], above: str, depth: int,
+            taken: set[str]) -> bool:
         """Adds one group and those below it. Returns whether it was there."""
-        raw, notes = os.path.basename(folder), look.model.notes
+        raw, notes, pod = entry.name, look.model.notes, self.pod_at(look, entry.path)
+        name = names.path_name(pod[2] or ":".join(filter(None, pod)) or raw, taken)
+        group = Group(names.joined(above, name), place=entry.path, pod=pod,
+                      title="/".join(filter(None, pod)))
         try:
-            handle = os.open(folder, safe_files.FOLDER)
+            has_more = self.read(look, group, entry)
         except OSError:
             notes.append(f"{names.joined(above, shown(raw))}: gone while the tree was read")
             return False
-        name = names.path_name(raw, taken)
         taken.add(name)
-        try:
-            group = Group(names.joined(above, name), place=folder,
-                          identity=safe_files.identity_of(handle))
-            if name != raw:
-                notes.append(f"{group.path}: its name on the host is {raw!r}")
-            cgroup2.read_settings(group, handle, notes)
-            look.bound += [group.path] if cgroup2.is_bound(handle) else []
-            self.count(look, group, cgroup2.reading(handle))
-        finally:
-            os.close(handle)
+        if name != raw and pod == NO_POD:
+            notes.append(f"{group.path}: its name on the host is {raw!r}")
         look.model.add(group)
-        if not self.add_below(look, folder, group.path, depth):
+        if not has_more or not self.add_below(look, group, depth):
             self.add_tasks(look, group)
         return True
+
+    def read(self, look: Look, group: Group, entry: os.DirEntry[str]) -> bool:
+        """Reads a group. Returns whether others may be below it."""
+        handle = os.open(entry.path, safe_files.FOLDER)
+        try:
+            group.identity = safe_files.identity_of(handle)
+            cgroup2.read_settings(group, handle, look.model.notes)
+            self.measure(look, group, handle)
+        finally:
+            os.close(handle)
+        return True
+
+    def measure(self, look: Look, group: Group, handle: int) -> None:
+        """Reads what is counted of a group."""
+        look.bound += [group.path] if cgroup2.is_bound(handle) else []
+        self.count(look, group, cgroup2.reading(handle))
+
+    def pod_at(self, look: Look, folder: str) -> PodNames:
+        """The names of the pod or container that has a folder."""
+        if self.pods is None:
+            return NO_POD
+        is_part = self.top.startswith(f"{HOST_TREE}/")
+        place = os.path.relpath(folder, HOST_TREE if is_part else self.top)
+        pod, last = self.pods.get(place, NO_POD), os.path.basename(place)
+        if pod == NO_POD and (names.HEX_ID.search(last) or names.POD_ID.search(last)):
+            look.unnamed.add(place)
+        return pod
 
     def add_tasks(self, look: Look, leaf: Group) -> None:
         """Adds the number of the tasks of a leaf, and what they did."""
@@ -242,11 +265,11 @@ class Tree:
                                        in look.counted[leaf.path].items()}
 
 
-def subfolders(folder: str, path: str, notes: list[str]) -> list[str]:
-    """The names of the folders in a folder, sorted; none where it is gone."""
+def subfolders(folder: str, path: str, notes: list[str]) -> list[os.DirEntry[str]]:
+    """The folders in a folder, by name; none where it is gone."""
     try:
         with os.scandir(folder) as entries:
-            return sorted(each.name for each in entries if is_folder(each))
+            return sorted(filter(is_folder, entries), key=lambda each: each.name)
     except OSError as error:
         notes.append(f"{path}: {strerror(error)}: what is below it is left out")
         return []

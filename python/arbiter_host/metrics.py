@@ -23,7 +23,7 @@ from prometheus_client.registry import Collector
 from arbiter_host.atomic_files import CHANGED, Place, collected_folder, faults, place_of
 from arbiter_host.faults import HostFault, UsageFault, strerror
 from arbiter_host.names import shown
-from arbiter_host.top import Alert, GroupFigures
+from arbiter_host.top import POD_LABELS, Alert, GroupFigures
 
 # First lines of a file.
 MARK = "# HELP arbiter_"
@@ -55,7 +55,7 @@ HELD = {
 
 
 def gauge(name: str, words: str, values: Iterable[tuple[Sequence[str], Any]],
-          labels: Sequence[str] = ("group",)) -> GaugeMetricFamily:
+          labels: Sequence[str] = ("group", *POD_LABELS)) -> GaugeMetricFamily:
     """A gauge with labels, whose values have no control character; no sample for None."""
     family = GaugeMetricFamily(name, words, labels=labels)
     for texts, value in values:
@@ -76,11 +76,12 @@ class Figured(Collector):
     def collect(self) -> Iterable[GaugeMetricFamily]:
         figures, alerts, at = self.last
         for name, key, parts, words in GROUPS:
-            values = [((each.path,), getattr(each, key)) for each in figures]
-            yield gauge(name, words, ((path, None if value is None else value / parts)
-                                      for path, value in values))
-        yield gauge(OTHERS[0], "1 for each alert that holds.", ((each, 1) for each in alerts),
-                    ("alert", "group"))
+            values = [((each.path, *each.pod), getattr(each, key)) for each in figures]
+            yield gauge(name, words, ((labels, None if value is None else value / parts)
+                                      for labels, value in values))
+        yield gauge(OTHERS[0], "1 for each alert that holds.",
+                    (((each.condition, each.group, *each.pod), 1) for each in alerts),
+                    ("alert", "group", *POD_LABELS))
         if at:
             yield GaugeMetricFamily(OTHERS[1], "When the last round was.", value=at)
 
@@ -96,9 +97,9 @@ class Held(Collector):
         for key, words in HELD.items():
             yield gauge(f"arbiter_hold_{key}_cpus", words, (
                 ((path,), float("inf") if key == "want" and each["hungry"] else
-                 each[key] * self.one) for path, each in groups.items()))
+                 each[key] * self.one) for path, each in groups.items()), ("group",))
         yield gauge("arbiter_hold_hungry", "1 if a group would have used more in the last round.",
-                    (((path,), each["hungry"]) for path, each in groups.items()))
+                    (((path,), each["hungry"]) for path, each in groups.items()), ("group",))
         for key, name, words in (("round", "rounds", "Rounds since the loop began."),
                                  ("missed", "missed_rounds", "Rounds missed before the last one.")):
             yield GaugeMetricFamily(f"arbiter_hold_{name}", words, value=self.line[key])

@@ -20,6 +20,9 @@ MAX_PROCESSORS = 64
 MAX_CAPACITY = 64000
 MAX_GROUPS = 16384
 MAX_DEPTH = 64
+# Namespace, pod and container of a group; empty where it is of none.
+PodNames = tuple[str, str, str]
+NO_POD = ("", "", "")
 # Periods of measured use, the one with the finest slices first.
 FINE = (units.MAX_PERIOD, 500000, 200000)
 
@@ -38,12 +41,14 @@ def checked(host: Host) -> Host:
     return host
 
 
-def fine(host: Host) -> Host:
+def fine(host: Host, sample: int = 0) -> Host:
     """A host of as many CPUs with slices of 1 ms and a period of 1 s, or else the longest that can
-    be planned. Use is in microseconds: a slice of 10m would hide what is below it."""
+    be planned and divides a sample of so many microseconds. Use is in microseconds: a slice of 10m
+    would hide what is below it."""
     for period in FINE:
         with suppress(HostFault):
-            return checked(Host(host.processors, period, 1000))
+            if sample % period == 0:
+                return checked(Host(host.processors, period, 1000))
     return host
 
 
@@ -66,6 +71,11 @@ def planned(host: Host) -> Host:
                     " CPUs and at most 1000 slices: another slice has such a number", 2)
 
 
+def up_to_64_cpus(host: Host) -> Host:
+    """A host for calls whose answer depends on its period and slice alone, or on 64 CPUs at most."""
+    return replace(host, processors=min(host.processors, MAX_PROCESSORS))
+
+
 @dataclass(slots=True)
 class Group:
     """One group below the root. Its quota, period and burst are microseconds.
@@ -75,7 +85,8 @@ class Group:
     slices. `title` is a name for people. `place` is the group's folder on its host, absolute or
     below the top of the tree. It is `names.NOWHERE` where that is not known, and empty where the
     path says it. `identity` is the device and inode of the folder that it was read from. `request`
-    is in thousandths of a CPU, and None where the source has none.
+    is in thousandths of a CPU, and None where the source has none. `pod` has namespace, pod and
+    container as Kubernetes names them.
     """
 
     path: str
@@ -90,6 +101,7 @@ class Group:
     place: str = ""
     identity: tuple[int, int] | None = None
     request: Fraction | None = None
+    pod: PodNames = NO_POD
 
     @property
     def usable(self) -> Fraction:
@@ -180,10 +192,14 @@ def bound_notes(paths: Sequence[str]) -> list[str]:
             " leave idle does not reach it"] if paths else []
 
 
+class TooMany(HostFault):
+    """More groups than the planner takes."""
+
+
 def check_count(many: int, what: str) -> None:
     """A fault where so many groups below the root are more than the planner takes."""
     if many >= MAX_GROUPS:
-        raise HostFault(f"{what}: more than {MAX_GROUPS} groups with the root")
+        raise TooMany(f"{what}: more than {MAX_GROUPS} groups with the root")
 
 
 def check_settings(group: Group) -> None:

@@ -177,7 +177,6 @@ def few(words: Sequence[str], most: int = 5) -> str:
 
 
 def joined(parent: str, name: str) -> str:
-    """The path of a child."""
     return name if parent == "." else f"{parent}/{name}"
 
 
@@ -187,7 +186,6 @@ def parent_path(path: str) -> str:
 
 
 def last_name(path: str) -> str:
-    """The last name of a path."""
     return path.rpartition("/")[2]
 
 

@@ -9,14 +9,14 @@ an option that was given and has no effect on such a source is refused with stat
 The dests, where they differ from the long flag: `kind` (--from), `used` (a list), `node_weights`,
 `group` (a list), `namespace` (a list), `selector` (a list), `output` (a list of FORM[=FILE], see
 `outputs`), `everything` (--all), `set` (a list), `goal` (a list), `pod` (a list), `map` and `scale`
-(lists). `read` is text, see `readings`. Amounts, times and percentages are text too.
+(lists). Amounts, times, readings and percentages are text.
 """
 from __future__ import annotations
 
 import argparse
 import os
 import re
-from collections.abc import Mapping
+from collections.abc import Collection, Mapping
 from typing import Any, NamedTuple
 
 from arbiter_host.faults import UsageFault
@@ -34,7 +34,9 @@ UNITS = ("cpu", "m", "%", "slices", "us")
 NODE_WEIGHTS = ("linear", "log", "runtime-log")
 RANKS = ("least-loss", "most-left")
 WAYS = ("systemd", "persistent", "files")
-MAX_DEPTH, MAX_READINGS = 64, 10000
+MAX_DEPTH = 64
+# The word of a running service.
+SERVICE = re.compile("(k8s|docker|podman|systemd)://")
 
 # The forms that each subcommand writes. The first is the one without -o.
 FORMS: dict[str, tuple[str, ...]] = {
@@ -47,7 +49,7 @@ FORMS: dict[str, tuple[str, ...]] = {
     "place": ("text", "json", "html"),
     "export": ("script", "toml", "json"),
     "audit": ("text", "json", "html"),
-    "apply": ("text", "kubectl", "dropin", "compose", "shell", "slurm"),
+    "apply": ("text", "kubectl", "dropin", "compose", "slurm"),
     "hold": ("json", "openmetrics"),
 }
 # Forms that list groups.
@@ -230,11 +232,15 @@ TABLE = (
                                " -A --containers` prints it, a tree of cgroups, or the address of a"
                                " Prometheus",
                   "audit": "the address of the Prometheus that knows what the groups used"}),
+    Option(("--pods",), "pods", "source", ("top",), "the pods whose groups a tree has, so that"
+           " these have their names: what `kubectl get pods -A -o json` prints, or k8s://",
+           "FILE", is_many=True, kinds=("cgroup",)),
     Option(("--range",), "range", "source", DEMAND, "the time that is asked of a Prometheus: 7d up"
-           " to now, or START/END as epochs or RFC 3339 (default 1d)", "TIME", kinds=(),
-           used=("url",)),
+           " to now, or START/END as epochs or RFC 3339 (default 1d, of recommend 14d)", "TIME",
+           kinds=(), used=("url",)),
     Option(("--step",), "step", "source", DEMAND, "time between two samples of a Prometheus, such"
-           " as 5m (default 1m)", "TIME", kinds=(), used=("url",), kinds_of={"replay": ALL},
+           " as 5m (default 1m, more for more than 3d)", "TIME", kinds=(), used=("url",),
+           kinds_of={"replay": ALL},
            helps={"replay": "how long a sample lasts, such as 5m (default: one period; of a"
                             " Prometheus 1m)"}),
     Option(("--query",), "query", "source", DEMAND, "what is asked of a Prometheus (default: the"
@@ -270,13 +276,6 @@ class Output(NamedTuple):
 
     form: str
     path: str
-
-
-class Readings(NamedTuple):
-    """How often a tree is read, None for ever, and the time from one reading to the next."""
-
-    number: int | None
-    time: str
 
 
 def of(subcommand: str) -> list[Option]:
@@ -336,10 +335,10 @@ def check(options: argparse.Namespace, kind: str) -> None:
         raise UsageFault(f"{each.name}: it has no effect on {source}")
 
 
-def outputs(options: argparse.Namespace) -> list[Output]:
+def outputs(options: argparse.Namespace, among: Collection[str] = ()) -> list[Output]:
     """The forms and files that are asked for, at most one on standard output. A fault where an
-    option was given that shows in none of them."""
-    forms = FORMS[options.asked]
+    option was given that shows in none of them. `among` leaves some forms alone."""
+    forms = [each for each in FORMS[options.asked] if not among or each in among]
     named = []
     for word in options.output or [forms[0]]:
         form, mark, path = word.partition("=")
@@ -354,12 +353,3 @@ def outputs(options: argparse.Namespace) -> list[Output]:
         if option.dest in options.given and option.forms and not {*asked} & {*option.forms}:
             raise UsageFault(f"{option.name}: it has no effect on -o {' and '.join(asked)}")
     return named
-
-
-def readings(text: str) -> Readings:
-    """The number of readings and their time, from `10x1s` or `x1s`."""
-    match = re.fullmatch(r"([0-9]{1,5})?x(.+)", text)
-    if not match or match.group(1) and not 1 <= int(match.group(1)) <= MAX_READINGS:
-        raise UsageFault(f"--read {shown(text)}: NxTIME, such as 10x1s, with N from 1 to"
-                         f" {MAX_READINGS}")
-    return Readings(int(match.group(1)) if match.group(1) else None, match.group(2))

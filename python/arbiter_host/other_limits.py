@@ -17,7 +17,7 @@ from arbiter_host.faults import HostFault
 from arbiter_host.goals import NEEDED, Goals, NewSetting, Way
 from arbiter_host.model import Model
 from arbiter_host.owned import Owned, Setting
-from arbiter_host.plan import Plan, Planned, payers
+from arbiter_host.plan import Plan, Planned
 from arbiter_host.tune_weights import LEAST, by_weights, own_weights
 
 # At most so many limits are lowered.
@@ -148,34 +148,21 @@ class Lowering:
         return [NewSetting(cap.path, cap.key, cap.now, cap.written(limits[place]))
                 for place, cap in enumerate(self.caps) if place in limits]
 
-    def cost(self, limits: Limits) -> int:
-        """The slices that other groups lose by some limits."""
-        return sum(lost for _, lost in payers(self.goals.before, self.limited(limits).before))
-
     def lowered(self, meets: Meets) -> Limits | None:
         """Limits with which goals are met; None where none are found.
 
-        All get one level where they can. Then each is raised as far as the goals allow. None of
-        them can be left out. Fewer limits are taken where they cost the other groups no more.
+        All get the highest level that meets the goals. Then each is raised as far as they allow.
+        None of them can be left out.
         """
         least = {place: cap.least for place, cap in enumerate(self.caps)}
         if not least or not meets(least):
             return None
-        even = self.at_one_level(least, meets)
-        many = search.least(1, len(least), lambda many: meets(
-            {place: least[place] for place in range(many)}))
-        few = self.at_one_level(without_needless(
-            {place: least[place] for place in range(many)}, meets), meets)
-        return few if len(few) < len(even) and self.cost(few) <= self.cost(even) else even
 
-    def at_one_level(self, places: Limits, meets: Meets) -> Limits:
-        """The limits of some caps, with whose least ones goals are met: at the highest level, then
-        each as high as it can be."""
         def at_most(level: int) -> Limits:
-            return {place: min(max(level, self.caps[place].least), self.caps[place].most)
-                    for place in places}
+            return {place: min(max(level, cap.least), cap.most)
+                    for place, cap in enumerate(self.caps)}
 
-        top = max(self.caps[place].most for place in places)
+        top = max(cap.most for cap in self.caps)
         lost = search.least(0, top, lambda lost: meets(at_most(top - lost)))
         limits = without_needless(at_most(top - lost), meets)
         most = {place: self.caps[place].most for place in limits}

@@ -36,12 +36,8 @@ def emit_styled(lines: Styled) -> None:
     if sys.stdout is None or not sys.stdout.isatty() or "NO_COLOR" in os.environ:
         emit("".join(f"{line}\n" for line, _ in lines))
         return
-    try:
-        from rich.console import Console
-        from rich.text import Text
-    except ModuleNotFoundError:
-        emit("".join(f"{line}\n" for line, _ in lines))
-        return
+    from rich.console import Console  # (no other form needs it)
+    from rich.text import Text
     console = Console(file=sys.stdout, highlight=False, soft_wrap=True)
     for line, style in lines:
         console.print(Text(line, style=style))

@@ -75,6 +75,8 @@ class Owned:
 
     # Factors of demands, as --scale has them.
     scales: tuple[str, ...] = field(default=(), kw_only=True)
+    # What was seen of groups that are gone or on other hosts, each with what makes it.
+    elsewhere: tuple[tuple[str, Use], ...] = field(default=(), kw_only=True)
 
     # The settings that weigh a group and that limit it, and what has them.
     keys = ("request", "limit")
@@ -153,8 +155,8 @@ class Owned:
         return path
 
     def owner(self, path: str) -> str:
-        """What makes a group: all that one has made have the same settings."""
-        return path
+        """What makes a group, for people: all that one has made have the same settings."""
+        return self.title(path)
 
     def now(self, path: str) -> Amounts:
         """The request and the limit of a group; None where it has none, or is not told of one."""

@@ -57,7 +57,6 @@ def unknown_of(model: Model) -> str:
 
 
 def leaves(model: Model) -> list[Group]:
-    """The groups without children."""
     below = model.children()
     return [group for path, group in model.groups.items() if not below[path]]
 

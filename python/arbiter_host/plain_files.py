@@ -12,7 +12,7 @@ from typing import BinaryIO
 from arbiter_host import atomic_files, names
 from arbiter_host.faults import HostFault, strerror
 
-MAX_FILE = 512 << 20
+MAX_FILE = 256 << 20
 TOO_LONG = f"more than {MAX_FILE >> 20} MiB"
 PIECE = 1 << 20
 # The first bytes of packed files, and what unpacks these.

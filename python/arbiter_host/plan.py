@@ -16,8 +16,9 @@ from typing import NamedTuple
 import arbiter
 from arbiter import (Certificate, Columns, Counters, Figures, Host, Kind, Library, Refused, Row,
                      Unavailable)
-from arbiter_host import progress, units
+from arbiter.c import NO_LIMIT
 from arbiter.found import TO_DO
+from arbiter_host import progress, units
 from arbiter_host.faults import HostFault, NoLibrary
 from arbiter_host.model import Group, Model, checked, planned
 from arbiter_host.names import last_name, short, shown
@@ -59,19 +60,12 @@ class Engine:
     def __init__(self, library: Library) -> None:
         self.library = library
 
-    def plan(self, host: Host, rows: Sequence[Row]) -> Answer:
-        """A plan that the proved check accepted."""
+    def plan(self, host: Host, rows: Sequence[Row] | Columns) -> Answer:
+        """A plan that the proved check accepted for these rows."""
+        host = planned(host)
         with asking("no plan"):
             columns = Columns.of(rows)
-            amounts, certificate = self.library.certify(planned(host), columns)
-        return self.accepted(host, columns, amounts, certificate)
-
-    def accepted(self, host: Host, columns: Columns, amounts: Sequence[int],
-                 certificate: Certificate) -> Answer:
-        """The answer of a certificate that the proved check accepts for these rows."""
-        host = planned(host)
-        # The check reads the memory that is answered, after whatever wrote it has ended.
-        amounts = list(amounts)
+            amounts, certificate = self.library.certify(host, columns)
         with asking("the check refused the plan"):
             self.library.check(host, columns, amounts, certificate)
         with asking("what limits the total"):
@@ -180,7 +174,6 @@ class Plan:
 
     @property
     def root(self) -> Planned:
-        """The host itself."""
         return self.groups[0]
 
     @property
@@ -225,9 +218,9 @@ class Plan:
             return self.engine.library.reasons(planned(self.model.host), self.columns)
 
     @functools.cached_property
-    def explanations(self) -> dict[int, Explanation]:
-        """The reasons in words that were asked for, by row."""
-        return {}
+    def explanations(self) -> list[Explanation]:
+        """The reason of each group in words."""
+        return [explained(self, group) for group in self.groups]
 
     def guaranteed(self, row: int) -> int:
         """What a group gets whatever the groups that are not under it ask for, in slices."""
@@ -235,9 +228,6 @@ class Plan:
             return self.engine.library.guarantee(planned(self.model.host), self.columns, row)
 
     def reason(self, group: Planned) -> Explanation:
-        """The reason of a group in words. Each answer asks for it several times."""
-        if group.row not in self.explanations:
-            self.explanations[group.row] = explained(self, group)
         return self.explanations[group.row]
 
 
@@ -281,13 +271,16 @@ def walk(tops: Sequence[Planned], below: Callable[[Planned], Sequence[Planned]] 
         waiting += reversed(below(group))
 
 
-def planned_of(rows: Sequence[Row], model: Model, answer: Answer) -> list[Planned]:
+def planned_of(model: Model, answer: Answer) -> list[Planned]:
     entries: list[tuple[str, Group | None]] = [(".", None), *model.groups.items()]
-    figures = answer.figures
-    groups = [Planned(place, path, row.parent, row.weight, row.limit, row.demand, gets, group,
-                      want, bool(tight), active_weight, active)
-              for place, ((path, group), row, gets, want, tight, active_weight, active)
-              in enumerate(zip(entries, rows, answer.amounts, figures.wants, figures.tights,
+    rows, figures = answer.columns, answer.figures
+    groups = [Planned(place, path, parent if place else None, weight,
+                      None if limit == NO_LIMIT else limit, demand, gets, group, want, bool(tight),
+                      active_weight, active)
+              for place, ((path, group), parent, weight, limit, demand, gets, want, tight,
+                          active_weight, active)
+              in enumerate(zip(entries, rows.parents, rows.weights, rows.limits, rows.demands,
+                               answer.amounts, figures.wants, figures.tights,
                                figures.active_weights, figures.actives))]
     groups[0].limit = model.host.capacity
     for group in groups[1:]:
@@ -297,11 +290,15 @@ def planned_of(rows: Sequence[Row], model: Model, answer: Answer) -> list[Planne
     return groups
 
 
+def plan_of(engine: Engine, model: Model, rows: Sequence[Row] | Columns) -> Plan:
+    """The plan of the rows of a model, accepted by the proved check."""
+    answer = engine.plan(checked(model.host), rows)
+    return Plan(model, planned_of(model, answer), answer, engine)
+
+
 def plan(engine: Engine, model: Model) -> Plan:
     """The plan of the next period of a model, accepted by the proved check."""
-    rows = model.rows(engine.library)
-    answer = engine.plan(checked(model.host), rows)
-    return Plan(model, planned_of(rows, model, answer), answer, engine)
+    return plan_of(engine, model, model.rows(engine.library))
 
 
 def guarantees(before: Plan, chosen: Sequence[Planned]) -> list[int]:

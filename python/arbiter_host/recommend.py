@@ -9,7 +9,7 @@ from __future__ import annotations
 
 import math
 import re
-from collections.abc import Mapping, Sequence, Set
+from collections.abc import Iterable, Mapping, Sequence, Set
 from dataclasses import dataclass
 from fractions import Fraction
 from typing import Any, NamedTuple
@@ -19,10 +19,8 @@ from arbiter_host.demands import Use
 from arbiter_host.faults import HostFault, NothingFound, UsageFault
 from arbiter_host.model import Model
 from arbiter_host.owned import Amounts, Owned, Setting
-from arbiter_host.plan import Engine, Plan, Planned, guarantees, plan
-from arbiter_host.sources import usage
-from arbiter_host.sources.samples import History
-from arbiter_host.sources.used import span
+from arbiter_host.plan import Engine, Plan, guarantees, plan
+from arbiter_host.sources.usage import Used, some
 
 # The least request that is proposed, in thousandths of a CPU, as krr has it.
 LEAST = 10
@@ -43,26 +41,48 @@ class Rule:
         """The place of the percentile among so many samples in order, from 1 on."""
         return max(math.ceil(count * self.percent / 100), 1)
 
+    def words(self, count: int) -> str:
+        """What the percentile is of so many samples."""
+        if count == 1:
+            return "the one that there is"
+        rank = self.rank(count)
+        return f"the greatest of {count}" if rank == count else f"number {rank} of {count} in order"
+
     def with_headroom(self, used: Fraction) -> int:
         """Whole thousandths of a use with the headroom, rounded up."""
         return max(math.ceil(used * (1 + self.headroom)), LEAST)
 
 
+class SeenHost(NamedTuple):
+    """One host: its model, what was seen of its groups, and those that are chosen; None for all."""
+
+    model: Model
+    uses: Mapping[str, Use]
+    chosen: Set[str] | None = None
+
+    @property
+    def kind(self) -> Owned:
+        return owned_of(self.model)
+
+
 @dataclass(frozen=True)
 class Proposal:
-    """What a container used, and what it requests and may use now and then, in thousandths."""
+    """What the groups of one owner used, and what each requests and may use now and then, in
+    thousandths."""
 
-    path: str
     title: str
     used: Fraction
     use: Use
     now: Amounts
-    # Without a limit it keeps its own.
+    # Without a limit they keep their own.
     then: Amounts
-    # The settings as people write them: what weighs it and what limits it, now.
+    # The settings as people write them: what weighs a group and what limits it, now.
     words: tuple[str, str]
-    # The changes that make the proposal.
-    settings: tuple[Setting, ...]
+    # The groups by the numbers of their hosts, their names for people, and the changes that make
+    # the proposal.
+    groups: tuple[tuple[int, str], ...]
+    titles: tuple[str, ...]
+    settings: tuple[tuple[int, Setting], ...]
 
     @property
     def most(self) -> Fraction:
@@ -71,6 +91,17 @@ class Proposal:
     @property
     def is_throttled(self) -> bool:
         return self.use.wanted > 0
+
+    @property
+    def values(self) -> dict[str, str]:
+        """The values that change, by their keys."""
+        return {each.key: each.value for _, each in self.settings}
+
+    @property
+    def words_of_set(self) -> list[str]:
+        """The changes as `--set` takes them."""
+        titles = dict(zip(self.groups, self.titles))
+        return [f"{titles[at, each.path]}.{each.key}={each.value}" for at, each in self.settings]
 
     @property
     def data(self) -> dict[str, Any]:
@@ -85,14 +116,29 @@ class Proposal:
                                 "limit_millicpu": self.then.limit}}
 
 
+class Outcome(NamedTuple):
+    """What a group gets before and after, what it wants and is guaranteed then, in thousandths."""
+
+    gets_now: Fraction
+    gets: Fraction
+    wants: Fraction
+    guaranteed: Fraction
+
+
 class Advised(NamedTuple):
-    """A proposal, its group in the plans before and after, and what that is guaranteed then, in
-    slices."""
+    """A proposal, and what comes of it: the least that one of its groups gets."""
 
     proposal: Proposal
-    before: Planned
-    after: Planned
-    guaranteed: int
+    outcomes: Sequence[Outcome]
+
+    @property
+    def least(self) -> Outcome:
+        return Outcome(*(min(each) for each in zip(*self.outcomes)))
+
+    @property
+    def is_short(self) -> bool:
+        """Whether one of its groups gets less than it wants."""
+        return any(each.gets < each.wants for each in self.outcomes)
 
 
 @dataclass(frozen=True)
@@ -101,9 +147,9 @@ class Recommendation:
 
     rule: Rule
     rows: tuple[Advised, ...]
-    before: Plan
-    after: Plan
-    # Thousandths that all pods request before and after, and that the node has for them.
+    # The plans of each host before and after.
+    plans: tuple[tuple[Plan, Plan], ...]
+    # Thousandths that all pods request before and after, and that their nodes have for them.
     requests: tuple[int, int] | None
     allocatable: int | None
     # What is proposed to, and the settings that weigh it and that limit it.
@@ -112,15 +158,15 @@ class Recommendation:
 
     @property
     def percentile(self) -> str:
-        """What the percentile is of so many samples, the fewest and the most of a group."""
+        """What the percentile is of so many samples, the fewest and the most of a row."""
         counts = sorted({len(each.proposal.use.values) for each in self.rows})
         spans = [each.proposal.use.span or 0 for each in self.rows]
         many = " to ".join(map(str, dict.fromkeys([counts[0], counts[-1]])))
-        over = f" over {span_words(max(spans))}" if max(spans) else ""
-        ranks = [self.rule.rank(count) for count in (counts[0], counts[-1])]
-        whole = [rank == count for rank, count in zip(ranks, (counts[0], counts[-1]))]
-        means = ("the one that there is" if counts[-1] == 1 else "the greatest of them"
-                 if all(whole) else f"number {ranks[-1]} of {counts[-1]} in order")
+        is_one = all(len(each.proposal.use.values) == each.proposal.use.groups
+                     for each in self.rows) and counts[-1] > 1
+        over = (" of one moment" if is_one else f" over {span_words(max(spans))}" if max(spans)
+                else "")
+        means = " to ".join(dict.fromkeys(map(self.rule.words, (counts[0], counts[-1]))))
         return (f"p{self.rule.percent} of {many} sample{'s' if counts[-1] > 1 else ''}{over}"
                 f" is {means}")
 
@@ -154,57 +200,76 @@ def rule_of(target: str, headroom: str) -> Rule:
     return Rule(percents[0], parsed[0] / 100, *percents[1:])
 
 
-def of_history(model: Model, history: History, unit: str,
-               mapping: Mapping[str, str]) -> tuple[dict[str, Use], list[str]]:
-    """The use of each group in samples, and what is told of columns of no one group.
-
-    An empty cell is no sample.
-    """
-    kind, values = owned_of(model), dict[str, list[tuple[str, Fraction]]]()
-    missing, samples = [], [(each.name, each.demands(unit, model.host))
-                            for each in history.samples]
-    for column in history.columns:
-        paths = kind.named(mapping.get(column, column))
+def of_entries(kind: Owned, entries: Iterable[Used]) -> tuple[dict[str, Use], list[str]]:
+    """What others measured of groups, and what is told of entries of no one group."""
+    uses, missing = dict[str, Use](), list[str]()
+    for entry in entries:
+        paths = kind.named(entry.word)
         if len(paths) != 1:
-            missing.append(names.shown(column) + (f" ({len(paths)} {kind.noun}s)" if paths else ""))
-            continue
-        if paths[0] in values:
-            raise HostFault(f"column {names.shown(column)}: another one is of the same"
-                            f" {kind.noun}")
-        values[paths[0]] = [(name, each[column]) for name, each in samples if column in each]
-    told = [f"columns of no {kind.noun} here, {usage.some(missing)}"] if missing else []
-    return {path: Use(tuple(demand for _, demand in each), span=span(each[0][0], each[-1][0]))
-            for path, each in values.items() if each}, told
+            missing.append(entry.title + (f" ({len(paths)} {kind.noun}s)" if paths else ""))
+        elif paths[0] in uses:
+            raise HostFault(f"{entry.title}: another one is of the same {kind.noun}")
+        else:
+            uses[paths[0]] = Use(entry.amounts, times=entry.times)
+    return uses, [f"used by no {kind.noun} here, {some(missing)}"] if missing else []
 
 
-def proposal(kind: Owned, path: str, use: Use, rule: Rule) -> Proposal:
-    """The request of one group, and a limit where limits are asked for, it has one, and it was seen
-    more than once. Else it keeps its own, and requests no more than that.
+def distinct(words: Iterable[str]) -> str:
+    """Words, each once."""
+    return ", ".join(dict.fromkeys(words))
+
+
+def proposal(title: str, hosts: Sequence[SeenHost], groups: Sequence[tuple[int, str]], use: Use,
+             rule: Rule) -> Proposal:
+    """The request of the groups of one owner, and a limit where limits are asked for, they have
+    one, and each was seen more than once. Else they keep their own, and request no more than that.
 
     In a guaranteed pod the request is the limit, so that its class stays.
     """
-    now, used, limit = kind.now(path), demands.percentile(use.values, rule.percent), None
+    kinds = [(hosts[at].kind, path) for at, path in groups]
+    now = Amounts(max(filter(None, (kind.now(path).request for kind, path in kinds)), default=None),
+                  min(filter(None, (kind.now(path).limit for kind, path in kinds)), default=None))
+    used, limit = demands.percentile(use.values, rule.percent), None
     request = rule.with_headroom(used)
     if now.limit is not None and rule.limit and len(use.values) > use.groups:
         greatest = max(demands.percentile(use.values, rule.limit), use.wanted)
         limit = max(rule.with_headroom(greatest), request)
     most = now.limit if limit is None else limit
     if most is not None:
-        request = most if kind.is_guaranteed(path) else min(request, most)
-    then, words = Amounts(request, limit), kind.words(path)
-    return Proposal(path, kind.title(path), used, use, now, then, words, tuple(
-        each for each in kind.settings(path, then)
-        if each.value != words[kind.keys.index(each.key)]))
+        is_guaranteed = any(kind.is_guaranteed(path) for kind, path in kinds)
+        request = most if is_guaranteed else min(request, most)
+    words = [kind.words(path) for kind, path in kinds]
+    then, keys = Amounts(request, limit), kinds[0][0].keys
+    return Proposal(
+        title, used, use, now, then,
+        (distinct(one for one, _ in words), distinct(two for _, two in words)), tuple(groups),
+        tuple(kind.title(path) for kind, path in kinds), tuple(
+            (at, each) for (at, path), (kind, _), own in zip(groups, kinds, words)
+            for each in kind.settings(path, then) if each.value != own[keys.index(each.key)]))
 
 
-def by_owner(kind: Owned, uses: Mapping[str, Use]) -> dict[str, Use]:
-    """The use of each group of whose owner something was seen: all that was seen of the owner's, so
-    that they have one proposal."""
+def by_owner(hosts: Sequence[SeenHost]) -> dict[str, Use]:
+    """All that was seen of each owner's groups, so that they have one proposal."""
     owners: dict[str, list[Use]] = {}
-    for path, use in uses.items():
-        owners.setdefault(kind.owner(path), []).append(use)
-    whole = {owner: demands.together(each) for owner, each in owners.items()}
-    return {path: whole[owner] for path in kind.own if (owner := kind.owner(path)) in whole}
+    for host in hosts:
+        for path, use in host.uses.items():
+            owners.setdefault(host.kind.owner(path), []).append(use)
+        for owner, use in host.kind.elsewhere:
+            owners.setdefault(owner, []).append(use)
+    return {owner: demands.together(each) for owner, each in owners.items()}
+
+
+def groups_of(hosts: Sequence[SeenHost], seen: Set[str]) -> dict[str, list[tuple[int, str]]]:
+    """The groups of each owner of which something was seen and one is chosen."""
+    owners: dict[str, list[tuple[int, str]]] = {}
+    chosen = set()
+    for at, host in enumerate(hosts):
+        for path in host.kind.own:
+            owner = host.kind.owner(path)
+            if owner in seen:
+                owners.setdefault(owner, []).append((at, path))
+                chosen |= {owner} if host.chosen is None or path in host.chosen else set()
+    return {owner: each for owner, each in owners.items() if owner in chosen}
 
 
 def asking(model: Model, asked: Sequence[Fraction | None]) -> Model:
@@ -214,48 +279,67 @@ def asking(model: Model, asked: Sequence[Fraction | None]) -> Model:
     return model
 
 
-def recommended(engine: Engine, model: Model, uses: Mapping[str, Use], rule: Rule,
-                paths: Set[str] | None = None) -> Recommendation:
-    """The proposals for the groups of some paths of which something was seen; None for all."""
-    kind = owned_of(model)
-    if not uses:
+def compared(engine: Engine, host: SeenHost, whole: Mapping[str, Use], rule: Rule,
+             settings: Sequence[Setting]) -> tuple[Plan, Plan]:
+    """The plans of a host before and after, in which each group asks for what its owner's used at
+    the percentile."""
+    kind, asked = host.kind, list[Fraction | None]()
+    for path in host.model.groups:
+        use = whole.get(kind.owner(path)) if kind.has(path) else None
+        asked.append(demands.percentile(use.values, rule.percent) if use else None)
+    changed = kind.changed(settings).model()
+    return (plan(engine, asking(host.model.copy(), asked)),
+            plan(engine, asking(changed, asked)))
+
+
+def outcomes(before: Plan, after: Plan, paths: Sequence[str]) -> dict[str, Outcome]:
+    """What comes of a change for some groups, which may move, by their paths before."""
+    rows = before.by_path()
+    then = [after.groups[rows[path].row] for path in paths]
+    return {path: Outcome(before.thousandths(rows[path].gets), after.thousandths(group.gets),
+                          after.thousandths(group.want), after.thousandths(owed))
+            for path, group, owed in zip(paths, then, guarantees(after, then))}
+
+
+def recommended(engine: Engine, hosts: Sequence[SeenHost], rule: Rule) -> Recommendation:
+    """The proposals for the owners of chosen groups of which something was seen."""
+    kind, whole = hosts[0].kind, by_owner(hosts)
+    if not whole:
         raise HostFault(f"nothing was seen of any {kind.noun} here: --used says what they used")
-    whole = by_owner(kind, uses)
-    own = [path for path in model.groups if path in whole and (paths is None or path in paths)]
-    if not own:
+    owners = groups_of(hosts, whole.keys())
+    if not owners:
         raise NothingFound(f"nothing was seen of any {kind.noun} that is chosen")
-    proposals = [proposal(kind, path, whole[path], rule) for path in own]
-    changed = kind.changed([each for one in proposals for each in one.settings]).model()
-    asked = [demands.percentile(uses[path].values, rule.percent) if path in uses else None
-             for path in model.groups]
-    before = plan(engine, asking(model.copy(), asked))
-    after = plan(engine, asking(changed, asked))
-    chosen = [(was, then) for was, then in zip(before.groups, after.groups) if was.path in set(own)]
-    owed = guarantees(after, [then for _, then in chosen])
-    totals, then = kind.totals(), owned_of(changed).totals()
+    proposals = [proposal(owner, hosts, groups, whole[owner], rule)
+                 for owner, groups in owners.items()]
+    own: dict[int, list[str]] = {}
+    for at, path in (group for one in proposals for group in one.groups):
+        own.setdefault(at, []).append(path)
+    plans = {at: compared(engine, hosts[at], whole, rule, [
+        each for one in proposals for of, each in one.settings if of == at]) for at in own}
+    found = {at: outcomes(*plans[at], paths) for at, paths in own.items()}
+    totals = [(hosts[at].kind.totals(), owned_of(after.model).totals())
+              for at, (_, after) in plans.items()]
+    known = [(now, then) for now, then in totals if now and then]
+    room = [most for (_, most), _ in known if most is not None]
     return Recommendation(
-        rule, tuple(Advised(each, *groups, slices) for each, groups, slices in zip(
-            proposals, chosen, owed)), before, after,
-        (totals[0], then[0]) if totals and then else None, totals[1] if totals else None,
-        kind.noun, kind.keys)
+        rule, tuple(Advised(one, [found[at][path] for at, path in one.groups])
+                    for one in proposals), tuple(plans.values()),
+        (sum(now for (now, _), _ in known), sum(then for _, (then, _) in known))
+        if known else None, sum(room) if len(room) == len(plans) else None, kind.noun, kind.keys)
 
 
 def as_data(advice: Recommendation) -> dict[str, Any]:
     """The recommendation as data. Amounts are thousandths of a CPU."""
     requests, rows = advice.requests or (None, None), []
-    for one, was, group, owed in advice.rows:
-        then = {each.key: each.value for each in one.settings}
+    for each in advice.rows:
+        one, least = each.proposal, each.least._asdict()
+        amounts: dict[str, Any] = {f"{key}_millicpu": float(least[key]) for key in least}
         rows.append({
-            advice.noun: one.title, **one.data,
-            "gets_now_millicpu": advice.before.millicpu(was.gets),
-            "gets_millicpu": advice.after.millicpu(group.gets),
-            "wants_millicpu": advice.after.millicpu(group.want),
-            "guaranteed_millicpu": advice.after.millicpu(owed),
-            "set": [f"{one.title}.{key}={value}" for key, value in then.items()],
-            "settings": {key: {"now": now, "then": then.get(key)}
+            advice.noun: one.title, **one.data, "groups": list(one.titles), **amounts,
+            "set": one.words_of_set,
+            "settings": {key: {"now": now, "then": one.values.get(key)}
                          for key, now in zip(advice.keys, one.words)}})
     return {"percent": advice.rule.percent, "headroom": float(advice.rule.headroom),
-            "percentile": advice.percentile,
-            "engine": advice.after.by, "requests_millicpu": requests[0],
-            "recommended_requests_millicpu": requests[1],
+            "percentile": advice.percentile, "engine": advice.plans[0][1].by,
+            "requests_millicpu": requests[0], "recommended_requests_millicpu": requests[1],
             "allocatable_millicpu": advice.allocatable, f"{advice.noun}s": rows}

@@ -9,8 +9,9 @@ import fcntl
 import os
 import shlex
 import time
-from contextlib import ExitStack, suppress
+from contextlib import ExitStack
 from dataclasses import replace
+from typing import NamedTuple
 
 from arbiter_host.atomic_files import FLAGS, faults, own_folder, place_of
 from arbiter_host.faults import HostFault
@@ -20,8 +21,8 @@ FOLDER = "/run/arbiter"
 LOCK = "hold.lock"
 # Number of tries of a lock, and the seconds between.
 TURNS, PATIENCE = 5, 0.1
-# Bytes of the path of a tree.
-MOST_TOP = 4096
+# Bytes of two paths.
+MOST_TEXT = 2 * 4096
 
 
 def locked(file: int, how: int) -> bool:
@@ -42,9 +43,29 @@ def locked_soon(file: int) -> bool:
     return False
 
 
-def lock(path: str, top: str = "") -> list[int]:
+class LastLoop(NamedTuple):
+    """What the file of a lock tells of the last loop: the top of its tree, and its undo file."""
+
+    top: str
+    undo: str = ""
+
+
+def told(file: int) -> LastLoop:
+    """What the file of a lock tells."""
+    return LastLoop(*os.fsdecode(os.pread(file, MOST_TEXT, 0)).split("\0")[:2])
+
+
+def check_gone(undo: str) -> None:
+    """A fault where there is an undo file. The name may be taken by a link that leads nowhere."""
+    if os.path.lexists(undo):
+        raise HostFault(f"the undo file {shown(undo)}: File exists; nothing is changed. If a loop"
+                        f" was killed: arbiterctl undo {shlex.quote(undo)} --yes, and remove it"
+                        " then")
+
+
+def lock(path: str, top: str = "", undo: str = "") -> list[int]:
     """Locks a folder against a second loop. The lock stands while the descriptors are open. Its
-    file has the top of the tree that is held."""
+    file tells of the loop. A fault where the last one was killed, and is not undone."""
     name = os.path.join(path, LOCK)
     with ExitStack() as opened:
         folder = own_folder(path)
@@ -54,21 +75,22 @@ def lock(path: str, top: str = "") -> list[int]:
             opened.callback(os.close, file)
             if not locked_soon(file):
                 raise HostFault(f"{shown(name)}: another loop holds this host; nothing is changed")
+            check_gone(told(file).undo)
             os.ftruncate(file, 0)
-            os.write(file, os.fsencode(top))
+            os.pwrite(file, os.fsencode(f"{top}\0{undo}"), 0)
         opened.pop_all()
     return [folder, file]
 
 
-def holder(path: str) -> str | None:
-    """The top of the tree that a loop holds by the lock of a folder; None where none runs, or where
+def holder(path: str) -> LastLoop | None:
+    """What is told of the loop that runs by the lock of a folder; None where none does, or where
     this user cannot tell."""
     try:
         file = os.open(os.path.join(path, LOCK), os.O_RDONLY | os.O_NONBLOCK | FLAGS)
     except OSError:
         return None
     try:
-        return None if locked(file, fcntl.LOCK_SH) else os.fsdecode(os.read(file, MOST_TOP))
+        return None if locked(file, fcntl.LOCK_SH) else told(file)
     finally:
         os.close(file)
 
@@ -81,14 +103,9 @@ class Record:
         # The text that was put last; empty where there is no file.
         self.path, self.text = os.path.abspath(path), ""
         self.place = replace(place, part=f"{place.name}.part")
-        # The name may be taken by a link that leads nowhere, too.
         with ExitStack() as stack:
             stack.callback(self.close)
-            with faults(self.path), suppress(FileNotFoundError):
-                os.lstat(place.name, dir_fd=place.folder)
-                raise HostFault(f"the undo file {shown(self.path)}: File exists; nothing is"
-                                " changed. If a loop was killed: arbiterctl undo"
-                                f" {shlex.quote(self.path)} --yes, and remove it then")
+            check_gone(self.path)
             stack.pop_all()
 
     def put(self, text: str) -> None:

@@ -33,20 +33,62 @@ class Gone(HostFault):
     """A file that is not there, or whose group was removed while it was open."""
 
 
+def fault_of(path: str, error: OSError, end: str = "") -> HostFault:
+    """An error of the system as a fault that names a file, in one line."""
+    fault = Gone if error.errno in REMOVED else HostFault
+    return fault(f"{shown(path)}: {strerror(error)}{end}")
+
+
 @contextmanager
-def faults(path: str, end: str = "", kind: str = "") -> Iterator[None]:
-    """Errors of the system as faults that name a file, in one line."""
+def faults(path: str, end: str = "") -> Iterator[None]:
+    """Errors of the system as faults that name a file."""
     try:
         yield
     except OSError as error:
-        fault = Gone if error.errno in REMOVED else HostFault
-        raise fault(f"{kind}{shown(path)}: {strerror(error)}{end}") from error
+        raise fault_of(path, error, end) from error
 
 
 def identity_of(place: int | str) -> Identity:
     """The identity of what a path leads to, or a descriptor is open at."""
     status = os.stat(place)
     return status.st_dev, status.st_ino
+
+
+def identities(top: str) -> Iterator[Identity]:
+    """The identities of a folder and of those below it on its file system."""
+    device, inode = identity_of(top)
+    yield device, inode
+    below = [top]
+    while below:
+        with suppress(OSError), os.scandir(below.pop()) as entries:
+            for each in entries:
+                if each.is_dir(follow_symlinks=False):
+                    below.append(each.path)
+                    yield device, each.inode()
+
+
+def plain(above: int, file: str, flags: int = os.O_RDONLY) -> int:
+    """Opens a plain file of a folder that has no other name."""
+    descriptor = os.open(file, FILE | flags, dir_fd=above)
+    status = os.fstat(descriptor)
+    if not stat.S_ISREG(status.st_mode) or status.st_nlink != 1:
+        os.close(descriptor)
+        raise OSError(errno.EINVAL, "no plain file")
+    return descriptor
+
+
+def text_of(above: int, file: str, most: int) -> str:
+    """The text of a plain file of a folder, at most so many bytes."""
+    descriptor = plain(above, file)
+    try:
+        data = piece = os.read(descriptor, most)
+        # (a setting or counters come whole)
+        while piece and len(data) < most > MAX_TEXT:
+            piece = os.read(descriptor, most - len(data))
+            data += piece
+    finally:
+        os.close(descriptor)
+    return data.decode(errors="replace").strip()
 
 
 def most_files() -> int:
@@ -121,28 +163,22 @@ class Root:
     def opened(self, folder: str, file: str, flags: int) -> Iterator[int]:
         """A plain file below the root."""
         with faults(self.name(folder, file)), self.at(folder) as above:
-            descriptor = os.open(file, FILE | flags, dir_fd=above)
+            descriptor = plain(above, file, flags)
             try:
-                status = os.fstat(descriptor)
-                if not stat.S_ISREG(status.st_mode) or status.st_nlink != 1:
-                    raise HostFault(f"{shown(self.name(folder, file))}: no plain file")
                 yield descriptor
             finally:
                 os.close(descriptor)
 
-    def status(self, folder: str, file: str) -> os.stat_result | None:
-        """Owner and mode of a file; None where it cannot be told."""
-        with suppress(HostFault), self.opened(folder, file, os.O_RDONLY) as descriptor:
-            return os.fstat(descriptor)
-        return None
-
     def read(self, folder: str, file: str, most: int = MAX_TEXT) -> str:
         """The text of a file, at most so many bytes. The kernel gives a page at a time."""
-        data = bytearray()
-        with self.opened(folder, file, os.O_RDONLY) as descriptor:
-            while len(data) < most and (piece := os.read(descriptor, most - len(data))):
-                data += piece
-        return data.decode(errors="replace").strip()
+        # (many files are read in a round: without the context managers)
+        if folder not in self.kept:
+            with faults(self.name(folder, file)), self.at(folder) as above:
+                return text_of(above, file, most)
+        try:
+            return text_of(self.kept[folder], file, most)
+        except OSError as error:
+            raise fault_of(self.name(folder, file), error) from error
 
     def write(self, folder: str, file: str, text: str) -> None:
         """Replaces the text of a file that is there, in one write. A plain file has a size:

@@ -18,7 +18,7 @@ from arbiter_host import demands, svg, text, units
 from arbiter_host.faults import HostFault, UsageFault
 from arbiter_host.model import Model
 from arbiter_host.names import cut, short, shown
-from arbiter_host.plan import Answer, Booked, Engine, Plan, plan
+from arbiter_host.plan import Booked, Engine, Plan, Planned, plan
 from arbiter_host.sources.samples import History
 
 FLAGS = (("T", "throttled", "#b4231f"), ("t", "throttled, not by its limit", "#d97706"),
@@ -50,18 +50,16 @@ class SampleCell:
     # Microseconds wanted above the limit.
     withheld: int = 0
 
-    def count(self, answer: Answer, row: int, limit: int | None, counters: Counters, times: int
-              ) -> None:
+    def count(self, group: Planned, counters: Counters, times: int) -> None:
         """Adds so many periods of a plan, with the counters of one."""
-        gets, wants, is_throttled = answer.amounts[row], answer.figures.wants[row], (
-            counters.nr_throttled[row])
+        gets, wants, limit, row = group.gets, group.want, group.limit, group.row
         if limit is not None and (self.limit is not None or self.periods == 0):
             self.limit = (self.limit or 0) + limit * times
         self.periods += times
         self.gets += gets * times
         self.wants += wants * times
-        self.throttled += times * is_throttled
-        self.elsewhere += times * is_throttled * (limit is not None and gets < limit)
+        self.throttled += times * counters.nr_throttled[row]
+        self.elsewhere += times * counters.nr_throttled[row] * (limit is not None and gets < limit)
         self.starved += times * (wants > 0 and gets == 0)
         self.withheld += times * counters.throttled_usec[row]
         self.bursts += times * counters.nr_bursts[row]
@@ -187,14 +185,13 @@ def run(engine: Engine, model: Model, history: History, unit: str, chosen: Seque
     groups: dict[str, list[SampleCell]] = {
         path: [] for path in chosen or path_of.values() or ["."]}
     model, last = model.copy(), None
-    row_of = {path: row for row, path in enumerate([".", *model.groups])}
     for _, asked in history.demands(unit, model.host):
         set_demands(model, path_of, asked)
         cells = [SampleCell() for _ in groups]
         for last, booked, times in periods_of(engine, model, periods):
+            by_path = last.by_path()
             for path, cell in zip(groups, cells):
-                row = row_of[path]
-                cell.count(last.answer, row, last.groups[row].limit, booked.counters, times)
+                cell.count(by_path[path], booked.counters, times)
         for path, cell in zip(groups, cells):
             groups[path].append(cell)
         tick()

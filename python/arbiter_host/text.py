@@ -75,6 +75,7 @@ def terminal_width() -> int:
 
 
 def cpus(count: int) -> str:
+    """A number of CPUs in words."""
     return "1 CPU" if count == 1 else f"{count} CPUs"
 
 

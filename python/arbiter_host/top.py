@@ -8,16 +8,22 @@ from dataclasses import dataclass, field
 from fractions import Fraction
 from typing import Any, NamedTuple
 
-from arbiter_host import demands, looks, names, units
+from arbiter_host import demands, looks, names, output, units
 from arbiter_host.demands import Measured
 from arbiter_host.faults import HostFault, UsageFault
 from arbiter_host.looks import Times
+from arbiter_host.model import NO_POD, PodNames
 from arbiter_host.names import shown
 from arbiter_host.plan import Engine, Plan, plan
 
 CONDITION = re.compile(r"(starved|throttled|lack|off)(?:>(.+?))?(?: +for +([0-9]{1,6}))?")
 # Failed rounds in a row that end the command.
 MOST_FAILED = 2
+# The labels of a pod and its container, as kube-state-metrics has them.
+POD_LABELS = ("namespace", "pod", "container")
+# Seconds after which is asked again for the names of pods.
+SECONDS = 60
+AskNames = Callable[[], Mapping[str, PodNames]]
 
 
 @dataclass(frozen=True)
@@ -33,6 +39,7 @@ class GroupFigures:
     throttled: Fraction | None
     is_starved: bool
     is_leaf: bool
+    pod: PodNames = NO_POD
 
     @property
     def off(self) -> Fraction | None:
@@ -108,10 +115,16 @@ def conditions(text: str) -> list[Condition]:
 
 
 class Alert(NamedTuple):
-    """An alert of a group."""
+    """An alert of a group, with its names in Kubernetes where they are known."""
 
     condition: str
     group: str
+    pod: PodNames = NO_POD
+
+    def data(self, key: str) -> dict[str, str]:
+        """It as data, its condition by a key."""
+        of_pod = {name: each for name, each in zip(POD_LABELS, self.pod) if each}
+        return {key: self.condition, "group": self.group, **of_pod}
 
 
 @dataclass
@@ -125,15 +138,16 @@ class PlannedRound:
     def figures(self) -> list[GroupFigures]:
         """The figures of each group, the root first."""
         cpu = self.plan.thousandths
-        return [GroupFigures(each.path, each.group.title if each.group else "", cpu(each.gets),
-                             cpu(each.want), self.got.get(each.path),
-                             self.throttled.get(each.path), each.is_starved, not each.children)
+        return [GroupFigures(each.path, each.title, cpu(each.gets), cpu(each.want),
+                             self.got.get(each.path), self.throttled.get(each.path),
+                             each.is_starved, not each.children,
+                             each.group.pod if each.group else NO_POD)
                 for each in self.plan.groups]
 
 
 def alerts(figures: Sequence[GroupFigures], wanted: Sequence[Condition]) -> list[Alert]:
     """The alerts of a round."""
-    return [Alert(each.words, group.path) for each in wanted for group in figures
+    return [Alert(each.words, group.path, group.pod) for each in wanted for group in figures
             if each.holds(group)]
 
 
@@ -143,15 +157,40 @@ def missing(figures: Sequence[GroupFigures], wanted: Sequence[Condition]) -> lis
             if not any(map(each.is_of, figures))]
 
 
+def with_use(plan_: Plan) -> PlannedRound:
+    """A plan with what its source tells that groups used."""
+    model = plan_.model
+    seen = model.owned.seen() if model.owned else {}
+    return PlannedRound(plan_, {path: demands.mean(use.values) for path, use in seen.items()}, {
+        path: use.throttled for path, use in seen.items() if use.throttled is not None})
+
+
 class Watched:
     """A tree that is read again and again. Each look is compared with the last."""
 
-    def __init__(self, engine: Engine, tree: looks.Tree, want: str) -> None:
-        self.engine, self.tree, self.want, self.last = engine, tree, want, tree.look()
+    def __init__(self, engine: Engine, tree: looks.Tree, want: str, ask: AskNames | None = None,
+                 warn: Callable[[str], None] = output.warn) -> None:
+        self.engine, self.tree, self.want, self.ask, self.warn = engine, tree, want, ask, warn
+        # The folders without names for which was asked, and the second from which on is again.
+        self.unnamed, self.again = set[str](), 0.0
+        if ask:
+            tree.pods = ask()
+        self.last = tree.look()
+
+    def name(self, look: looks.Look) -> None:
+        """Asks for names again where pods or containers came that have none, at most once a minute.
+        """
+        if self.ask and look.unnamed - self.unnamed and time.monotonic() >= self.again:
+            self.unnamed, self.again = look.unnamed, time.monotonic() + SECONDS
+            try:
+                self.tree.pods = self.ask()
+            except HostFault as fault:
+                self.warn(fault.message)
 
     def round(self) -> PlannedRound:
         """Reads the tree, and plans it. Groups that came since the last look want nothing."""
         last, now = self.last, self.tree.look()
+        self.name(now)
         self.last, seconds = now, max(now.at - last.at, Fraction(1, 10**6))
         measured, got, throttled = {}, {}, {}
         for path in now.counted:
@@ -195,7 +234,7 @@ def line_of(state: State, round_: PlannedRound) -> dict[str, Any]:
     root = round_.plan.root
     return {"round": state.rounds, "wanted_cpus": float(round_.plan.thousandths(root.want) / 1000),
             "planned_cpus": float(round_.plan.thousandths(root.gets) / 1000),
-            "alerts": [{"alert": each.condition, "group": each.group} for each in state.held]}
+            "alerts": [each.data("alert") for each in state.held]}
 
 
 def rounds_of(read: Callable[[], PlannedRound], times: Times, first: int,

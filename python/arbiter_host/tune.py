@@ -13,7 +13,7 @@ from typing import Any
 from arbiter import Unmet
 from arbiter_host import knobs
 from arbiter_host.goals import Goals, Way, goals_of
-from arbiter_host.knobs import Knob, Knobs
+from arbiter_host.knobs import Knob
 from arbiter_host.other_limits import by_limits
 from arbiter_host.plan import Plan, payers
 from arbiter_host.tune_settings import by_settings
@@ -81,7 +81,7 @@ def tune(before: Plan, words: Sequence[str], is_guaranteed: bool = False,
     is_alone = len(goals) == 1 and not is_guaranteed and chosen is None
     return Tuned(asked, asked.amounts(before), weights, settings,
                  None if is_met else by_limits(asked),
-                 tuple(Knobs(asked).each()) if is_alone else ())
+                 tuple(knobs.each_of(asked)) if is_alone else ())
 
 
 def losers(tuned: Tuned, way: Way) -> list[tuple[str, int]]:

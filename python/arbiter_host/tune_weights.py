@@ -5,18 +5,21 @@ alone change, and they are the least.
 """
 from __future__ import annotations
 
-import signal
+import threading
 from array import array
-from collections.abc import Iterator, Mapping, Sequence
-from contextlib import contextmanager
+from collections.abc import Callable, Mapping, Sequence
+from concurrent import futures
 from dataclasses import replace
+from typing import TypeVar
 
 from arbiter import Columns, Unmet
 from arbiter.columns import U64
-from arbiter_host import search, units
+from arbiter_host import progress, search, units
 from arbiter_host.goals import Goals, NewSetting, Way
 from arbiter_host.model import planned
 from arbiter_host.plan import Plan, Planned, asking
+
+Answer = TypeVar("Answer")
 
 # At most so many weights are put back, and ways down the tree are tried.
 MOST_BACK, MOST_CLIMBS = 64, 64
@@ -26,17 +29,18 @@ CLIMBED = ("weights of the goals' groups alone do not meet the goals, so groups 
            " not proved to be the least")
 
 
-@contextmanager
-def ended_by_interrupt() -> Iterator[None]:
-    """Lets an interrupt end the process at once. Else it waits for the end of a long call."""
-    if signal.getsignal(signal.SIGINT) is not signal.default_int_handler:
-        yield
-        return
-    signal.signal(signal.SIGINT, signal.SIG_DFL)
-    try:
-        yield
-    finally:
-        signal.signal(signal.SIGINT, signal.default_int_handler)
+def interruptible(call: Callable[[], Answer]) -> Answer:
+    """What a long call answers, in a thread: an interrupt does not wait for its end."""
+    found = futures.Future[Answer]()
+
+    def run() -> None:
+        try:
+            found.set_result(call())
+        except Exception as error:
+            found.set_exception(error)
+
+    threading.Thread(target=run, daemon=True).start()
+    return found.result()
 
 
 def tuned(goals: Goals, weights: Sequence[int],
@@ -46,9 +50,9 @@ def tuned(goals: Goals, weights: Sequence[int],
         return list(weights)
     was, library = goals.before.columns, goals.before.engine.library
     columns = Columns(was.parents, array(U64, weights), was.limits, was.demands)
-    with ended_by_interrupt(), asking("tune"):
-        return library.tune(planned(goals.before.model.host), columns, amounts,
-                            goals.is_guaranteed)
+    with progress.bar("weights for the goals", len(amounts), is_open=True), asking("tune"):
+        return interruptible(lambda: library.tune(
+            planned(goals.before.model.host), columns, amounts, goals.is_guaranteed))
 
 
 def tuned_free(goals: Goals, weights: Sequence[int]) -> list[int] | Unmet:

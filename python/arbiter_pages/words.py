@@ -7,7 +7,7 @@ from dataclasses import dataclass
 from jinja2 import Environment, PackageLoader
 
 from arbiter_host import command, options as table
-from arbiter_host.subcommands.base import Subcommand
+from arbiter_host.subcommands import Subcommand
 
 ARGUMENTS = "Arguments"
 # Names of values that are files or folders.

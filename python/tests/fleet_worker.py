@@ -13,17 +13,15 @@ from places import PACKAGE
 
 sys.path[:0] = [str(PACKAGE)]
 from arbiter_host.fleet import work  # noqa: E402
-from arbiter_host.fleet.answers import unpacked  # noqa: E402
 
 
 def forged(job, host):
-    """The last group gets one slice more."""
+    """Rows of which the last group stands below itself."""
     told = honest(job, host)
     (plan,) = told.plans
-    columns, amounts, certificate = unpacked(plan.data, len(plan.paths))
-    amounts[0] += 1
-    amounts[-1] += 1
-    return told._replace(plans=[plan._replace(data=work.packed(columns, amounts, certificate))])
+    parents, *rest = plan.columns
+    parents[-1] = len(parents) - 1
+    return told._replace(plans=[plan._replace(columns=(parents, *rest))])
 
 
 def hung(job, host):

@@ -13,7 +13,7 @@ import test_prometheus
 import trees
 from arbiter import Host
 from arbiter_host import hunger, looks, placement
-from arbiter_host.audit import answer, causes, intervals, page, ranges
+from arbiter_host.audit import answer, causes, intervals, ranges
 from arbiter_host.audit.intervals import Cell, Interval
 from arbiter_host.demands import Reading
 from arbiter_host.faults import HostFault
@@ -637,7 +637,7 @@ def told_of(names, cells=2):
 def test_page_escapes_names(engine):
     names = ["<script>alert(1)<|script>", "\x1b\u202e\"'", "\u6f22" * 60]
     audit = intervals.Audit(told_of(names), intervals.plan(engine, told_of(names)[0].model))
-    text = page.page(answer.ranked(audit), "<i>")
+    text = answer.page(answer.ranked(audit), "<i>")
     assert "<script>alert" not in text and "<i>" not in text
     assert "\x1b" not in text and "\u202e" not in text
 

@@ -182,3 +182,24 @@ def test_scripts_of_one_line(calls, text, names, refused):
     """Each text has the root. A line without a newline is a line."""
     found = calls.script(arbiter.Host(), text)
     assert (found.names, found.refused) == (names, refused)
+
+
+def test_each_script_has_a_key_of_its_own(calls, monkeypatch):
+    """The groups of a script are found by a hash whose key nobody who wrote it can know."""
+    keys, asked = [], calls.calls
+
+    class Noted:
+        """The calls; the keys of scripts are noted."""
+
+        def __getattr__(self, name):
+            return getattr(asked, name)
+
+        def arbiter_script(self, *words):
+            """The call."""
+            keys.append(words[3])
+            return asked.arbiter_script(*words)
+
+    monkeypatch.setattr(calls, "calls", Noted())
+    found = [calls.script(arbiter.Host(), b"mkdir a").names for _ in range(3)]
+    assert found == [["", "a"]] * 3 and len(set(keys)) == 3
+    assert all(0 <= key < 2**64 for key in keys)

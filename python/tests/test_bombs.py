@@ -2,6 +2,7 @@
 import json
 import sys
 import time
+import tracemalloc
 from contextlib import suppress
 
 import pytest
@@ -9,7 +10,7 @@ import reading
 from arbiter import Host
 from arbiter_host import apply
 from arbiter_host.faults import HostFault
-from arbiter_host.sources import containers, hostfile, kubernetes, script
+from arbiter_host.sources import containers, data as sources_data, hostfile, kubernetes, script
 
 # Seconds of the processor. Each of these took more than half a minute, or had no end.
 SECONDS = 20
@@ -83,6 +84,39 @@ def test_a_host_file_that_is_too_long(monkeypatch, kind):
     with pytest.raises(HostFault, match="F: more than 1 MiB"):
         reading.host_file(b" " * ((1 << 20) + 1), "F", kind)
     assert time.process_time() - began < 1
+
+
+SHAPES = {"lists": "[],", "tables": "{},", "keys": '{"k%d":1},', "lists in tables": '{"a":[]},',
+          "deep lists": "[[[[1]]]],", "deep tables": '{"a":{"a":{}}},', "texts": '"ab",',
+          "numbers": "1.5,", "other letters": '"\U0001f600",'}
+
+
+@pytest.mark.parametrize("shape", SHAPES.values(), ids=SHAPES)
+def test_json_takes_bounded_memory(monkeypatch, shape):
+    """What may be read takes hardly more memory than the bound, whatever it is made of."""
+    monkeypatch.setattr(sources_data, "MOST_MEMORY", 16 << 20)
+    number, most = 1000, 0
+    with suppress(HostFault):
+        while True:
+            number *= 2
+            parts = (shape % each if "%d" in shape else shape for each in range(number))
+            data = f"[{''.join(parts)}1]".encode()
+            tracemalloc.start()
+            sources_data.loads(data, "F")
+            most = tracemalloc.get_traced_memory()[1]
+    tracemalloc.stop()
+    assert 0 < most < 1.6 * sources_data.MOST_MEMORY
+
+
+def test_json_of_too_many_values():
+    """It is refused at once, by each reader of JSON."""
+    data = b"[" + b"[]," * 8_000_000 + b"1]"
+    began = time.process_time()
+    for read in (lambda: sources_data.loads(data, "F"), lambda: apply.read_undo(data, "F"),
+                 lambda: reading.pods([("F", data)], Host(2), None)):
+        with pytest.raises(HostFault, match="F: too many values: to read them may take more than"):
+            read()
+    assert time.process_time() - began < SECONDS
 
 
 def pod(number, phase):

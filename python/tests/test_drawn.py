@@ -14,6 +14,7 @@ import trees
 from arbiter import Host
 from arbiter_host import explain, live, picture, report
 from arbiter_host.explain import View
+from arbiter_host.faults import HostFault
 from arbiter_host.model import Group, Model
 from arbiter_host.plan import plan
 from places import PACKAGE
@@ -37,39 +38,36 @@ def wide_host(count, cpus=16):
     return model
 
 
-@pytest.mark.parametrize("count", [3, 5, 111, 1950])
+@pytest.mark.parametrize("count", [3, 5, 111, 1400])
 def test_picture_is_legible(engine, count):
     """Within the size that programs draw, and a scale at most 25 rows away from each row."""
     drawn = picture.picture(plan(engine, wide_host(count)))
     root = xml.etree.ElementTree.fromstring(drawn)
-    assert float(root.get("height")) < 4000 and float(root.get("width")) < 2000
+    assert float(root.get("height")) < MOST_PIXELS and float(root.get("width")) < 2000
     units = [float(each.get("y")) for each in root.iter(f"{SVG}text") if each.text == "CPUs"]
     rows = [float(each.get("y")) for each in root.iter(f"{SVG}text")
             if each.get("font-size") == "12"]
     assert all(min(abs(row - unit) for unit in units) <= 25 * picture.ROW for row in rows)
-    if count == 1950:
-        assert "more groups" in drawn
 
 
-def test_picture_cuts_no_reason(engine):
-    """Each note is whole, a group's marks and reason with it, and idle rows take no room."""
-    for count in (5, 111, 1950):
-        found = picture.fitting(plan(engine, wide_host(count)), View(), 120)
-        assert max(len(entry.note) for entry in found) <= picture.NOTE_CELLS
-        own = [entry for entry in found if "below)" in entry.name]
-        assert bool(own) == (count == 1950) and not any(entry.below for entry in own)
-        drawn = [entry for entry in found if not entry.is_folded]
-        assert len(drawn) >= min(count, 110)
+def test_picture_of_too_many(engine):
+    """It is refused, and says what chooses some."""
+    found = plan(engine, wide_host(1950))
+    with pytest.raises(HostFault, match="too many for one picture: -g and --depth choose"):
+        picture.picture(found)
+    assert picture.picture(found, View(depth=1))
 
 
-@pytest.mark.parametrize("rows", [1, 10, 1000])
-def test_folds_keep_the_sums(engine, rows):
-    """The rows right below a group add up to what the group gets."""
-    found = picture.fitting(plan(engine, wide_host(400)), View(unit="slices"), rows)
-    for entry in found:
-        if entry.below:
-            assert sum(found[place].gets for place in entry.below) == entry.gets
-    assert len(found) <= max(rows, 2) + 1
+def test_picture_has_each_group(engine):
+    """Each note is whole, idle rows take no room, and the rows below a group add up to it."""
+    for count in (5, 111, 400):
+        found = plan(engine, wide_host(count))
+        rows = picture.entries(found, View())
+        assert max(len(entry.note) for entry in rows) <= picture.NOTE_CELLS
+        assert len(rows) == 1 + sum(1 for each in found.groups[1:] if each.want)
+        for entry in rows:
+            if entry.below:
+                assert sum(rows[place].group.gets for place in entry.below) == entry.group.gets
 
 
 def test_picture_of_strange_names(engine):

@@ -2,7 +2,6 @@
 import json
 import os
 import re
-import zlib
 from fractions import Fraction
 
 import fleets
@@ -10,11 +9,8 @@ import pytest
 from arbiter import Host
 from arbiter_host import command
 from arbiter_host.faults import UsageFault
-from arbiter_host.fleet import report, work
-from arbiter_host.fleet.answers import unpacked
-from arbiter_host.fleet.work import Sent, SentPlan, packed
-from arbiter_host.sources import script
-from arbiter_host.sources.wish import Wish
+from arbiter_host.fleet import work
+from arbiter_host.fleet.work import Sent, SentRows
 from places import PACKAGE
 
 HOSTS, GROUPS = 24, 12
@@ -160,44 +156,31 @@ def test_a_table_of_demands_is_a_folder_of_them(ctl, fleet):
 
 # Who is believed
 
-def test_certificates_travel(engine):
-    """Rows and their certificate are read back as they were; of other rows there are none."""
-    files = [("x", fleets.script(3, GROUPS).encode())]
-    model = script.read(files, engine.library, Wish())
-    found = engine.plan(model.host, model.rows(engine.library))
-    count = len(found.amounts)
-    data = packed(found.columns, found.amounts, found.certificate)
-    rows, amounts, certificate = unpacked(data, count)
-    assert rows.given and bytes(rows.limits) == bytes(found.columns.limits)
-    assert (list(amounts), certificate) == (found.amounts, found.certificate)
-    for wrong in (b"", b"!", data[:40], packed(found.columns, found.amounts[1:], certificate)):
-        with pytest.raises((ValueError, zlib.error)):
-            unpacked(wrong, count)
-
-
-def forged(sent):
-    """Whoever gets most gets one slice more."""
-    paths, data = sent.plans[0]
-    columns, amounts, certificate = unpacked(data, len(paths))
-    amounts[-1] += 1
-    amounts[0] += 1
-    return sent._replace(plans=[SentPlan(paths, packed(columns, amounts, certificate))])
-
-
 def renamed(sent, change):
     """Other paths of the first plan."""
-    paths, data = sent.plans[0]
-    return sent._replace(plans=[SentPlan(change(paths), data)])
+    paths, columns = sent.plans[0]
+    return sent._replace(plans=[SentRows(change(paths), columns)])
+
+
+def with_columns(sent, change):
+    """Other columns of the first plan."""
+    paths, columns = sent.plans[0]
+    return sent._replace(plans=[SentRows(paths, change(*columns))])
 
 
 LIES = {
-    "an amount": (forged, "the check refused the plan"),
+    "a weight": (lambda sent: with_columns(sent, lambda parents, weights, *rest: (
+        parents, [0] * len(weights), *rest)), "no plan: error 6 "),
+    "short columns": (lambda sent: with_columns(sent, lambda parents, weights, *rest: (
+        parents, weights[1:], *rest)), "no plan: error 50 WrongLength"),
+    "a parent below itself": (lambda sent: with_columns(sent, lambda parents, *rest: (
+        [*parents[:-1], len(parents) - 1], *rest)), "no plan: error "),
     "no plan": (lambda sent: sent._replace(plans=[]), "fewer plans than were asked"),
     "other groups": (lambda sent: renamed(sent, lambda paths: [*paths, "more"]),
-                     "cannot be read: ValueError"),
-    "no certificate": (lambda sent: sent._replace(plans=[SentPlan(sent.plans[0].paths, b"!")]),
-                       "cannot be read"),
-    "another host": (lambda sent: sent._replace(host=Host(1, 100000, 50000)), "refused the plan"),
+                     "cannot be read: TypeError"),
+    "no columns": (lambda sent: with_columns(sent, lambda *_: b"!"), "cannot be read"),
+    "negative rows": (lambda sent: with_columns(sent, lambda *each: ([-1], *each[1:])),
+                      "cannot be read: OverflowError"),
     "no host": (lambda sent: sent._replace(host=Host(0, 0, 0)), "period 0"),
     "a host of words": (lambda sent: sent._replace(host=Host("1", 100000, 5000)),
                         "a host of other than whole numbers"),
@@ -225,7 +208,7 @@ def test_a_wrong_answer_is_a_fault_of_its_host(fleet, calls, monkeypatch, lie):
 
 
 @pytest.mark.parametrize("sent", [b"", 7, None, [], {}, ("x",), Sent(None, None, None),
-                                  Sent(Host(), [SentPlan(["."], "x")], {}),
+                                  Sent(Host(), [SentRows(["."], "x")], {}),
                                   Sent(Host(), [(["."], b"x")], {}), Sent(Host(), 7, 7)],
                          ids=lambda sent: repr(sent)[:20])
 def test_a_reply_that_is_none(fleet, calls, monkeypatch, sent):
@@ -297,14 +280,12 @@ def test_demands_that_are_no_file_are_named(ctl, fleet):
     assert "no plain file" in missing["why"] and missing["host"] == f"host-{HOSTS - 1:05}"
 
 
-def test_hosts_of_lists_and_folders(ctl, folder):
+def test_hosts_of_folders(folder):
     """Names are paths without endings; two of one name are refused."""
     for name in ("a/one.toml", "b/one.script", ".hidden/x.toml"):
         (folder / "f" / name).parent.mkdir(parents=True, exist_ok=True)
         (folder / "f" / name).write_text("")
-    (folder / "list").write_text("# hosts\nf/a/one.toml\n\nf/b/one.script\n")
-    for path in (folder / "list", folder / "f"):
-        assert [host.name for host in fleets.of(path).hosts] == ["a/one", "b/one"]
+    assert [host.name for host in fleets.of(folder / "f").hosts] == ["a/one", "b/one"]
     (folder / "f/a/one.script").write_text("")
     with pytest.raises(UsageFault, match="two hosts of the name a/one"):
         fleets.of(folder / "f")
@@ -318,25 +299,11 @@ def test_what_is_one_host(folder):
     (folder / "t/top/web/cpu.stat").write_text("usage_usec 5\n")
     assert fleets.of(folder / "t") is None
     (folder / "plan").write_text("")
-    (folder / "s").write_text("mkdir a\nplan\n")
+    (folder / "s").write_text("plan\n")
     assert fleets.of(folder / "s") is None
     (folder / "n.json").write_text(json.dumps({"items": [
         {"kind": "Node"}, {"kind": "Pod", "metadata": {"ownerReferences": [{"kind": "Node"}]}}]}))
     assert fleets.of(folder / "n.json") is None
-    (folder / "{list").write_text("{a.toml\n[b.toml\n")
-    (folder / "[b.toml").write_text("")
-    assert fleets.of(folder / "{list") is None
-
-
-def test_quantiles():
-    """Nearest ranks, with weights."""
-    def of(pairs):
-        return list(report.quantiles(pairs).values())
-
-    assert of([]) == []
-    assert of([(Fraction(3), 1)]) == [3] * 7
-    assert of((Fraction(each), 1) for each in range(1, 101)) == [1, 5, 25, 50, 75, 95, 100]
-    assert of([(Fraction(0), 94), (Fraction(9), 6)]) == [0, 0, 0, 0, 0, 9, 9]
 
 
 @pytest.mark.parametrize("words", [

@@ -271,7 +271,7 @@ def test_a_killed_worker_of_dask(ctl, folder, site):
 
 
 @pytest.mark.parametrize("mode, told", [
-    ("forged", "refused the plan"), ("other", "what its worker answers cannot be read")])
+    ("forged", "no plan: error "), ("other", "what its worker answers cannot be read")])
 def test_a_wrong_worker_of_dask(ctl, folder, site, mode, told):
     """Each host that it answered is named."""
     hosts = fleets.make(folder / "hosts", 8, 12)

@@ -379,6 +379,7 @@ def test_killed_at_random_times(ctl, world, folder):
         loop.communicate(timeout=30)
         assert content(world.tree) != before
         ctl.run("undo", undo, "--yes")
+        undo.unlink()
         assert content(world.tree) == before
         with open(folder / "hold.lock", "rb") as lock:
             fcntl.flock(lock, fcntl.LOCK_EX | fcntl.LOCK_NB)

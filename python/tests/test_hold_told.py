@@ -25,22 +25,6 @@ UNIT = PACKAGE.parent / "share/systemd/arbiter-hold.service"
 WEIGHTS = hold.Ways(has_weights=True)
 
 
-@pytest.mark.parametrize("limit, most, weight", [
-    (100, 100, 10000),  # a whole CPU: 100 / 0.01
-    (200, 100, 10000),  # more than one task can use
-    (50, 100, 98),      # 50 / 0.51 = 98.04
-    (75, 100, 288),     # 75 / 0.26 = 288.46
-    (10, 100, 11),      # 10 / 0.91 = 10.99
-    (1, 100, 1), (0, 100, 1),
-    (99, 100, 4950),
-    (50, 200, 33),      # two tasks with a quarter each: 25 / 0.76 = 32.89
-    (667, 1000, 194),   # 66.7 / 0.343 = 194.46
-])
-def test_weights_by_hand(limit, most, weight):
-    """100 d / (1.01 - d), to the nearest whole number, 1 to 10000."""
-    assert hold.leaf_weight(limit, most) == weight
-
-
 def test_weights_of_a_tree():
     """A group with children has their sum, at most 10000. Without such a leaf it keeps its own."""
     model = Model(Host(2, 100000, 1000))
@@ -137,62 +121,16 @@ def test_a_leaf_that_gets_children_and_weights(world, engine, folder):
     assert [world.maximum(path) for path in "abc"] == [FREE] * 3
 
 
-A_SECOND = 10**9
-
-
-@pytest.mark.parametrize("before, now, used, waited, hungry", [
-    # a task with half a CPU that never slept, and one that slept for a tenth of the time
-    ({7: (0, 0)}, {7: (500, 500)}, 500, 500, True),
-    ({7: (0, 0)}, {7: (500, 400)}, 500, 400, False),
-    # nearly a whole CPU: it waited for a hundredth and never slept, or for less, or slept longer
-    ({7: (9, 9)}, {7: (999, 19)}, 990, 10, True),
-    ({7: (9, 9)}, {7: (999, 18)}, 990, 10, False),
-    ({7: (9, 9)}, {7: (969, 29)}, 960, 20, True),
-    ({7: (9, 9)}, {7: (968, 29)}, 959, 20, False),
-    # it slept for a twentieth, and for more
-    ({7: (9, 9)}, {7: (459, 509)}, 450, 500, True),
-    ({7: (9, 9)}, {7: (458, 509)}, 449, 500, False),
-    # one of two is awake
-    ({7: (0, 0), 8: (0, 0)}, {7: (300, 100), 8: (600, 390)}, 900, 490, True),
-    # pressure of less than a hundredth: served, whatever the tasks did
-    ({7: (0, 0)}, {7: (905, 95)}, 905, 9, False),
-    # those that were there twice used less than half: a guess
-    ({7: (0, 0)}, {7: (100, 0), 9: (900, 900)}, 900, 499, False),
-    ({7: (0, 0)}, {7: (100, 0), 9: (900, 900)}, 900, 500, True),
-    # a number that was given to another task, and no task at all
-    ({7: (800, 0)}, {7: (100, 900)}, 100, 499, False),
-    ({}, {}, 100, 500, True), ({}, {}, 0, 500, True), ({}, {}, 0, 0, False),
+@pytest.mark.parametrize("before, now, seen", [
+    ({7: (9, 9)}, {7: (500, 509)}, [(491, 500)]),
+    # one that came, one that went, and a number that was given to another task
+    ({7: (1, 1), 8: (1, 1), 9: (8, 0)}, {7: (1, 1), 9: (7, 5), 10: (2, 2)}, [(0, 0)]),
 ])
-def test_hunger_by_hand(before, now, used, waited, hungry):
-    """Milliseconds of a second: tasks ran and waited, the group used, some task waited."""
-    one, two = ({number: hunger.TaskTimes(*(each * 10**6 for each in task))
-                 for number, task in found.items()} for found in (before, now))
-    found = hunger.RoundTimes(A_SECOND, used * 1000, waited * 1000)
-    assert hunger.is_hungry(one, two, found) is hungry
-
-
-@pytest.mark.parametrize("before, now, used, throttled, most", [
-    # a task that never slept could use a CPU, and another what it used
-    ({7: (0, 0)}, {7: (500, 500)}, 500, False, 1000),
-    ({7: (0, 0), 8: (0, 0)}, {7: (500, 500), 8: (200, 100)}, 700, False, 1200),
-    # each of a group that was throttled could use a CPU
-    ({7: (0, 0), 8: (0, 0)}, {7: (500, 500), 8: (200, 100)}, 700, True, 2000),
-    # so could one that came in the round, or whose number was given to another
-    ({7: (0, 0)}, {7: (500, 500), 9: (20, 0)}, 520, False, 2000),
-    ({7: (0, 0), 8: (90, 0)}, {7: (500, 500), 8: (20, 0)}, 520, False, 2000),
-    # 19 of 20 parts of what was used, and less
-    ({7: (0, 0)}, {7: (950, 50)}, 1000, False, 1000),
-    ({7: (0, 0)}, {7: (949, 51)}, 1000, False, None),
-    # nothing was used, or no task is known
-    ({7: (0, 0)}, {7: (0, 900)}, 0, False, None),
-    ({}, {}, 100, True, None), ({}, {7: (100, 0)}, 100, True, None),
-])
-def test_most_wanted_by_hand(before, now, used, throttled, most):
-    """Milliseconds of a second: tasks ran and waited, the group used, and could have used."""
-    one, two = ({number: hunger.TaskTimes(*(each * 10**6 for each in task))
-                 for number, task in found.items()} for found in (before, now))
-    found = hunger.RoundTimes(A_SECOND, used * 1000, 10**6, throttled)
-    assert hunger.most_wanted(one, two, found) == (None if most is None else most * 10**6)
+def test_tasks_at_both_readings(before, now, seen):
+    """What each did is told of those alone that were there at both."""
+    one, two = ({number: hunger.TaskTimes(*task) for number, task in found.items()}
+                for found in (before, now))
+    assert list(hunger.rises(one, two)) == seen
 
 
 def test_tasks_are_read(folder, monkeypatch):

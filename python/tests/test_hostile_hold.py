@@ -11,12 +11,12 @@ import sys
 
 import pytest
 import trees
-from arbiter_host import apply, hold, looks, output, record, safe_files
+from arbiter_host import apply, hold, looks, model, output, record, safe_files
 from arbiter_host.apply import By, Change, Settings
 from arbiter_host.faults import HostFault
 from arbiter_host.subcommands import apply as applying
 from arbiter_host.subcommands import hold as holding
-from held import FREE, World, limit, said, started
+from held import FREE, SECOND, World, begun, content, limit, said, started
 from places import PACKAGE
 
 NOBODY = 65534
@@ -61,6 +61,111 @@ def at_end(loop, action):
     """Calls an action before what stood is put back."""
     real = loop.end
     loop.end = lambda: (action(), real())
+
+
+# Very many groups
+
+def crowd(world, top, *names):
+    """Groups of another user below one of theirs."""
+    for name in names:
+        world.add(f"{top}/{name}")
+        give(world.tree / top / name)
+
+
+@as_root
+def test_a_tenant_with_very_many_groups(world, engine, folder, capsys, monkeypatch):
+    """Each is held up to a number. Beyond it they are held as one, told in a line, from then on;
+    the others are held as ever."""
+    monkeypatch.setattr(hold, "MOST_OF_OTHERS", 6)
+    world.add("b/user")
+    give(world.tree / "b/user")
+    crowd(world, "b/user", *"uvwxyz")
+    loop = world.loop(engine, folder / "undo")
+    lines = world.run(loop, lambda: None, lambda: None, lambda: crowd(world, "b/user", "z/too"),
+                      lambda: crowd(world, "b/user", *(f"n{at}" for at in range(50))),
+                      lambda: shutil.rmtree(world.tree / "b/user/z"))
+    each = ["a", *(f"b/user/{name}" for name in "uvwxyz"), "c"]
+    assert [sorted(line["groups"]) for line, _ in lines] == [
+        each, each, ["a", "c"], ["a", "b/user", "c"], ["a", "b/user", "c"]]
+    assert [stood["b/user/x"] != FREE for _, stood in lines] == [True] * 2 + [False] * 3
+    assert lines[-1][1]["b/user"] != FREE != lines[2][1]["a"]
+    assert content(world.tree / "b/user/n7")[str(world.tree / "b/user/n7/cpu.max")] == f"{FREE}\n"
+    assert {world.maximum(path) for path in ("a", "b/user", "b/user/x", "c")} == {FREE}
+    assert capsys.readouterr().err == (
+        "arbiterctl: warning: b/user: another user has more than 6 groups there, or they take too"
+        " long to read: they are held as one\n")
+
+
+@as_root
+def test_a_tenant_whose_groups_take_long(world, engine, folder, capsys, monkeypatch):
+    """Twice in a row: they are held as one. (Once may be a stop.)"""
+    for user in ("b/user", "c/user"):
+        world.add(user)
+        give(world.tree / user)
+        crowd(world, user, "x", "y")
+    loop = world.loop(engine, folder / "undo")
+    real, slow = loop.look, ["c/user/x"]
+
+    def look(kept, path):
+        world.now += SECOND if path in slow else 0
+        real(kept, path)
+    loop.look = look
+    lines = world.run(loop, lambda: None, slow.clear, lambda: slow.append("b/user/y"),
+                      lambda: None, lambda: None, lambda: None)
+    most = ["a", "b/user/x", "b/user/y", "c/user/x", "c/user/y"]
+    assert [sorted(line["groups"]) for line, _ in lines] == [most] * 4 + [
+        ["a", "c/user/x", "c/user/y"], ["a", "b/user", "c/user/x", "c/user/y"]]
+    assert "b/user: another user has more" in capsys.readouterr().err
+
+
+@as_root
+def test_more_groups_of_others_than_are_planned(world, engine, folder, monkeypatch):
+    """Fewer of them are held one by one then, of each user alike. Root's own are refused."""
+    monkeypatch.setattr(model, "MAX_GROUPS", 40)
+    for user in ("a/u", "b/v"):
+        world.add(user)
+        give(world.tree / user)
+        crowd(world, user, *(f"n{at}" for at in range(30)))
+    loop = world.loop(engine, folder / "undo")
+    lines = world.run(loop, lambda: None)
+    assert [sorted(line["groups"]) for line, _ in lines] == [["a/u", "b/v", "c"]]
+    for at in range(40):
+        world.add(f"own{at}")
+    with pytest.raises(HostFault, match="the groups: more than 40 groups with the root"):
+        world.run(world.loop(engine, folder / "undo"))
+
+
+def test_what_stands_in_many_groups_is_read_in_turn(world, engine, folder, capsys, monkeypatch):
+    """A limit that somebody sets is seen in one of some rounds, and never written over before."""
+    monkeypatch.setattr(hold, "MOST_SETTINGS", 1)
+    loop, reads = world.loop(engine, folder / "undo"), []
+    real = loop.look
+    loop.look = lambda kept, path: (reads.append(path), real(kept, path))
+
+    def other():
+        (world.tree / "a/cpu.max").write_text("70000 100000\n")
+    lines = world.run(loop, lambda: None, lambda: None, other, *[lambda: None] * 8)
+    assert sorted(reads[-8:]) == ["a", "a", "b", "b", "b", "c", "c", "c"] or len(reads) < 30
+    assert {stood["a"] for _, stood in lines[2:]} == {"70000 100000"}
+    assert capsys.readouterr().err.count("a: somebody set weight 100, max 70000 100000") == 1
+
+
+def test_an_idle_group_costs_one_file(world, engine, folder, monkeypatch):
+    """Its cpu.stat tells that it still is. One that used anything is read whole again."""
+    loop, reads = world.loop(engine, folder / "undo"), []
+    real = loop.root.read
+
+    def read(name, file, *most):
+        if not file.startswith(("cpu.max", "cpu.weight")):
+            reads.append((name, file))
+        return real(name, file, *most)
+    monkeypatch.setattr(loop, "look", lambda *_: None)
+    loop.root.read = read
+    world.run(loop, lambda: None, reads.clear, lambda: None,
+              lambda: world.uses("b", 3, waited=10**6))
+    assert reads == [(name, "cpu.stat") for name in "abc"] * 2 + [
+        ("a", "cpu.stat"), ("b", "cpu.stat"), ("b", "cpu.pressure"), ("b", "cgroup.threads"),
+        ("c", "cpu.stat")]
 
 
 # Names
@@ -276,21 +381,67 @@ def test_apply_and_undo_beside_a_loop(folder, monkeypatch):
     """What a loop wrote is not taken for the operator's own. Elsewhere both run."""
     monkeypatch.setattr(record, "FOLDER", str(folder / "run"))
     root = safe_files.Root(str(folder))
+    for name in ("held/a/b", "other", "held-not"):
+        (folder / name).mkdir(parents=True)
     applying.check_no_loop(root, ["held/a", "other"])
     held = record.lock(str(folder / "run"), str(folder / "held"))
-    applying.check_no_loop(root, ["other", "held-not"])
-    for name in ("held/a", "held"):
+    applying.check_no_loop(root, ["other", "held-not", "gone"])
+    for name in ("held/a/b", "held/a", "held"):
         with pytest.raises(HostFault, match="arbiterctl hold runs on .*/held: .* End it first"):
             applying.check_no_loop(root, ["other", name])
+    # the same tree by another path, as of a second mount of it or of a part of it
+    (folder / "mount").symlink_to(folder / "held/a")
+    with pytest.raises(HostFault, match="/held/a/b: arbiterctl hold runs on .*/held: "):
+        applying.check_no_loop(safe_files.Root(str(folder / "mount")), ["b"])
+    (folder / "held").rename(folder / "elsewhere")
+    with pytest.raises(HostFault, match="/held: No such file or directory"):
+        applying.check_no_loop(root, ["elsewhere/a"])
     for each in held:
         os.close(each)
-    applying.check_no_loop(root, ["held/a"])
+    applying.check_no_loop(root, ["elsewhere/a"])
     assert record.holder(str(folder / "run")) is None
+
+
+@as_root
+def test_apply_beside_a_loop_by_another_mount(folder, monkeypatch):
+    """A bind mount of a part of the tree that is held: its groups are known by what they are."""
+    monkeypatch.setattr(record, "FOLDER", str(folder / "run"))
+    for name in ("held/part/a", "mount"):
+        (folder / name).mkdir(parents=True)
+    if subprocess.run(["mount", "--bind", folder / "held/part", folder / "mount"],
+                      capture_output=True, check=False).returncode:
+        pytest.skip("no mount here")
+    held = record.lock(str(folder / "run"), str(folder / "held"))
+    try:
+        with pytest.raises(HostFault, match="/mount/a: arbiterctl hold runs on .*/held: "):
+            applying.check_no_loop(safe_files.Root(str(folder / "mount")), ["a"])
+    finally:
+        subprocess.run(["umount", folder / "mount"], check=True)
+        for each in held:
+            os.close(each)
+
+
+def test_an_undo_file_of_another_name_after_a_kill(ctl, world, folder):
+    """The limits of the killed loop are not taken for the operator's own."""
+    before = content(world.tree)
+    loop = started(ctl, world, folder / "first")
+    loop.kill()
+    loop.communicate(timeout=30)
+    assert content(world.tree) != before
+    other = begun(ctl, world, folder / "second")
+    assert said(other) == [f"arbiterctl: the undo file {folder / 'first'}: File exists; nothing is"
+                           " changed. If a loop was killed: arbiterctl undo"
+                           f" {folder / 'first'} --yes, and remove it then"]
+    ctl.run("undo", folder / "first", "--yes")
+    (folder / "first").unlink()
+    loop = started(ctl, world, folder / "second")
+    loop.send_signal(signal.SIGTERM)
+    assert (said(loop), loop.returncode) == ([], 0) and content(world.tree) == before
 
 
 def test_a_loop_says_what_it_holds(ctl, world, folder):
     loop = started(ctl, world, folder / "u")
-    assert record.holder(str(folder)) == str(world.tree)
+    assert record.holder(str(folder)) == (str(world.tree), str(folder / "u"))
     loop.send_signal(signal.SIGTERM)
     assert (said(loop), loop.returncode) == ([], 0)
     assert record.holder(str(folder)) is None

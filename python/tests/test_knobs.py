@@ -1,7 +1,6 @@
 """Each setting of one goal alone, and what groups are guaranteed: by values worked by hand, and
 against plans of other settings."""
 import json
-from dataclasses import replace
 from fractions import Fraction
 
 import pytest
@@ -110,15 +109,12 @@ SOME = settings(max_examples=40, deadline=None,
 def test_least_values(engine, model, path, slices):
     """The least value reaches the amount, and the value before it does not."""
     found = tune.tune(plan(engine, model), [f"{path}={200 * slices}m"])
-    changes = {
-        "weight": (lambda v: knobs.with_weight(model, path, v), units.MAX_WEIGHT),
-        "limit": (lambda v: knobs.with_limit(model, path, v), 300),
-        "CPUs": (lambda v: replace(model, host=replace(model.host, processors=v)), 64),
-    }
-    assert [knob.name for knob in found.alone] == list(changes)
+    most = {"weight": units.MAX_WEIGHT, "limit": 300, "CPUs": 64}
+    assert [knob.name for knob in found.alone] == list(most)
     for knob in found.alone:
-        changed, greatest = changes[knob.name]
-        gets = lambda v: plan(engine, changed(v)).by_path()[path].gets
+        greatest = most[knob.name]
+        gets = lambda v: plan(engine, knobs.with_value(model, path, knob.name, v)
+                              ).by_path()[path].gets
         if knob.least is None:
             assert gets(greatest) < slices
         else:

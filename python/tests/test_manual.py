@@ -14,12 +14,12 @@ import time
 import pytest
 import trees
 from arbiter_host import helps, options
-from arbiter_host.subcommands import PLACES, every
+from arbiter_host.subcommands import SUMMARIES, every
 from arbiter_pages import words
 from arbiter_pages.__main__ import SHARE, files
 from places import PACKAGE
 
-NAMES = list(PLACES)
+NAMES = list(SUMMARIES)
 BASH = SHARE / "completions/arbiterctl.bash"
 PROGRAM_BASH = SHARE / "completions/arbiter.bash"
 
@@ -178,7 +178,7 @@ def example_command(command, folder):
 
 
 @pytest.mark.parametrize("command", [command for each in every() if each.name != "undo"
-                                     for _, command in each.examples])
+                                     for command in each.examples.values()])
 def test_examples_run(ctl, examples, server, command):
     """Each example of the help and of the man pages ends with status 0 and says something."""
     command = command.replace("127.0.0.1:9090", f"127.0.0.1:{server}")
@@ -192,9 +192,10 @@ def test_examples_run(ctl, examples, server, command):
 def test_example_of_undo(ctl, examples):
     """The example of `undo` takes back what that of `apply` did."""
     weight = examples / "cgroup/web.service/cpu.weight"
-    (undo,) = [command for each in every() if each.name == "undo" for _, command in each.examples]
+    (undo,) = [command for each in every() if each.name == "undo"
+               for command in each.examples.values()]
     apply = next(command for each in every() if each.name == "apply"
-                 for _, command in each.examples if "--yes" in command)
+                 for command in each.examples.values() if "--yes" in command)
     for command, holds in ((apply, "200"), (undo, "100")):
         systemctl = examples / "bin/systemctl"
         systemctl.write_text('#!/bin/sh\n[ "$1" = show ] && exec echo /web.service\n'

@@ -3,11 +3,11 @@ import argparse
 import re
 
 import pytest
-from arbiter_host import explain, options as table, text
+from arbiter_host import explain, looks, options as table, text
 from arbiter_host.faults import UsageFault
 from arbiter_host.fleet import report
 from arbiter_host.sources.register import READERS
-from arbiter_host.subcommands import PLACES
+from arbiter_host.subcommands import SUMMARIES
 
 
 def parsed(subcommand, *words):
@@ -38,8 +38,8 @@ def test_words_are_those_of_what_they_choose():
     assert set(table.STATES) == set(explain.ONLY) and set(table.SORTS) == set(explain.SORTS)
     assert set(table.UNITS) == set(text.UNIT_WORDS) and set(table.KINDS) == set(READERS)
     assert set(table.RANKS) == set(report.RULES)
-    assert set(table.FORMS) <= set(PLACES) and len(PLACES) == 12
-    assert {each for option in table.TABLE for each in option.subcommands} == set(PLACES)
+    assert set(table.FORMS) <= set(SUMMARIES) and len(SUMMARIES) == 12
+    assert {each for option in table.TABLE for each in option.subcommands} == set(SUMMARIES)
 
 
 def test_every_dest_has_its_value():
@@ -101,8 +101,8 @@ def test_no_effect_on_a_form_is_refused(words, said):
 
 
 def test_readings():
-    assert table.readings("10x1s") == (10, "1s")
-    assert table.readings("x5min") == (None, "5min")
+    assert looks.times_of("10x1s") == (1, 10)
+    assert looks.times_of("x5min") == (300, None)
     for words in ("10", "x", "0x1s", "10001x1s", "-1x1s"):
         with pytest.raises(UsageFault):
-            table.readings(words)
+            looks.times_of(words)

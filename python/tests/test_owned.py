@@ -12,10 +12,9 @@ import pytest
 import reading
 import trees
 from arbiter import Host
-from arbiter_host import change
+from arbiter_host import change, knobs
 from arbiter_host.faults import HostFault, UsageFault
 from arbiter_host.goals import Goals, goals_of
-from arbiter_host.knobs import Knobs
 from arbiter_host.owned import Setting, remade
 from arbiter_host.plan import plan
 from hypothesis import HealthCheck, given, settings
@@ -346,7 +345,7 @@ def test_no_lesser_request_reaches(engine, data, slices):
 
     before = plan(engine, model)
     goals = Goals(before, goals_of(before, [f"{path}={10 * slices}m"]), False)
-    found = [knob for knob in Knobs(goals).each() if knob.is_owned]
+    found = [knob for knob in knobs.each_of(goals) if knob.is_owned]
     for of, knob in zip(model.owned.ranges(path), found, strict=True):
         values = range(of.parts[0][0], of.parts[-1][1] + 1) if of.parts else ()
         if knob.least is None:

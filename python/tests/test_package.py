@@ -9,14 +9,14 @@ from pathlib import Path
 import arbiter
 import arbiter_host
 import pytest
-from arbiter_host.subcommands import PLACES
+from arbiter_host.subcommands import SUMMARIES
 from places import PACKAGE
 
 FOLDERS = ("arbiter", "arbiter_host", "arbiter_pages")
 SOURCES = [path for folder in FOLDERS for path in sorted((PACKAGE / folder).rglob("*.py"))]
 SOURCES.append(PACKAGE / "arbiterctl")
 TESTS = sorted((PACKAGE / "tests").glob("*.py"))
-SUBCOMMANDS = list(PLACES)
+SUBCOMMANDS = list(SUMMARIES)
 MOST_LINES, MOST_COLUMNS = 40, 100
 
 
@@ -89,7 +89,8 @@ def test_no_class_name_stands_twice():
 def imported(*words):
     """The modules that the parser of some words imports."""
     script = ("import sys; from arbiter_host import command;"
-              " command.parser_of_all(sys.argv[1:]); print(*sys.modules)")
+              " command.parser_of_all() if sys.argv[1:] == ['--help'] else"
+              " command.parsed(sys.argv[1:]); print(*sys.modules)")
     found = subprocess.run([sys.executable, "-c", script, *words], capture_output=True, text=True,
                            cwd=PACKAGE, check=True, timeout=60)
     return set(found.stdout.split())
@@ -98,7 +99,7 @@ def imported(*words):
 def test_a_short_command_imports_little():
     """The list of all imports no subcommand, and a subcommand no other one."""
     place = "arbiter_host.subcommands."
-    for words, wanted in ((["--help"], set()), (["undo", "x"], {place + "apply", place + "base"})):
+    for words, wanted in ((["--help"], set()), (["undo", "x"], {place + "apply"})):
         found = imported(*words)
         assert {name for name in found if name.startswith(place)} == wanted
     unused = {"textwrap", "signal", "dataclasses", "ctypes", "arbiter"}

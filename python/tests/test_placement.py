@@ -1,4 +1,4 @@
-"""The model of placement: against runs of guests that are kept, the proved law, and its words."""
+"""The model of placement: against runs of guests that are kept, the rule of queues, and its words."""
 import json
 import time
 from fractions import Fraction
@@ -102,7 +102,7 @@ def test_hosts_drawn_by_a_seed(tmp_path):
             kept.main(words)
 
 
-def test_rates_follow_the_proved_law():
+def test_rates_follow_the_weights_of_queues():
     """A task's part of its CPU is its planned share over the sum of those of the CPU's tasks."""
     shape = placement.shape_of(host(
         3, ("p", 300, 0, None), ("p/x", 70, 3000, 3), ("p/y", 500, 2000, 2), ("q", 20, 0, None),

@@ -173,6 +173,32 @@ def test_the_query_of_cadvisor(ctl, cadvisor):
         "prod/web/app": 100, "prod/web/log": 50, "test/web/app": 500, "prod/db/sql": 200}
 
 
+def test_owners_of_one_name_in_two_namespaces(ctl, folder):
+    """Two pods of one name, each of its own Deployment `web`: each has its own use, and that of its
+    own pods that are gone."""
+    def used(namespace, pod, seconds):
+        return ({"namespace": namespace, "pod": pod, "container": "app",
+                 "id": f"/{namespace}/{pod}"}, [seconds] * 5)
+
+    now = "web-5d9c-bbbbb"
+    record = [used("a", now, 30), used("b", now, 150), used("a", "web-77cc-kkkkk", 60),
+              used("b", "web-77cc-zzzzz", 90), used("c", "web-77cc-zzzzz", 300)]
+    data = json.loads(pods_of(("a", now, "app"), ("b", now, "app")))
+    for pod in data["items"][1:]:
+        pod["metadata"] |= {"labels": {"pod-template-hash": "5d9c"}, "ownerReferences": [
+            {"kind": "ReplicaSet", "name": "web-5d9c", "controller": True}]}
+    with running(folder, counters_of(record)) as url:
+        out, err = ctl.run("recommend", "-", "--used", url, "--range",
+                           f"{BEGIN + STEP}/{BEGIN + STEP * 5}", "--step", "5m", "--headroom", "0",
+                           "-o", "json", given=json.dumps(data).encode())
+    assert {each["container"]: (each["used_millicpu"], each["samples"], each["of"], each["set"])
+            for each in json.loads(out)["containers"]} == {
+        "Deployment a/web/app": (200, 10, 2, [f"a/{now}/app.request=200m"]),
+        "Deployment b/web/app": (500, 10, 2, [f"b/{now}/app.request=500m"])}
+    assert "replicas of these, 2: a/web-77cc-kkkkk/app, b/web-77cc-zzzzz/app" in err
+    assert "not here, 1: c/web-77cc-zzzzz/app" in err
+
+
 def test_a_container_that_was_made_anew(ctl, cadvisor):
     """Its two series are parts of one use: 0.2 CPUs before and after."""
     words = ("--used", cadvisor, "--range", f"{BEGIN + STEP}/{BEGIN + STEP * 5}", "--step", "5m")
@@ -241,6 +267,7 @@ def test_series_of_many_hosts():
 
 @pytest.mark.parametrize("word, step, wanted", [
     (None, None, (86400, 60)), ("7d", "5m", (604800, 300)), ("90min", "15s", (5400, 15)),
+    ("14d", None, (1209600, 300)), ("5000min", None, (300000, 60)),
 ])
 def test_ranges_up_to_now(monkeypatch, word, step, wanted):
     monkeypatch.setattr(prometheus.time, "time", lambda: 10**9 + 0.7)

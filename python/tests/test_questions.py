@@ -4,10 +4,9 @@ from fractions import Fraction
 import arbiter
 import pytest
 from arbiter import Host, Kind, Reason
-from arbiter_host import explain
+from arbiter_host import explain, knobs
 from arbiter_host.faults import HostFault
 from arbiter_host.goals import Goals, goals_of
-from arbiter_host.knobs import Knobs
 from arbiter_host.model import Group, Model
 from arbiter_host.plan import Engine, asking, guarantees, plan
 
@@ -85,7 +84,7 @@ def test_explain_follows_the_library(answering):
 def knobs_of(engine, model):
     """The settings alone with which a gets 550m."""
     before = plan(engine, model)
-    return Knobs(Goals(before, goals_of(before, ["a=550m"]), False)).each()
+    return knobs.each_of(Goals(before, goals_of(before, ["a=550m"]), False))
 
 
 def test_answers_follow_the_library(answering):

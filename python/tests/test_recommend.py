@@ -66,7 +66,7 @@ def test_who_is_short_and_what_is_guaranteed(ctl, folder):
     assert "p95 of 1 sample is the one that there is; 15% on top; the proved check accepted" in out
     assert "short when each uses this at once: 2 (x/a/c, x/b/c)" in out
     assert "requests of all pods: 400m now, 1725m then, of 1000m that the node has" in out
-    assert out.split("\n")[-2].split() == ["600m", "600m", "300m", "690m", "-", "-", "397m",
+    assert out.split("\n")[-2].split() == ["1", "600m", "600m", "300m", "690m", "-", "-", "397m",
                                            "377m", "x/b/c"]
 
 
@@ -119,7 +119,8 @@ def test_histories_are_one(ctl, folder):
     by, found, err = recommended(ctl, node_of(folder, "2", "1"), "--target", "p95,max", *(
         word for name in "123" for word in ("--used", folder / f"{name}.csv")))
     assert amounts(by["x/a/c"]) == (219, 230)
-    assert found["percentile"] == "p95 of 19 to 20 samples is number 19 of 20 in order"
+    assert found["percentile"] == (
+        "p95 of 19 to 20 samples is the greatest of 19 to number 19 of 20 in order")
     assert "used by containers that are not here, 2: other, x/*" in err
 
 
@@ -148,7 +149,7 @@ def test_an_idle_guaranteed_container(ctl, folder):
     words = (source, "--used", folder / "h.csv")
     by, found, _ = recommended(ctl, *words)
     assert by["x/b/c"]["set"] == [] and by["x/b/c"]["span_seconds"] == 7 * 86400
-    assert found["percentile"] == "p95 of 8 samples over 7 d is the greatest of them"
+    assert found["percentile"] == "p95 of 8 samples over 7 d is the greatest of 8"
     by, _, _ = recommended(ctl, *words, "--target", "p95,max")
     assert by["x/b/c"]["set"] == ["x/b/c.request=10m", "x/b/c.limit=10m"]
 
@@ -166,11 +167,102 @@ def test_replicas_of_one_owner(ctl, folder):
     source.write_text(json.dumps(found))
     (folder / "h.csv").write_text("time,x/a1/c,x/a2/c\n1,200m,300m\n2,940m,\n")
     by, _, _ = recommended(ctl, source, "--used", folder / "h.csv")
-    assert {name: (amounts(each), each["samples"], each["of"]) for name, each in by.items()} == {
-        f"x/a{at}/c": ((1081, None), 3, 2) for at in (1, 2, 3)}
-    sets = [word for each in by.values() for one in each["set"] for word in ("--set", one)]
+    (row,) = by.values()
+    assert (row["container"], amounts(row), row["samples"], row["of"]) == (
+        "Deployment x/web/c", (1081, None), 3, 2)
+    assert row["groups"] == [f"x/a{at}/c" for at in (3, 2, 1)]
+    sets = [word for one in row["set"] for word in ("--set", one)]
     out, _ = ctl.run("apply", source, *sets, "-o", "kubectl")
-    assert out.count("1081m") == 1 and "deployment" in out.lower()
+    assert len(sets) == 6 and out.count("1081m") == 1 and "deployment" in out.lower()
+
+
+def owned_pod(name, node, kind, owner, request="100m"):
+    """A pod of an owner in the namespace x."""
+    return {"kind": "Pod", "metadata": {
+        "name": name, "namespace": "x", "uid": name, "labels": {"pod-template-hash": "5d9c"},
+        "ownerReferences": [{"kind": kind, "name": owner, "controller": True}]}, "spec": {
+            "nodeName": node, "containers": [{"name": "c", "resources": {"requests": {
+                "cpu": request}}}]}}
+
+
+def cluster_of(folder):
+    """Two nodes: a Deployment with a replica on each, a StatefulSet, a DaemonSet, a pod alone."""
+    items = [{"kind": "Node", "metadata": {"name": name}, "status": {
+        "capacity": {"cpu": "4"}, "allocatable": {"cpu": "4"}}} for name in ("n1", "n2")]
+    alone = owned_pod("alone", "n2", "", "")
+    del alone["metadata"]["ownerReferences"]
+    items += [owned_pod("web-5d9c-bbbbb", "n1", "ReplicaSet", "web-5d9c"),
+              owned_pod("web-5d9c-ccccc", "n2", "ReplicaSet", "web-5d9c", "300m"),
+              owned_pod("db-0", "n1", "StatefulSet", "db"),
+              owned_pod("log-zzzzz", "n1", "DaemonSet", "log"), alone]
+    (folder / "c.json").write_text(json.dumps({"kind": "List", "items": items}))
+    return folder / "c.json"
+
+
+def test_an_owner_over_nodes_and_pods_that_are_gone(ctl, folder):
+    """web's 20 days of three pods, one of which is gone, are 60 samples of 10m to 1000m: the 57th
+    is 850m. So are db-1, which was scaled down, and log-22222. Others' columns are told."""
+    source, days = cluster_of(folder), range(1, 21)
+    names = ("web-5d9c-bbbbb", "web-5d9c-ccccc", "web-77cc-kkkkk", "db-0", "db-1", "log-22222",
+             "alone", "web-77cc-aaaaa", "webb-77cc-kkkkk", "gone")
+    (folder / "h.csv").write_text(
+        "time," + ",".join(f"x/{name}/c" for name in names) + "\n" + "".join(
+            f"2026-11-{at:02} 00:00:00,{at * 10}m,{at * 20}m,{at * 50}m,7m,900m,40m,3m,1,1,1\n"
+            for at in days))
+    words = (source, "--used", folder / "h.csv", "--headroom", "0")
+    by, found, err = recommended(ctl, *words)
+    assert {name: (each["used_millicpu"], each["samples"], each["of"], len(each["groups"]))
+            for name, each in by.items()} == {
+        "Deployment x/web/c": (850, 60, 3, 2), "StatefulSet x/db/c": (900, 40, 2, 1),
+        "DaemonSet x/log/c": (40, 20, 1, 1), "x/alone/c": (3, 20, 1, 1)}
+    assert by["Deployment x/web/c"]["settings"]["request"] == {"now": "100m, 300m", "then": "850m"}
+    assert by["Deployment x/web/c"]["gets_millicpu"] == 850
+    assert by["Deployment x/web/c"]["span_seconds"] == 19 * 86400
+    assert found["recommended_requests_millicpu"] == 850 * 2 + 900 + 40 + 10
+    assert "replicas of these, 3: x/web-77cc-kkkkk/c, x/db-1/c, x/log-22222/c" in err
+    assert "not here, 3: x/web-77cc-aaaaa/c, x/webb-77cc-kkkkk/c, x/gone/c" in err
+    # The owners of one node, by all that was seen of them.
+    one, _, _ = recommended(ctl, *words, "--node", "n1")
+    assert list(one) == ["Deployment x/web/c", "StatefulSet x/db/c", "DaemonSet x/log/c"]
+    assert one["Deployment x/web/c"]["set"] == by["Deployment x/web/c"]["set"]
+    (folder / "top").write_text("NAMESPACE POD NAME CPU(cores) MEMORY(bytes)\n" + "".join(
+        f"x web-5d9c-{name} c 50m 1Mi\n" for name in ("bbbbb", "ccccc")))
+    assert recommended(ctl, source, "--used", folder / "top", "--target", "p95,max")[1][
+        "percentile"] == "p95 of 2 samples of one moment is the greatest of 2"
+    assert "no node n9" in ctl.run("recommend", *words, "--node", "n9", status=6)[1]
+    assert list(recommended(ctl, *words, "-g", "x/alone")[0]) == ["x/alone/c"]
+    out, _ = ctl.run("recommend", *words)
+    assert out.startswith("hosts: 2, with 8 CPUs\np95 of 20 to 60 samples over 19 d is number 19 of"
+                          " 20 in order to number 57 of 60 in order; 0% on top;")
+    assert "\n     60  850m  1000m  100m, 300m  850m      -     -  850m        8" in out
+    assert "Deployment x/web/c (2)\n" in out
+
+
+def test_two_owners_that_may_have_made_a_pod(ctl, folder):
+    """A name that a Deployment web and a DaemonSet web-77cc could both have made is of neither."""
+    source = cluster_of(folder)
+    data = json.loads(source.read_text())
+    data["items"].append(owned_pod("web-77cc-bbbbb", "n1", "DaemonSet", "web-77cc"))
+    source.write_text(json.dumps(data))
+    (folder / "h.csv").write_text("time,x/alone/c,x/web-77cc-kkkkk/c\n1,5m,900m\n")
+    by, _, err = recommended(ctl, source, "--used", folder / "h.csv")
+    assert list(by) == ["x/alone/c"] and "not here, 1: x/web-77cc-kkkkk/c" in err
+
+
+def test_services_of_compose(ctl, folder):
+    """Containers of one service have one proposal, so that compose can say it."""
+    labels = {"com.docker.compose.project": "shop", "com.docker.compose.service": "web"}
+    (folder / "d.json").write_text(json.dumps([
+        {"Id": name * 64, "Name": f"/shop-web-{name}", "HostConfig": {},
+         "Config": {"Image": "b", "Labels": labels}} for name in "12"]))
+    (folder / "h.csv").write_text("time,shop-web-1,shop-web-2\n1,500m,300m\n2,100m,200m\n")
+    words = (folder / "d.json", "--cpus", "2", "--used", folder / "h.csv")
+    by, _, _ = recommended(ctl, *words)
+    (row,) = by.values()
+    assert (row["container"], row["used_millicpu"], row["samples"]) == ("service shop/web", 500, 4)
+    sets = [word for each in row["set"] for word in ("--set", each)]
+    out, _ = ctl.run("apply", *words[:3], *sets, "-o", "compose")
+    assert out.count("cpu_shares: 588") == 1
 
 
 def test_use_below_the_least(ctl, folder):
@@ -212,7 +304,7 @@ def test_a_throttled_container(ctl, folder):
     assert "limits that stay: 1 (of one sample none is proposed)" in ctl.run("recommend", *words)[0]
     words += ("--used", folder / "c")
     by, found, _ = recommended(ctl, *words)
-    assert found["percentile"] == "p95 of 2 samples over 20 s is the greatest of them"
+    assert found["percentile"] == "p95 of 2 samples over 20 s is the greatest of 2"
     assert amounts(by["prod/web-7c9f/nginx"]) == (345, 2300)
     assert by["prod/web-7c9f/nginx"]["throttled"] is True
     out, _ = ctl.run("recommend", *words)
@@ -283,7 +375,7 @@ def test_containers_of_docker(ctl, folder):
         "system.slice/a": 23, "system.slice/b": 14}
     out, _ = ctl.run("recommend", *words)
     assert "requests of all pods" not in out
-    assert out.split("\n")[-2].split() == ["300m", "300m", "2048", "353", "1", "0.345", "300m",
+    assert out.split("\n")[-2].split() == ["2", "300m", "300m", "2048", "353", "1", "0.345", "300m",
                                            "300m", "system.slice/b"]
 
 
@@ -323,8 +415,8 @@ def test_units(ctl, folder):
     assert unit_settings(found) == {"a.service": (("100", "35"), ("50%", None)),
                                     "b.service": (("100", "138"), ("-", None))}
     out, _ = ctl.run("recommend", *words)
-    assert out.split("\n")[5].split() == ["used", "most", "CPUWeight", "then", "CPUQuota", "then",
-                                          "gets", "guaranteed", "unit"]
+    assert out.split("\n")[5].split() == ["samples", "used", "most", "CPUWeight", "then",
+                                          "CPUQuota", "then", "gets", "guaranteed", "unit"]
     _, err = ctl.run("recommend", words[0], "--cpus", "4", status=1)
     assert "nothing was seen of any unit here: --used says what they used" in err
 

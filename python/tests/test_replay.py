@@ -19,6 +19,7 @@ ROOT = PACKAGE.parent
 SVG = "{http://www.w3.org/2000/svg}"
 GETS, RED = "#2b6cb0", "#b4231f"
 DAY = ["--slice", "1ms", "--unit", "slices"]
+PODS, NODE = (PACKAGE / "tests/fixtures" / name for name in ("pods.json", "node.json"))
 
 
 def day(ctl, *words):
@@ -121,6 +122,7 @@ def test_csv_that_names_what_separates_its_cells():
     (b"Time,web\n1,\xff\n", "f.csv", "f.csv:2: not UTF-8"), (b"web\n-1\n", "f.csv", "f.csv:2: "),
     (b"Time,web,db,web\n1,2,3,4\n", "f.csv", "f.csv:1: two numbers of web"),
     (b"web 1 web 2\n", "f", "f:1: two numbers of web"),
+    (b'Time,web\n1,"1,234"\n', "f.csv", "f.csv:2: '1,234': a comma in a number of a file whose"),
 ])
 def test_files_that_are_refused(data, path, words):
     """What is no number, and what is there twice, is told with its line."""
@@ -308,3 +310,23 @@ def test_a_group_that_is_not_there(ctl, folder):
     assert "no group zz" in ctl.run(*words, "-g", "zz", status=6)[1]
     assert "--used: " in ctl.run(*words[:2], status=2)[1]
     assert "-o html: of one host" in ctl.run(*words, "-o", "html", status=2)[1]
+
+
+def test_use_below_ten_thousandths(ctl, folder):
+    """Use is planned by slices of a thousandth, where a sample is no shorter than such a period. A
+    host file says its period itself. Slices longer than that are told."""
+    (folder / "h.csv").write_text("time,prod/web-7c9f/nginx,prod/db-0\n1,1m,2m\n2,3m,5m\n")
+    words = ("replay", PODS, NODE, "--used", folder / "h.csv", "-o", "csv")
+
+    def wanted(*more):
+        out, err = ctl.run(*words, *more)
+        return [each["wants"] for each in rows_of(out)], "each use is rounded up to it" in err
+
+    assert wanted() == (["0.001", "0.002", "0.003", "0.005"], False)
+    assert wanted("--step", "1m") == wanted()
+    assert wanted("--step", "500ms") == (["0.002", "0.002", "0.004", "0.006"], True)
+    assert wanted("--period", "100ms") == wanted("--step", "100ms") == (["0.01"] * 4, True)
+    assert wanted("--unit", "slices")[0] == ["1"] * 4
+    out, _ = ctl.run("replay", ROOT / "examples/day.script", "--used", ROOT / "examples/day.csv",
+                     "--unit", "slices", "--step", "30m", "-o", "csv")
+    assert {row["periods"] for row in rows_of(out)} == {"18000"}

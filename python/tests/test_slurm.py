@@ -155,6 +155,11 @@ def test_suspended_jobs_ask_for_nothing():
     found = read(HEAD + "".join(f"{job}|x|eve|SUSPENDED|4|01:00|02:00|n1\n"
                                 for job in ("7", "7.0")), host=Host(8, 100000, 1000))
     assert [each.demand for each in found.groups.values()] == [0, 0]
+    for state, demand in (("STOPPED", 0), ("SIGNALING", 2000), ("COMPLETING", 2000)):
+        found = read(HEAD + f"7|x|eve|{state}|4|01:00|02:00|n1\n", host=Host(8, 100000, 1000))
+        assert found.groups["eve:x:7"].demand == demand
+        found = read(json.dumps({"jobs": [{**raw, "job_state": [state]}]}), host=Host(8))
+        assert (found.groups["eve:x:7"].demand == 0) == (demand == 0)
 
 
 def test_average_use_of_steps():
@@ -163,6 +168,8 @@ def test_average_use_of_steps():
     host = Host(8, 100000, 1000)
     found = read(jobs, "JobID|NTasks|AveCPU\n7.0|2|00:30\n", host=host)
     assert found.groups["eve:x:7/step_0"].demand == 1000
+    found = read(jobs, "JobID|NTasks|AveCPU\n7.0|2|00:30\n8.0|2|00:30\n7.1|1|00:30\n", host=host)
+    assert "rows of sstat of no step here, left out: 2" in found.notes
     with pytest.raises(HostFault, match="f1:2: AveCPU is of one task: print NTasks beside it"):
         read(jobs, "JobID|AveCPU\n7.0|00:30\n", host=host)
 

@@ -780,10 +780,12 @@ def test_docker(engine):
 def test_paused_containers_ask_for_nothing(engine):
     """A frozen task uses nothing, whatever its limit is."""
     raw = [{"Id": "1", "Name": "/a", "HostConfig": {}, "State": {"Running": True, "Paused": True}},
-           {"Id": "2", "Name": "/b", "HostConfig": {}, "State": {"Running": True}}]
+           {"Id": "2", "Name": "/b", "HostConfig": {}, "State": {"Running": True}},
+           {"Id": "3", "Name": "/c", "HostConfig": {}, "State": {"Status": "restarting"}}]
     model = reading.docker([("d", json.dumps(raw).encode())], EIGHT, engine.library)
-    assert [each.demand for each in model.groups.values()] == [0, 0, 8000]
-    assert model.notes == ["paused: system.slice/a: it asks for nothing"]
+    assert [each.demand for each in model.groups.values()] == [0, 0, 8000, 0]
+    assert model.notes == ["paused: system.slice/a: it asks for nothing",
+                           "restarting: system.slice/c: it asks for nothing"]
 
 
 def test_podman(engine):
@@ -853,3 +855,20 @@ def test_a_setting_of_docker_that_cannot_be_read(ctl, key, value):
     found[0]["HostConfig"][key] = value
     _, err = ctl.run("explain", "-", "--cpus", "4", given=json.dumps(found).encode(), status=1)
     assert f"{key} " in err and "is no whole number" in err
+
+
+def test_what_a_pod_has_beside_its_containers_is_told(engine):
+    """A resize that is not done yet, and ephemeral containers that run."""
+    pod = {"kind": "Pod", "metadata": {"namespace": "n", "name": "p"}, "spec": {"containers": [
+        {"name": "c", "resources": {"requests": {"cpu": "2"}, "limits": {"cpu": "2"}}},
+        {"name": "d", "resources": {"requests": {"cpu": "500m"}}}]}, "status": {
+            "containerStatuses": [
+                {"name": "c", "resources": {"requests": {"cpu": "1"}, "limits": {"cpu": "1500m"}}},
+                {"name": "d", "resources": {"requests": {"cpu": "0.5"}}}],
+            "ephemeralContainerStatuses": [{"name": "x", "state": {"running": {}}},
+                                           {"name": "y", "state": {"terminated": {}}}]}}
+    model = reading.pods([("P", json.dumps(pod).encode())], EIGHT, engine.library)
+    assert model.notes[:2] == [
+        "n/p/c: its resize is not done: what is set now is request 1000m, limit 1500m",
+        "n/p: ephemeral containers, left out: 1"]
+    assert model.groups["kubepods/burstable/n:p/c"].quota == 200000

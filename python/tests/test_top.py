@@ -10,6 +10,7 @@ import subprocess
 import sys
 import time
 import urllib.error
+import urllib.parse
 import urllib.request
 from fractions import Fraction
 
@@ -24,8 +25,10 @@ from arbiter_host.plan import plan
 from places import PACKAGE
 from prometheus_client.openmetrics import parser
 from prometheus_client.parser import text_string_to_metric_families
+from test_prometheus import running
 
 BOARD = PACKAGE.parent / "share/grafana.json"
+PODS = PACKAGE / "tests/fixtures/pods.json"
 TWO = Host(2, 100000, 1000)
 # b has so little weight that it gets none of the 20 slices.
 STARVES = (b"# arbiter run --processors 1 --period 100000 --slice 5000\nmkdir a\nmkdir b\n"
@@ -68,11 +71,11 @@ def test_figures_by_hand(engine, folder):
     assert (found["."].got, found["."].plan) == (1700, 2000)
     held = top.alerts(list(found.values()), top.conditions(
         "starved,throttled>39%,throttled>40%,lack>300m,lack>340m,off>299m,off>300m,b*:off,web:off"))
-    assert [tuple(each) for each in held] == [
+    assert [each[:2] for each in held] == [
         ("throttled>39%", "web"), ("lack>300m", "web"), ("off>299m", "batch"), ("b*:off", "batch")]
     # A group with children is compared where it is named: the host used 300m less than its plan.
     named = top.conditions(".:off>299m,.:off>300m,*:off>250m")
-    assert [tuple(each) for each in top.alerts(list(found.values()), named)] == [
+    assert [each[:2] for each in top.alerts(list(found.values()), named)] == [
         (".:off>299m", "."), ("*:off>250m", "batch")]
 
 
@@ -181,7 +184,8 @@ def test_command_of_an_alert(ctl, folder):
 
 
 @pytest.mark.parametrize("words, told", [
-    (["--alert", "throttled>5%"], "trees of cgroups alone are measured"),
+    (["--alert", "throttled>5%"], "what is measured is a tree of cgroups, or told by --used"),
+    (["--pods", "x"], "--pods: it has no effect on a source of the kind script"),
     (["--read", "1x0"], "--read: a time above 0"), (["--read", "5s"], "--read 5s: NxTIME"),
     (["--read", "1xy"], "--read: 'y' is no time"), (["--listen", "0.0.0.0:1"], "not a loopback"),
     (["--command", ""], "--command: it is empty"), (["--command", " "], "--command: it is empty"),
@@ -233,6 +237,102 @@ def test_metrics_by_hand(engine):
     text = metrics.text_of(figured).decode()
     parsed = list(parser.text_string_to_metric_families(text))
     assert {each.name for each in parsed} == set(metrics.NAMES) and text.endswith("# EOF\n")
+
+
+NGINX = ("kubepods.slice/kubepods-burstable.slice/kubepods-burstable-pod00000001_0b1c_4d2e_8f3a_"
+         f"0123456789ab.slice/cri-containerd-{'a1' * 32}.scope")
+NAMED = "kubepods.slice/kubepods-burstable.slice/prod:web-7c9f/nginx"
+OF_NGINX = {"namespace": "prod", "pod": "web-7c9f", "container": "nginx"}
+
+
+def tree_of_pods(folder):
+    """A tree in which nginx of pods.json, its pause container and a service stand."""
+    trees.root2(folder)
+    places = [NGINX, NGINX.replace("a1" * 32, "ff" * 32), "ssh.service"]
+    for place in places:
+        parts = place.split("/")
+        for count in range(1, len(parts) + 1):
+            trees.group2(folder / "/".join(parts[:count]), usage=5, periods=10, throttled=1)
+    return folder
+
+
+def test_names_of_pods(ctl, folder):
+    """Alerts, their command, lines and metrics name namespace, pod and container, as
+    kube-state-metrics does. What is of no container has no such name."""
+    tree = tree_of_pods(folder / "t")
+    (folder / "out").mkdir(mode=0o700)
+    words = ("top", tree, "--pods", PODS, "--cpus", "1", "--want", "busy", "--read", "2x50ms")
+    out, _ = ctl.run(*words, "--alert", "prod/*/nginx:lack>1m", "--command", "cat", "-o", "json",
+                     "-o", f"openmetrics={folder}/out/m", status=5)
+    given, line = (json.loads(each) for each in reversed(out.split("\n")[:2]))
+    given, line = (given, line) if isinstance(given, list) else (line, given)
+    assert given == [{"condition": "prod/*/nginx:lack>1m", "group": NAMED, **OF_NGINX}]
+    assert line["alerts"] == [{"alert": "prod/*/nginx:lack>1m", "group": NAMED, **OF_NGINX}]
+    samples = [each for family in text_string_to_metric_families((folder / "out/m").read_text())
+               for each in family.samples if each.name == "arbiter_plan_gets_cpus"]
+    named = {each.labels["group"]: {key: each.labels[key] for key in OF_NGINX if each.labels[key]}
+             for each in samples}
+    assert {group: names for group, names in named.items() if names} == {
+        NAMED: OF_NGINX, NAMED.rpartition("/")[0]: {"namespace": "prod", "pod": "web-7c9f"}}
+    out, _ = ctl.run(*words, "-o", "text")
+    assert "  prod:web-7c9f\n" in out and "  nginx\n" in out and "cri-containerd-a1" not in out
+
+
+def test_measured_pods_have_alerts_of_use(ctl, folder):
+    """A source of pods that a tree or a file measures tells how far off its plan is."""
+    words = ("top", PODS, PODS.parent / "node.json", "--read", "1x50ms", "--alert")
+    used = ("--used", PODS.parent / "top.txt")
+    out, err = ctl.run(*words, "prod/db-0/postgres:off<1m", *used, status=2)
+    out, err = ctl.run(*words, "prod/*:off>250m,lack>250m", *used)
+    assert json.loads(out)["alerts"] == []
+    _, err = ctl.run(*words, "off>250m", status=2)
+    assert "told by --used" in err
+
+
+def test_names_are_asked_again(engine, folder):
+    """Where a container came that has no name, once a minute; a failure leaves the names."""
+    tree, asked = tree_of_pods(folder / "t"), []
+
+    def ask():
+        asked.append(None)
+        if len(asked) == 3:
+            raise HostFault("no answer")
+        return {NGINX: ("prod", "web", "c")} if len(asked) > 1 else {}
+
+    warned = []
+    watched = top.Watched(engine, looks.Tree(str(tree), TWO, lambda: 0.0), "busy", ask,
+                          warned.append)
+    names = []
+    for at in range(6):
+        names.append({each.pod for each in watched.round().figures()} - {("", "", "")})
+        if at == 3:
+            trees.group2(tree / NGINX.replace("a1" * 32, "bb" * 32))
+            watched.again = 0.0
+    assert len(asked) == 3 and warned == ["no answer"]
+    assert names == [set(), *[{("prod", "web", "c")}] * 5]
+
+
+def test_metrics_join_those_of_kube_state_metrics(engine, folder):
+    """By a real Prometheus: the plan of each container as a part of its request."""
+    model = Model(Host(1, 100000, 1000))
+    for at, namespace in enumerate(("a", "b"), 1):
+        model.add(Group(namespace, demand=Fraction(100 * at), pod=(namespace, "web", "c")))
+    figured = metrics.Figured()
+    figured.put(top.PlannedRound(plan(engine, model)).figures(), [])
+    lines = metrics.text_of(figured).decode().replace("# EOF\n", "").split("\n")
+    lines += ["# TYPE kube_pod_container_resource_requests gauge",
+              *(f'kube_pod_container_resource_requests{{namespace="{name}",pod="web",container="c",'
+                f'resource="cpu",unit="core",node="n",uid="u"}} {request}'
+                for name, request in (("a", 0.2), ("b", 0.8))), "# EOF", ""]
+    at = 1767607200
+    text = "\n".join(f"{each} {at}" if each and each[0] != "#" else each for each in lines if each)
+    query = ("arbiter_plan_gets_cpus / on (namespace, pod, container)"
+             ' kube_pod_container_resource_requests{resource="cpu"}')
+    with running(folder, text + "\n") as url:
+        found = json.load(urllib.request.urlopen(f"{url}/api/v1/query?" + urllib.parse.urlencode(
+            {"query": query, "time": at + 1}), timeout=20))
+    assert {each["metric"]["namespace"]: each["value"][1] for each in found["data"]["result"]} == {
+        "a": "0.5", "b": "0.25"}
 
 
 def test_metrics_have_no_fault_by_promtool(engine):

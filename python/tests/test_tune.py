@@ -226,18 +226,14 @@ def test_limits_are_at_one_level(ctl, folder):
     assert not asked(ctl, source, "a=550m", words=["-g", "a", "-g", "c", "-g", "d"])["met"]
 
 
-def test_few_limits_that_cost_no_more(ctl, folder):
-    """a has 4 of 20 slices, and 8 where b has 4, or b and c have 6 each: the others lose 4."""
+def test_each_limit_is_as_high_as_the_level(ctl, folder):
+    """a has 4 of 20 slices, and 8 where b and c have 6 each.
+
+    In the other host b, c and d have 7, 7 and 6, and 5 each where a has 5.
+    """
     source = host_file(folder, ("a", 1, 1000), ("b", 10000, 400), ("c", 10000, 400))
     assert limits(asked(ctl, source, "a=400m", words=["-g", "b", "-g", "c"])) == {
-        ("b", "max"): ("-", "200m")}
-
-
-def test_few_limits_that_cost_more(ctl, folder):
-    """b, c and d have 7, 7 and 6 of 20 slices, and lose 5 where each has 5.
-
-    Where b stays it takes 8, so c and d have 7 together, and lose 6.
-    """
+        (path, "max"): ("-", "300m") for path in "bc"}
     source = host_file(folder, ("a", 1, 1000), ("b", 10000, 400), ("c", 10000, 1000),
                        ("d", 10000, 1000))
     assert limits(asked(ctl, source, "a=250m",

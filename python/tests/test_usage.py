@@ -331,3 +331,12 @@ def test_fractions_are_exact():
     found = usage.read((FIXTURES / "metrics.json").read_bytes(), "F")
     assert [each.amounts for each in found if each.container == "coredns"] == [
         (Fraction(2900001, 10**6),)]
+
+
+def test_use_that_no_host_has(ctl, folder):
+    """More than all CPUs, as counters that were taken for use, is told."""
+    (folder / "top").write_text("POD NAME CPU(cores) MEMORY(bytes)\nweb-7c9f nginx 4001m 1Mi\n"
+                                "web-7c9f metrics 4000m 1Mi\n")
+    _, err = ctl.run("explain", PODS, NODE, "--used", folder / "top")
+    assert "prod:web-7c9f/nginx: 4001m used: more than the host has" in err
+    assert "metrics: 4000m" not in err

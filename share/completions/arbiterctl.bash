@@ -183,6 +183,7 @@ _arbiterctl() {
                 --scale) ;;
                 --read) ;;
                 --used) ;;
+                --pods) ;;
                 --range) ;;
                 --step) ;;
                 --query) ;;
@@ -193,7 +194,7 @@ _arbiterctl() {
                 --slice) ;;
                 --library) ;;
                 *)
-                    [[ $word == -* ]] && mapfile -t COMPREPLY < <(compgen -W "-g --group -n --namespace -l --selector -o --output --state --sort --depth --unit --all -v --verbose --alert --command --listen --from --want --scale --read --used --range --step --query --node --node-weights --strict --cpus --period --slice --library -h --help" -- "$word")
+                    [[ $word == -* ]] && mapfile -t COMPREPLY < <(compgen -W "-g --group -n --namespace -l --selector -o --output --state --sort --depth --unit --all -v --verbose --alert --command --listen --from --want --scale --read --used --pods --range --step --query --node --node-weights --strict --cpus --period --slice --library -h --help" -- "$word")
                     ;;
             esac
             ;;
@@ -269,7 +270,7 @@ _arbiterctl() {
             ;;
         apply)
             case $given in
-                -o|--output) mapfile -t COMPREPLY < <(compgen -W "text kubectl dropin compose shell slurm" -- "$word") ;;
+                -o|--output) mapfile -t COMPREPLY < <(compgen -W "text kubectl dropin compose slurm" -- "$word") ;;
                 --set) ;;
                 --root) ;;
                 --by) mapfile -t COMPREPLY < <(compgen -W "systemd persistent files" -- "$word") ;;

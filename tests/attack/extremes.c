@@ -30,6 +30,62 @@ static void demand(int holds, int line)
 #define HOST 1, 100000, 5000
 #define ALL(n) parents, n, weights, n, limits, n, demands, n
 
+static void *copied(const void *from, size_t size)
+{
+    return memcpy(guard_block(size, 0), from, size);
+}
+
+/* A script with room for so many groups, bytes of names and refused lines, of blocks between guard pages. */
+static uint32_t script(const void *text, size_t size, size_t n, size_t names, size_t lines, uint32_t *count)
+{
+    uint32_t *parents = guard_block(n * 4, 0), *faults = guard_block(lines * 4, 0);
+    uint64_t *columns[7], *at = guard_block(lines * 8, 1), names_count = 7, refused = 7;
+    uint8_t *told = guard_block(names, 0);
+
+    for (int each = 0; each < 7; each++)
+        columns[each] = guard_block(n * 8, each % 2);
+    uint32_t answer = arbiter_script(HOST, UINT64_MAX, text, size, parents, n, columns[0], n, columns[1], n, columns[2], n, columns[3], n, columns[4], n,
+                                     columns[5], n, columns[6], n, told, names, at, lines, faults, lines, count, &names_count, &refused);
+    demand(answer ? names_count == 7 && refused == 7 : names_count <= names && refused <= lines && *count <= n, __LINE__);
+    for (int each = 0; each < 7; each++)
+        guard_drop(columns[each]);
+    guard_drop(parents), guard_drop(faults), guard_drop(at), guard_drop(told);
+    return answer;
+}
+
+/* Scripts at odd addresses and cut behind each letter, of nothing, of the most groups and one more, of a line of millions. */
+static void scripts(void)
+{
+    static const char text[] = "mkdir a\nwrite a cpu.max 5000\nmkdir a/b\ndemand a/b 3\nperiod\n\xff\nmkdir a";
+    const size_t most = 16384, long_line = (size_t)1 << 21;
+    char *many = guard_block((most + 1) * 12 + 1, 0), *zeros = guard_block(long_line, 0);
+    uint32_t count = 7;
+    size_t size = 0;
+
+    for (size_t cut = 0; cut < sizeof text; cut++)
+        for (size_t odd = 0; odd < 16; odd++) {
+            uint8_t *block = guard_block(cut + odd, 0);
+            memcpy(block + odd, text, cut);
+            IS(0, script(block + odd, cut, 8, cut + 1, 8, &count));
+            guard_drop(block);
+        }
+    demand(count == 3, __LINE__);
+    IS(0, script("", 0, 1, 1, 0, &count));
+    demand(count == 1, __LINE__);
+    IS(50, script("", 0, 0, 1, 0, &count));
+    IS(50, script("", 0, 1, 0, 0, &count));
+    IS(50, script("x", 1, 1, 1, 0, &count));
+    demand(count == 1, __LINE__);
+    for (size_t each = 0; each <= most; each++)
+        size += (size_t)sprintf(many + size, "mkdir %05zu\n", each);
+    IS(0, script(many, size, most, size, 2, &count));
+    demand(count == most, __LINE__);
+    IS(50, script(many, size, most, size, 1, &count));
+    memset(zeros, 0, long_line);
+    IS(0, script(zeros, long_line, 1, 1, 1, &count));
+    guard_drop(many), guard_drop(zeros);
+}
+
 /* What every call answers for rows, told apart by one number: the answers and all that was written. */
 static uint64_t told(const uint32_t *parents, const uint64_t *weights, const uint64_t *limits, const uint64_t *demands, size_t n)
 {
@@ -40,7 +96,10 @@ static uint64_t told(const uint32_t *parents, const uint64_t *weights, const uin
     uint64_t *wants = guard_block(n * 8, 0), *mosts = guard_block(n * 8, 1), *shares = guard_block(n * 8, 0), *withheld = guard_block(n * 8, 1);
     uint32_t *actives = guard_block(n * 4, 1);
     uint64_t *carries = guard_block(n * 8, 0), *sums[6];
-    uint32_t answers[11];
+    uint8_t *hungry = copied(weights, n), *together = guard_block(1, 0);
+    uint64_t *held = guard_block(n * 8, 0), *round = guard_block(n * 8, 1), *tuned = guard_block(n * 8, 0), unmet = 7;
+    const uint32_t last = (uint32_t)n - 1;
+    uint32_t answers[13];
 
     answers[0] = arbiter_plan(HOST, ALL(n), amounts, n);
     answers[1] = arbiter_certify(HOST, ALL(n), amounts, n, flags, n, nums, n, dens, n, places, n);
@@ -52,11 +111,17 @@ static uint64_t told(const uint32_t *parents, const uint64_t *weights, const uin
     answers[7] = arbiter_least_limit(HOST, ALL(n), (uint32_t)n - 1, 5, &least[2]);
     answers[8] = arbiter_least_processors(HOST, ALL(n), (uint32_t)n - 1, 5, &least[3]);
     answers[9] = arbiter_figures(HOST, ALL(n), wants, n, mosts, n, tights, n, actives, n, shares, n, withheld, n);
+    for (size_t g = 0; g < n; g++)
+        sum = sum * 31 + amounts[g] + 3 * nums[g] + 5 * dens[g] + 7 * flags[g];
+    answers[10] = arbiter_hold(HOST, ALL(n), hungry, n, held, n, round, n, amounts, n, flags, n, nums, n, dens, n, places, n);
+    answers[11] = arbiter_tune(HOST, ALL(n), &last, 1, demands, 1, 0, tuned, n, together, 1, &unmet);
     for (int each = 0; each < 6; each++)
         sums[each] = guard_block(n * 8, 1);
-    answers[10] = arbiter_book(HOST, ALL(n), limits, n, demands, n, carries, n, sums[0], n, sums[1], n, sums[2], n, sums[3], n, sums[4], n, sums[5], n);
-    for (int each = 0; each < 11; each++)
+    answers[12] = arbiter_book(HOST, ALL(n), limits, n, demands, n, carries, n, sums[0], n, sums[1], n, sums[2], n, sums[3], n, sums[4], n, sums[5], n);
+    for (int each = 0; each < 13; each++)
         sum = sum * 31 + answers[each];
+    for (size_t g = 0; g < n; g++)
+        sum = sum * 31 + held[g] + 3 * round[g] + 5 * tuned[g] + 7 * (g ? 0 : unmet + together[0]);
     for (size_t g = 0; g < n; g++)
         sum = sum * 31 + carries[g] + 3 * sums[0][g] + 5 * sums[1][g] + 7 * sums[2][g] + 11 * sums[3][g] + 13 * sums[4][g] + 17 * sums[5][g];
     for (size_t g = 0; g < n; g++)
@@ -65,19 +130,15 @@ static uint64_t told(const uint32_t *parents, const uint64_t *weights, const uin
         sum = sum * 31 + amounts[g] + 3 * nums[g] + 5 * dens[g] + 7 * flags[g] + 11 * places[g] + 13 * groups[g] + 17 * reasons[g];
     for (int each = 0; each < 4; each++)
         sum = sum * 31 + least[each];
-    calls += 11;
+    calls += 13;
     demand(1, __LINE__);
     for (int each = 0; each < 6; each++)
         guard_drop(sums[each]);
     guard_drop(carries);
+    guard_drop(hungry), guard_drop(together), guard_drop(held), guard_drop(round), guard_drop(tuned);
     guard_drop(amounts), guard_drop(nums), guard_drop(dens), guard_drop(places), guard_drop(groups), guard_drop(flags), guard_drop(reasons);
     guard_drop(tights), guard_drop(wants), guard_drop(mosts), guard_drop(shares), guard_drop(withheld), guard_drop(actives);
     return sum * 31 + rest + count + row;
-}
-
-static void *copied(const void *from, size_t size)
-{
-    return memcpy(guard_block(size, 0), from, size);
 }
 
 /* Columns that lie over each other answer as their copies do. */
@@ -134,6 +195,8 @@ static void nothing(void)
     IS(5, arbiter_book(HOST, ALL(0), limits, 0, demands, 0, amounts, 0, amounts, 0, amounts, 0, amounts, 0, amounts, 0, amounts, 0, amounts, 0));
     IS(5, arbiter_least_weight(HOST, ALL(0), UINT32_MAX, UINT64_MAX, &number));
     IS(5, arbiter_refused_row(ALL(0), &row));
+    IS(5, arbiter_hold(HOST, ALL(0), flags, 0, amounts, 0, amounts, 0, amounts, 0, flags, 0, amounts, 0, amounts, 0, places, 0));
+    IS(5, arbiter_tune(HOST, ALL(0), parents, 0, amounts, 0, 1, amounts, 0, flags, 0, &number));
     IS(50, arbiter_plan(0, 0, 0, parents, 0, weights, 0, limits, 0, demands, 0, &number, 1));
     IS(13, arbiter_name(57, (char *)flags, 0));
     IS(strlen(ARBITER_VERSION), arbiter_version((char *)flags, 0));
@@ -169,6 +232,11 @@ static void millions(void)
     IS(4, arbiter_guarantee(HOST, ALL(n), 0, &number));
     IS(4, arbiter_figures(HOST, ALL(n), amounts, n, nums, n, flags, n, places, n, dens, n, more, n));
     IS(4, arbiter_least_processors(HOST, ALL(n), 0, 1, &number));
+    uint64_t *held = mapped(n * 8), *round = mapped(n * 8);
+    uint8_t *hungry = mapped(n);
+    IS(4, arbiter_hold(HOST, ALL(n), hungry, n, held, n, round, n, amounts, n, flags, n, nums, n, dens, n, places, n));
+    IS(4, arbiter_tune(HOST, ALL(n), parents, n, weights, n, 0, held, n, flags, n, &number));
+    munmap(held, n * 8), munmap(round, n * 8), munmap(hungry, n);
     IS(50, arbiter_plan(HOST, parents, n, weights, 3, limits, n, demands, n, amounts, n));
     IS(50, arbiter_plan(HOST, ALL(n), amounts, n - 1));
     row = 7;
@@ -259,6 +327,16 @@ static void numbers(void)
                 demand(host ? answer == host && number == 7 : answer == 0 || answer == 14 || answer == 15, __LINE__);
                 answer = arbiter_demand(ends[p], ends[u], ends[s], ends[(p * 3 + s) % many], &number);
                 demand(host ? answer == host : answer == 0 || answer == 9, __LINE__);
+                uint64_t ran[2] = {ends[u], ends[p]}, asked = 7, quota = 7, weight = 7;
+                uint32_t hungry = 7;
+                number = 7;
+                answer = arbiter_reading(ends[p], ends[u], ends[s], ends[(u * 5 + p) % many], ends[(s + p) % many], ends[(s * 3 + u) % many], p % 2 ? 2 : UINT32_MAX, s % 2,
+                                         ran, 2, ran, 2, &number, &asked, &hungry);
+                demand(host ? answer == host : answer == 0 || answer == 15, __LINE__);
+                demand(answer ? number == 7 && asked == 7 && hungry == 7 : number <= asked && asked <= 1000000 && hungry < 2, __LINE__);
+                answer = arbiter_written(ends[p], ends[u], ends[s], ends[(p + u) % many], ends[(u + s) % many], ends[(s + p) % many], (uint32_t)ends[(p * 7 + s) % many], &quota, &weight);
+                demand(host ? answer == host : answer == 0 || answer == 14, __LINE__);
+                demand(answer ? quota == 7 && weight == 7 : (quota >= 1000 || quota == NONE) && weight >= 1 && weight <= 10000, __LINE__);
                 answer = arbiter_period_limit(ends[p], ends[u], ends[s], ends[(u + s) % many], ends[(p + s) % many], ends[(p + u) % many], ends[(s * 3) % many], &number);
                 demand(host ? answer == host : answer == 0 || (answer >= 13 && answer <= 15), __LINE__);
             }
@@ -289,6 +367,7 @@ int main(void)
     nothing();
     millions();
     odd_addresses();
+    scripts();
     many_rows();
     numbers();
     printf("%lu calls\n", calls);

@@ -343,6 +343,81 @@ static void hold_book(struct host host, struct rows rows, const uint64_t *amount
     guard_drop(wants), guard_drop(quotas), guard_drop(carries), guard_drop(tights), guard_drop(actives);
 }
 
+/* The limits of a round: a leaf's is no less than its guarantee, and no more than its own. The certificate is that of the plan. */
+static void hold_round(struct host host, struct rows rows)
+{
+    size_t n = rows.parents_length;
+    uint8_t *hungry = column(n, 1), is_inner[MOST] = {0};
+    uint64_t *held = marked(n, 8), *demands = marked(n, 8), least = 77;
+    struct answer found = room(n);
+    uint32_t row = 77, group = (uint32_t)(taken(1) % n);
+
+    for (size_t each = n; each--;) {
+        hungry[each] = taken(1) % 3 == 0 ? (uint8_t)(1 + taken(1) % 255) : 0;
+        if (each)
+            is_inner[rows.parents[each]] = 1;
+    }
+    demand(counted(arbiter_hold(HOST(host), ROWS(rows), hungry, n, held, n, demands, n, found.amounts, n, found.flags, n, found.nums, n,
+                                found.dens, n, found.places, n)) == 0, "no round");
+    struct rows asked = rows;
+    asked.demands = demands;
+    demand(check(host, asked, &found, &row) == 0 && row == 77, "the plan of a round is not accepted");
+    for (size_t each = 0; each < n; each++) {
+        demand(demands[each] == (is_inner[each] || !hungry[each] ? rows.demands[each] : 1000000), "another demand");
+        demand(is_inner[each] ? held[each] == rows.limits[each] : held[each] <= rows.limits[each], "a limit above its own");
+    }
+    if (!is_inner[group]) {
+        demands[group] = 1000000;
+        demand(counted(arbiter_guarantee(HOST(host), ROWS(asked), group, &least)) == 0 && least <= held[group], "a limit below a guarantee");
+    }
+    drop(&found);
+    guard_drop(hungry), guard_drop(held), guard_drop(demands);
+}
+
+/* What a group gets by the plan, or whatever the others ask for. */
+static uint64_t gets(struct host host, struct rows rows, uint32_t group, uint32_t guaranteed)
+{
+    uint64_t amount = 77;
+
+    if (!guaranteed)
+        return planned(host, rows, group);
+    demand(counted(arbiter_guarantee(HOST(host), ROWS(rows), group, &amount)) == 0, "no guarantee");
+    return amount;
+}
+
+/* Weights of the goals' groups alone meet the goals, or some of these are told. */
+static void hold_tune(struct host host, struct rows rows)
+{
+    size_t n = rows.parents_length, many = taken(1) % 4, flagged = 0;
+    uint32_t *groups = column(many, 4), guaranteed = (uint32_t)(taken(1) % 2), is_goal[MOST] = {0}, is_wrong = 0;
+    uint64_t *amounts = column(many, 8), *tuned = marked(n, 8), unmet = 77;
+    uint8_t *together = marked(many, 1);
+
+    for (size_t each = 0; each < many; each++) {
+        groups[each] = (uint32_t)(taken(1) % (n + 1));
+        amounts[each] = number(40);
+        is_wrong |= groups[each] == 0 || groups[each] == n || is_goal[groups[each]]++;
+    }
+    for (size_t each = 0; each < many && !is_wrong; each++)
+        for (uint32_t above = groups[each]; above;)
+            is_wrong |= is_goal[above = rows.parents[above]];
+    uint32_t answer = counted(arbiter_tune(HOST(host), ROWS(rows), groups, many, amounts, many, guaranteed, tuned, n, together, many, &unmet));
+    demand(is_wrong ? answer == 20 || answer == 26 || answer == 29 : answer == 0, "goals answer another number");
+    if (answer) {
+        demand(is_marked(tuned, n * 8) && is_marked(together, many) && unmet == 77, "refused goals wrote");
+    } else {
+        for (size_t each = 0; each < many; each++)
+            flagged += together[each];
+        demand(unmet == ARBITER_NO_GOAL ? !flagged : unmet < many && together[unmet] == 1, "other goals are told");
+        for (size_t row = 0; row < n; row++)
+            demand(tuned[row] == rows.weights[row] || (is_goal[row] && unmet == ARBITER_NO_GOAL && tuned[row] - 1 < 10000), "another weight");
+        rows.weights = tuned;
+        for (size_t each = 0; each < many && unmet == ARBITER_NO_GOAL; each++)
+            demand(gets(host, rows, groups[each], guaranteed) >= amounts[each], "a goal is not met");
+    }
+    guard_drop(groups), guard_drop(amounts), guard_drop(tuned), guard_drop(together);
+}
+
 /* The least value reaches the amount, and one less does not. */
 static void hold_least(struct host host, struct rows rows, uint32_t group, uint64_t amount)
 {
@@ -388,6 +463,13 @@ static void hold_refusal(struct host host, struct rows rows, struct answer *foun
                                    found->amounts, n)) == answer, "figures answer another number");
     demand(counted(arbiter_book(HOST(host), ROWS(rows), found->nums, n, found->nums, n, found->amounts, n, found->dens, n, found->amounts, n,
                                 found->dens, n, found->amounts, n, found->dens, n, found->amounts, n)) == answer, "book answers another number");
+    uint64_t *held = marked(n, 8), *demands = marked(n, 8);
+    uint8_t *hungry = column(n, 1);
+    demand(counted(arbiter_hold(HOST(host), ROWS(rows), hungry, n, held, n, demands, n, found->amounts, n, found->flags, n, found->nums, n,
+                                found->dens, n, found->places, n)) == answer, "hold answers another number");
+    demand(counted(arbiter_tune(HOST(host), ROWS(rows), found->places, 0, demands, 0, 0, held, n, hungry, 0, &number_)) == answer, "tune answers another number");
+    demand(is_marked(held, n * 8) && is_marked(demands, n * 8), "a refused call wrote");
+    guard_drop(held), guard_drop(demands), guard_drop(hungry);
     demand(is_marked(found->amounts, n * 8) && is_marked(found->nums, n * 8) && is_marked(found->dens, n * 8), "a refused call wrote");
     demand(count == 77 && number_ == 77 && is_marked(found->places, n * 4) && is_marked(found->flags, n), "a refused call wrote");
     uint32_t which = counted(arbiter_refused_row(ROWS(rows), &row));
@@ -423,6 +505,8 @@ static void hold_answer(struct host host, struct rows rows, struct answer *found
     hold_book(host, rows, amounts);
     uint32_t group = (uint32_t)(taken(1) % found->count);
     hold_least(host, rows, group, number(64));
+    hold_round(host, rows);
+    hold_tune(host, rows);
     hold_check(host, rows, found);
     seen[answer * 16 + amounts[0] % 16] = 1;
 }

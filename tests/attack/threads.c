@@ -11,20 +11,29 @@
 
 #define THREADS 16
 #define MOST 200
-#define CALLS 12
+#define CALLS 15
 #define NONE ARBITER_NO_LIMIT
+#define TEXT 4000
+#define LINES 90
 
 struct answers {
     uint64_t carries[MOST], sums[6][MOST];
     uint64_t amounts[MOST], nums[MOST], dens[MOST], wants[MOST], mosts[MOST], weights[MOST], withheld[MOST], rest, least[4];
     uint32_t places[MOST], groups[MOST], blamed[MOST], actives[MOST], count, row, numbers[CALLS];
-    uint8_t flags[MOST], reasons[MOST], tights[MOST];
+    uint8_t flags[MOST], reasons[MOST], tights[MOST], together[1];
+    /* of a round, of goals, and of a script */
+    uint64_t held[MOST], demands[MOST], planned[MOST], round_nums[MOST], round_dens[MOST], tuned[MOST], unmet;
+    uint32_t round_places[MOST], above[LINES], faults[LINES], made;
+    uint8_t round_flags[MOST], names[TEXT];
+    uint64_t columns[7][LINES], lines[LINES], names_count, refused_count;
 };
 
 struct tree {
     size_t n;
     uint32_t parents[MOST];
     uint64_t weights[MOST], limits[MOST], demands[MOST];
+    uint8_t hungry[MOST];
+    char script[TEXT];
     struct answers alone;
 };
 
@@ -39,9 +48,13 @@ static void make(struct tree *tree, unsigned seed)
         tree->weights[g] = 1 + g * 7919 * (seed + 1) % 10000;
         tree->limits[g] = g % 4 == 3 ? g * seed % 30 : NONE;
         tree->demands[g] = (g * 31 + seed) % 25;
+        tree->hungry[g] = (g + seed) % 3 == 0;
     }
     for (size_t g = 1; g < tree->n; g++)
         tree->demands[tree->parents[g]] = 0;
+    for (unsigned line = 0, at = 0; line < LINES - 10; line += 4)
+        at += (unsigned)sprintf(tree->script + at, "mkdir g%u\nwrite g%u cpu.max %u\ndemand g%u %u\n%s\n", line, line, 20000 + seed * line, line,
+                                seed + line % 7, line % 3 ? "period" : "none");
 }
 
 #define ROWS tree->parents, n, tree->weights, n, tree->limits, n, tree->demands, n
@@ -64,7 +77,14 @@ static void ask(const struct tree *tree, struct answers *found)
     numbers[8] = arbiter_least_processors(HOST, ROWS, last, 3, &found->least[3]);
     numbers[9] = arbiter_check_text((const uint8_t *)"bw 1 1 100000 5000 1\n- 100 max 0 0 0 -\n", 39, &found->row);
     numbers[10] = arbiter_figures(HOST, ROWS, found->wants, n, found->mosts, n, found->tights, n, found->actives, n, found->weights, n, found->withheld, n);
-    numbers[11] = arbiter_book(HOST, ROWS, tree->limits, n, found->amounts, n, found->carries, n, found->sums[0], n, found->sums[1], n,
+    numbers[11] = arbiter_hold(HOST, ROWS, tree->hungry, n, found->held, n, found->demands, n, found->planned, n, found->round_flags, n, found->round_nums, n,
+                               found->round_dens, n, found->round_places, n);
+    numbers[12] = arbiter_tune(HOST, ROWS, &last, 1, &found->rest, 1, 0, found->tuned, n, found->together, 1, &found->unmet);
+    numbers[13] = arbiter_script(HOST, (uintptr_t)found, (const uint8_t *)tree->script, strlen(tree->script), found->above, LINES, found->columns[0], LINES,
+                                 found->columns[1], LINES, found->columns[2], LINES, found->columns[3], LINES, found->columns[4], LINES, found->columns[5], LINES,
+                                 found->columns[6], LINES, found->names, TEXT, found->lines, LINES, found->faults, LINES, &found->made, &found->names_count,
+                                 &found->refused_count);
+    numbers[14] = arbiter_book(HOST, ROWS, tree->limits, n, found->amounts, n, found->carries, n, found->sums[0], n, found->sums[1], n,
                                found->sums[2], n, found->sums[3], n, found->sums[4], n, found->sums[5], n);
     atomic_fetch_add(&calls, CALLS);
 }

@@ -3,12 +3,12 @@
 
    hold FIRST LAST INTERVAL PERIOD PROCESSORS WAYS TOP PATH..
 
-   At FIRST and each INTERVAL nanoseconds later it reads cpu.stat of each leaf, asks `arbiter_hold`,
-   has the plan checked and writes cpu.max with a PERIOD of microseconds. WAYS has `w` for weights
-   of the limits, `b` for a burst of a tenth of the quota, `-` for neither and `n` for nothing
-   written. Each PATH is a group below TOP, after its parent. At LAST it prints, for each round and
-   leaf, `held ROUND CLOCK PATH USED HUNGRY WANT PLAN LIMIT`: slices, and nanoseconds since
-   FIRST. */
+   At FIRST and each INTERVAL nanoseconds later it reads cpu.stat of each leaf, asks
+   `arbiter_reading`, `arbiter_hold` and `arbiter_written`, has the plan checked and writes cpu.max
+   with a PERIOD of microseconds. WAYS has `w` for weights of the limits, `b` for a burst of a tenth
+   of the quota, `-` for neither and `n` for nothing written. Each PATH is a group below TOP, after
+   its parent. At LAST it prints, for each round and leaf, `held ROUND CLOCK PATH USED HUNGRY WANT
+   PLAN LIMIT`: slices, and nanoseconds since FIRST. */
 
 #define _GNU_SOURCE
 #include <arbiter.h>
@@ -22,15 +22,11 @@
 #include <time.h>
 #include <unistd.h>
 
-#include "hunger.h"
-
 #define MOST 64
 #define MOST_TASKS 32768
 #define SLICE 1000
-#define LEAST_QUOTA 1000
 #define MOST_WEIGHT 10000
-/* A quota stands that is up to this part of it above the limit of the rule. */
-#define MOST_ABOVE 64
+#define EVERYTHING 1000000
 
 struct group {
     const char *path;
@@ -51,9 +47,12 @@ static struct group groups[MOST];
 static struct task tasks[MOST_TASKS];
 static uint32_t parents[MOST], places[MOST];
 static uint64_t weights[MOST], limits[MOST], used[MOST], held[MOST], demands[MOST], amounts[MOST];
-static uint64_t asked[MOST], nums[MOST], dens[MOST];
-/* Whether a leaf would have used more, and whether it asks for everything. */
-static uint8_t hungry[MOST], for_all[MOST], flags[MOST];
+static uint64_t asked[MOST], nums[MOST], dens[MOST], quotas[MOST], leaf_weights[MOST];
+static uint32_t hungry[MOST];
+/* Whether a leaf asks for everything. */
+static uint8_t for_all[MOST], flags[MOST];
+/* What each task of a group did in a round that was there at both of its ends. */
+static uint64_t ran[MOST_TASKS], stood[MOST_TASKS];
 static size_t count = 1;
 static const char *top;
 static uint64_t processors, period;
@@ -134,16 +133,11 @@ static void add(const char *path) {
     count++;
 }
 
-/* Slices of a period, rounded up. */
-static uint64_t slices(long long usec, int64_t passed) {
-    uint64_t whole = (uint64_t)(passed / 1000) * SLICE;
-    return ((uint64_t)usec * period + whole - 1) / whole;
-}
-
-/* What the tasks of a group did in a round, as far as /proc tells. */
-static struct seen seen_in(const char *path, int round, const struct span *span) {
+/* Reads the tasks of a group. Returns their number, and sets how many were there before. */
+static uint32_t read_tasks(const char *path, int round, size_t *seen) {
     static char list[1 << 16];
-    struct seen seen = { 0 };
+    uint32_t there = 0;
+    *seen = 0;
     snprintf(list, sizeof list, "%s", get(path, "cgroup.threads"));
     for (char *at = list; *at; at = strchr(at, '\n') + 1) {
         int id = atoi(at);
@@ -159,12 +153,14 @@ static struct seen seen_in(const char *path, int round, const struct span *span)
         text[size < 0 ? 0 : size] = 0;
         if (sscanf(text, "%lld %lld", &now.ran, &now.waited) != 2)
             continue;
-        int is_there = task->round == round - 1;
-        see(&seen, is_there ? now.ran - task->ran : -1, is_there ? now.waited - task->waited : -1,
-            span);
+        if (task->round == round - 1 && now.ran >= task->ran && now.waited >= task->waited) {
+            ran[*seen] = now.ran - task->ran;
+            stood[(*seen)++] = now.waited - task->waited;
+        }
+        there++;
         *task = now;
     }
-    return seen;
+    return there;
 }
 
 /* What is read of the leaf of a row in a round in which so much time passed. */
@@ -173,17 +169,16 @@ static void read_leaf(struct group *group, size_t row, int round, int64_t passed
     long long usage = number_behind(stat, "usage_usec ");
     long long throttled = number_behind(stat, "nr_throttled ");
     long long waited = number_behind(get(group->path, "cpu.pressure"), "total=");
-    struct span span = {
-        .passed = passed, .used = usage - group->usage, .waited = waited - group->waited,
-        .is_throttled = group->is_limited && throttled > group->throttled,
-    };
-    struct seen seen = seen_in(group->path, round, &span);
-    long long most = most_wanted(&seen, &span);
-    hungry[row] = is_hungry(&seen, &span);
-    used[row] = passed ? slices(span.used, passed) : 0;
-    for_all[row] = hungry[row] && (most < 0 || most >= (int64_t)processors * passed);
-    asked[row] = hungry[row] && !for_all[row] ? slices(most / 1000, passed) : used[row];
-    if (asked[row] < used[row])
+    size_t seen;
+    uint32_t there = read_tasks(group->path, round, &seen);
+    if (passed
+        && arbiter_reading(processors, period, SLICE, passed, usage - group->usage,
+                           waited - group->waited, there,
+                           group->is_limited && throttled > group->throttled, ran, seen, stood,
+                           seen, &used[row], &asked[row], &hungry[row]) != 0)
+        fail("reading", group->path);
+    for_all[row] = asked[row] == EVERYTHING;
+    if (for_all[row])
         asked[row] = used[row];
     group->usage = usage;
     group->throttled = throttled;
@@ -213,19 +208,12 @@ static void ask(void) {
     }
 }
 
-/* Each writing gives a new quota, so one that is a little above the limit of the rule stands. */
 static void write_limit(struct group *group, size_t row, int has_burst) {
-    uint64_t quota = held[row] * SLICE;
+    uint64_t quota = quotas[row];
+    int is_own = quota == ARBITER_NO_LIMIT;
     char line[64] = "", burst[32];
-    if (quota < LEAST_QUOTA)
-        quota = LEAST_QUOTA;
-    int is_own = limits[row] != ARBITER_NO_LIMIT && quota >= limits[row] * SLICE;
-    if (is_own ? group->quota == 0
-               : group->quota >= quota && group->quota <= quota + quota / MOST_ABOVE)
+    if (group->quota == (is_own ? 0 : quota))
         return;
-    quota += quota / (2 * MOST_ABOVE);
-    if (!is_own && limits[row] != ARBITER_NO_LIMIT && quota > limits[row] * SLICE)
-        quota = limits[row] * SLICE;
     snprintf(line, sizeof line, "%lu %lu", quota, period);
     snprintf(burst, sizeof burst, "%lu", quota / 10);
     if (has_burst)
@@ -244,20 +232,11 @@ static uint64_t tasks_in(const char *path) {
     return lines ? lines : 1;
 }
 
-/* 100 d / (1.01 - d), where d is the part of a processor that each task may use. */
-static uint64_t weight_of(size_t row) {
-    uint64_t most = period / SLICE * tasks_in(groups[row].path);
-    uint64_t amount = held[row] < most ? held[row] : most;
-    uint64_t below = 101 * most - 100 * amount;
-    uint64_t found = (2 * 10000 * amount + below) / (2 * below);
-    return found < 1 ? 1 : found > MOST_WEIGHT ? MOST_WEIGHT : found;
-}
-
 static void write_weights(void) {
     uint64_t sums[MOST] = { 0 };
     for (size_t row = count - 1; row >= 1; row--) {
         if (groups[row].is_leaf)
-            sums[row] = weight_of(row);
+            sums[row] = leaf_weights[row];
         if (sums[row] > MOST_WEIGHT)
             sums[row] = MOST_WEIGHT;
         sums[parents[row]] += sums[row];
@@ -277,11 +256,14 @@ static void round_at(int number, int64_t since, const char *ways) {
     for (size_t row = 1; row < count; row++) {
         if (!groups[row].is_leaf)
             continue;
+        if (arbiter_written(processors, period, SLICE, held[row], limits[row], groups[row].quota,
+                            tasks_in(groups[row].path), &quotas[row], &leaf_weights[row]) != 0)
+            fail("limit", groups[row].path);
         if (!strchr(ways, 'n'))
             write_limit(&groups[row], row, strchr(ways, 'b') != NULL);
         if (length < sizeof told - 400)
             length += snprintf(told + length, sizeof told - length,
-                               "held %d %lld %.200s %lu %d %lu %lu %lu\n", number,
+                               "held %d %lld %.200s %lu %u %lu %lu %lu\n", number,
                                (long long)since, groups[row].path, used[row], hungry[row],
                                demands[row], amounts[row], held[row]);
     }

@@ -1,15 +1,11 @@
 -- The files of lemmas.
 mod Above
-mod Apart
 mod AskedLaw
 mod BesideLaw
-mod Bounds
 mod BusyLaw
 pub mod CallerLemmas
 mod Carried
 mod CutLaw
-mod Examples
-mod Factor
 mod HostLaws
 mod IdleLaw
 mod InsideLaw
@@ -26,9 +22,7 @@ mod RaisedLimit
 mod Removed
 mod Rising
 mod RoomLaw
-mod Scaled
 mod Shares
 mod Siblings
-mod Sums
 mod Trees
 mod WeightLaw

@@ -2,16 +2,13 @@
 pub mod Asked
 pub mod Cut
 pub mod Fairness
-pub mod Fractions
 pub mod Host
 pub mod Idle
 pub mod Inside
 pub mod OneSplit
 pub mod Order
 pub mod Outer
-pub mod Placement
 pub mod Places
-pub mod Queues
 pub mod Room
 pub mod Tree
 pub mod Weight

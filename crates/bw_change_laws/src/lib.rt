@@ -1,6 +1,5 @@
 //! Laws of the plan that an operator relies on: what a change of one split, of the host, of one
-//! group or of the tree does to the others, and what groups have where tasks are on given
-//! processors.
+//! group or of the tree does to the others.
 //!
 //! Each law is the contract of a function that does nothing. The splits are the best splits of
 //! bw_model, and the plans are those of any two instances.
@@ -15,7 +14,6 @@ mod inside;
 mod one_split;
 mod order;
 mod outer;
-mod placement;
 mod room;
 mod weight;
 
@@ -31,8 +29,5 @@ pub use inside::inside_stays_inside;
 pub use one_split::{more_takes_from_nobody, raised_child_alone_gains, rest_stays_split};
 pub use order::row_order_changes_nothing;
 pub use outer::outer_group_changes_nothing;
-pub use placement::{
-    grain_bounds_amounts, loads_are_one_in_all, loads_bound_amounts, placement_is_one_factor,
-};
 pub use room::{more_room_takes_nothing, others_demands_give_nothing};
 pub use weight::{others_weights_give_nothing, raised_weight_alone_gains};

@@ -4,3 +4,4 @@ pub mod Faults
 pub mod Levels
 pub mod Tables
 pub mod Verdict
+pub mod Visits

@@ -1,8 +1,9 @@
 //! The check of amounts by their certificate.
-ghost use Rattle.std.specs.Prelude.{◌≡◌, ◌↔◌, IfOk};
+ghost use Rattle.std.specs.Prelude.{◌≡◌, ◌≤◌, ◌+◌, ◌*◌, ◌↔◌, IfOk, length};
 ghost use Rattle.bw_model.specs.Certificate.{certified_of, IsAccepted};
 ghost use Rattle.bw_model.specs.Plan.{IsPlan};
 ghost use Rattle.bw_check.specs.Verdict.{IsVerdict};
+ghost use Rattle.bw_check.specs.Visits.{AreVisits};
 ghost use Rattle.bw_check.specs.declared.verdict.Verdict.TheVariants.{Accepted};
 
 use crate::conditions::{OF_ROWS, are_one_per_row, first_group};
@@ -10,13 +11,16 @@ use crate::fault::CheckFault;
 use crate::one_pass::are_certified;
 use crate::tables::tables_of;
 use crate::verdict::Verdict;
+use bw_machine::Count;
 use bw_model::{Certificate, Instance};
 use std::alloc::{AllocError, Global};
 
 /// Whether the certificate shows that the amounts, in slices, are the plan; else the first fault by
 /// its number, then by its row.
 ///
-/// Amounts, flags and levels may be any numbers. The time grows with the number of rows.
+/// Amounts, flags and levels may be any numbers. A visit of a row is counted for each turn of a
+/// loop over the rows. There are at most 13 visits of each row, and two at least where the
+/// certificate is accepted.
 ///
 /// # Errors
 /// `AllocError` if memory was refused.
@@ -25,12 +29,16 @@ pub fn check(
     instance: &Instance,
     amounts: &[u64],
     certificate: &Certificate,
+    visits: &mut Count,
 ) -> Result<Verdict, AllocError>
     ensures verdict { IfOk result
         (IsVerdict instance.now amounts.now (certified_of certificate.now)) }
     ensures exact { IfOk result (λ v. (v ≡ Accepted)
         ↔ IsAccepted instance.now amounts.now (certified_of certificate.now)) }
     ensures plan { IfOk result (λ v. v ≡ Accepted → IsPlan instance.now amounts.now) }
+    ensures visits { AreVisits instance.now.rows 13 visits.old.steps visits.new.steps }
+    ensures twice { IfOk result (λ v. v ≡ Accepted
+        → visits.old.steps + 2 * length instance.now.rows ≤ visits.new.steps) }
 {
     if !are_one_per_row(instance, amounts, certificate) {
         return Ok(Verdict::Refused {
@@ -39,13 +47,13 @@ pub fn check(
         });
     }
     let (shape, rows) = (instance.shape(), instance.rows());
-    let shown = are_certified(alloc, shape, rows, amounts, certificate)?;
+    let shown = are_certified(alloc, shape, rows, amounts, certificate, visits)?;
     if shown {
         return Ok(Verdict::Accepted);
     }
-    let tables = tables_of(alloc, instance, amounts, certificate)?;
+    let tables = tables_of(alloc, instance, amounts, certificate, visits)?;
     for fault in OF_ROWS {
-        if let Some(group) = first_group(instance, amounts, certificate, &tables, fault) {
+        if let Some(group) = first_group(instance, amounts, certificate, &tables, fault, visits) {
             return Ok(Verdict::Refused { fault, group });
         }
     }

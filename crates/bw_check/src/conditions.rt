@@ -8,12 +8,14 @@ ghost use Rattle.bw_check.specs.Levels.{AreSmall, IsFirst};
 ghost use Rattle.bw_check.specs.Tables.{AreTables};
 ghost use Rattle.bw_check.specs.Verdict.{AreOnePerRow, IsWithinLimit, IsWithinDemand};
 ghost use Rattle.bw_check.specs.Verdict.{IsChildrenSum, IsFlagLimited, HasLevel, IsFree};
+ghost use Rattle.bw_check.specs.Visits.{AreVisits};
 ghost use Rattle.bw_check.specs.declared.fault.CheckFault.{CheckFault};
 
 use crate::fault::CheckFault;
 use crate::marks::{is_last_mark_kept, is_next_mark_kept};
 use crate::readers::{demand, limit};
 use crate::tables::Tables;
+use bw_machine::Count;
 use bw_model::{Certificate, HostShape, Instance, Row};
 
 /// The faults of single groups, in order.
@@ -156,14 +158,17 @@ pub fn first_group(
     certificate: &Certificate,
     tables: &Tables,
     fault: CheckFault,
+    visits: &mut Count,
 ) -> Option<u32>
     requires tables { AreTables instance.now amounts.now (certified_of certificate.now) tables.now }
     requires small { check_fault_number LastMarkAbove ≤ check_fault_number fault
         → AreSmall amounts.now }
-    ensures { IsFirst (IsFree instance.now amounts.now (certified_of certificate.now)
+    ensures first { IsFirst (IsFree instance.now amounts.now (certified_of certificate.now)
         tables.now.bounds.items fault) (length instance.now.rows) result }
+    ensures visits { AreVisits instance.now.rows 1 visits.old.steps visits.new.steps }
 {
     for g in 0..instance.group_count() {
+        *visits = visits.one_more();
         if !is_free(instance, amounts, certificate, tables, fault, g) {
             return Some(g);
         }

@@ -1,6 +1,6 @@
 //! One pass from the last group up, which shows that a certificate has no fault.
-ghost use Rattle.std.specs.Prelude.{◌≡◌, ◌+◌, ◌<◌, true, length, slice_index, slice_set, IsTrue};
-ghost use Rattle.std.specs.Prelude.{IfOk, IfSome};
+ghost use Rattle.std.specs.Prelude.{◌≡◌, ◌+◌, ◌*◌, ◌<◌, ◌≤◌, true, length, slice_index, slice_set};
+ghost use Rattle.std.specs.Prelude.{IsTrue, IfOk, IfSome, OnOk};
 ghost use Rattle.bw_model.specs.Groups.{IsInstance, is_leaf, sum_of_children};
 ghost use Rattle.bw_model.specs.Certificate.{certified_of, IsAccepted};
 ghost use Rattle.bw_check.specs.Counts.{ArePlaces, bound_over};
@@ -8,6 +8,7 @@ ghost use Rattle.bw_check.specs.Tables.{AreSiblings};
 ghost use Rattle.bw_check.specs.Verdict.{AreOnePerRow, IsFreeRow, IsWithinLimit};
 ghost use Rattle.bw_check.specs.Verdict.{IsWithinDemand, IsChildrenSum, IsFlagLimited, HasLevel};
 ghost use Rattle.bw_check.specs.Verdict.{IsLastMarkKept, IsNextMarkKept};
+ghost use Rattle.bw_check.specs.Visits.{AreVisits};
 
 use crate::conditions::{
     has_level, is_children_sum, is_flag_limited, is_within_demand, is_within_limit,
@@ -15,6 +16,7 @@ use crate::conditions::{
 use crate::marks::{is_last_mark_kept, is_next_mark_kept};
 use crate::readers::parent;
 use crate::tables::{Siblings, own_bound, siblings_of};
+use bw_machine::Count;
 use bw_model::limits::MAX_CAPACITY;
 use bw_model::{Certificate, HostShape, Row};
 use std::alloc::{AllocError, Global};
@@ -139,18 +141,24 @@ pub(crate) fn are_certified(
     rows: &[Row],
     amounts: &[u64],
     certificate: &Certificate,
+    visits: &mut Count,
 ) -> Result<bool, AllocError>
     requires valid { IsInstance (record { shape = shape; rows = rows.now }) }
     requires one_per_row { AreOnePerRow rows.now amounts.now (certified_of certificate.now) }
-    ensures { IfOk result (λ shown. shown ≡ true
+    ensures shown { IfOk result (λ shown. shown ≡ true
         → IsAccepted (record { shape = shape; rows = rows.now }) amounts.now
         (certified_of certificate.now)) }
+    ensures visits { AreVisits rows.now 2 visits.old.steps visits.new.steps }
+    ensures once { OnOk result (visits.old.steps + length rows.now ≤ visits.new.steps) }
+    ensures twice { IfOk result (λ shown. shown ≡ true
+        → visits.new.steps ≡ visits.old.steps + 2 * length rows.now) }
 {
-    let siblings = siblings_of(alloc, rows)?;
+    let siblings = siblings_of(alloc, rows, visits)?;
     let count = rows.len() as u32;
     let mut amounts_below = vec![in alloc; 0u64; count as usize]?;
     let mut bounds_below = vec![in alloc; 0u64; count as usize]?;
     for g in (0..count).rev() {
+        *visits = visits.one_more();
         let (sum, below) = (amounts_below[g as usize], bounds_below[g as usize]);
         let Some(bound) = free_bound(shape, rows, amounts, certificate, &siblings, sum, below, g)
         else {

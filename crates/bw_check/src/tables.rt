@@ -1,13 +1,15 @@
 //! Tables for the check, of one entry for each group, each made by one pass over the rows.
 ghost use Rattle.std.specs.Prelude.{◌≡◌, ℕ, ◌+◌, ◌<◌, ◌≤◌, ◌^◌, length, slice_index, IfOk};
-ghost use Rattle.std.specs.Prelude.{unwrap_or};
+ghost use Rattle.std.specs.Prelude.{OnOk, unwrap_or};
 ghost use Rattle.bw_model.specs.Groups.{AreTreeRows, is_leaf};
 ghost use Rattle.bw_model.specs.Certificate.{certified_of, AreBounds};
 ghost use Rattle.bw_check.specs.Counts.{AreGathered, bound_over};
 ghost use Rattle.bw_check.specs.Tables.{AreSiblings, AreTables};
 ghost use Rattle.bw_check.specs.Verdict.{AreOnePerRow};
+ghost use Rattle.bw_check.specs.Visits.{AreVisits};
 
 use crate::readers::{demand, limit, parent};
+use bw_machine::Count;
 use bw_model::limits::MAX_GROUPS;
 use bw_model::{Certificate, HostShape, Instance, Row};
 use std::alloc::{AllocError, Global};
@@ -35,15 +37,22 @@ pub struct Tables {
 ///
 /// # Errors
 /// `AllocError` if memory was refused.
-pub(crate) fn siblings_of(alloc: Global, rows: &[Row]) -> Result<Siblings, AllocError>
+pub(crate) fn siblings_of(
+    alloc: Global,
+    rows: &[Row],
+    visits: &mut Count,
+) -> Result<Siblings, AllocError>
     requires tree { AreTreeRows rows.now }
     requires few { length rows.now ≤ MAX_GROUPS }
-    ensures { IfOk result (AreSiblings rows.now) }
+    ensures siblings { IfOk result (AreSiblings rows.now) }
+    ensures visits { AreVisits rows.now 1 visits.old.steps visits.new.steps }
+    ensures whole { OnOk result (visits.new.steps ≡ visits.old.steps + length rows.now) }
 {
     let count = rows.len() as u32;
     let mut places = vec![in alloc; 0u32; count as usize]?;
     let mut children = vec![in alloc; 0u32; count as usize]?;
     for c in 0..count {
+        *visits = visits.one_more();
         if let Some(parent) = parent(rows, c) {
             let place = children[parent as usize];
             places[c as usize] = place;
@@ -58,14 +67,17 @@ fn children_sums(
     alloc: Global,
     instance: &Instance,
     amounts: &[u64],
+    visits: &mut Count,
 ) -> Result<Vec<u128>, AllocError>
     requires { length amounts.now ≡ length instance.now.rows }
-    ensures { IfOk result (λ sums. AreGathered instance.now.rows (slice_index amounts.now)
+    ensures sums { IfOk result (λ sums. AreGathered instance.now.rows (slice_index amounts.now)
         (length instance.now.rows) sums.items) }
+    ensures visits { AreVisits instance.now.rows 1 visits.old.steps visits.new.steps }
 {
     let count = instance.group_count();
     let mut sums = vec![in alloc; 0u128; count as usize]?;
     for c in 0..count {
+        *visits = visits.one_more();
         if let Some(parent) = instance.parent(c) {
             let sum = sums[parent as usize];
             sums[parent as usize] = sum + u128::from(amounts[c as usize]);
@@ -115,15 +127,18 @@ fn bounds(
     alloc: Global,
     instance: &Instance,
     certificate: &Certificate,
+    visits: &mut Count,
 ) -> Result<Vec<u128>, AllocError>
     requires { length certificate.now.tight.items ≡ length instance.now.rows }
-    ensures { IfOk result
+    ensures bounds { IfOk result
         (λ bounds. AreBounds instance.now (certified_of certificate.now) bounds.items) }
+    ensures visits { AreVisits instance.now.rows 1 visits.old.steps visits.new.steps }
 {
     let count = instance.group_count();
     let mut below = vec![in alloc; 0u128; count as usize]?;
     let mut bounds = vec![in alloc; 0u128; count as usize]?;
     for g in (0..count).rev() {
+        *visits = visits.one_more();
         let bound = bound_of(instance, certificate, below[g as usize], g);
         bounds[g as usize] = bound;
         if let Some(parent) = instance.parent(g) {
@@ -143,13 +158,18 @@ pub fn tables_of(
     instance: &Instance,
     amounts: &[u64],
     certificate: &Certificate,
+    visits: &mut Count,
 ) -> Result<Tables, AllocError>
     requires { AreOnePerRow instance.now.rows amounts.now (certified_of certificate.now) }
-    ensures { IfOk result (AreTables instance.now amounts.now (certified_of certificate.now)) }
+    ensures tables { IfOk result
+        (AreTables instance.now amounts.now (certified_of certificate.now)) }
+    ensures visits { AreVisits instance.now.rows 3 visits.old.steps visits.new.steps }
+    ensures whole { OnOk result
+        (visits.old.steps + length instance.now.rows ≤ visits.new.steps) }
 {
     Ok(Tables {
-        siblings: siblings_of(alloc, instance.rows())?,
-        sums: children_sums(alloc, instance, amounts)?,
-        bounds: bounds(alloc, instance, certificate)?,
+        siblings: siblings_of(alloc, instance.rows(), visits)?,
+        sums: children_sums(alloc, instance, amounts, visits)?,
+        bounds: bounds(alloc, instance, certificate, visits)?,
     })
 }

@@ -1,10 +1,11 @@
 -- Weights of `cpu.shares`, as container runtimes convert them.
-use Rattle.std.specs.Prelude.{◌≡◌, ℕ, ◌+◌, ◌-◌, ◌*◌, ◌/◌, ◌<◌, ◌≤◌, min, max}
+use Rattle.std.specs.Prelude.{◌≡◌, ℕ, ◌+◌, ◌-◌, ◌*◌, ◌/◌, ◌<◌, ◌≤◌, ◌⊎◌, min, max}
 use Rattle.bw_model.specs.declared.limits.TheConstants.{MIN_WEIGHT, MAX_WEIGHT}
 use Rattle.bw_columns.specs.declared.logarithm.TheConstants.{UNIT}
 use Rattle.bw_columns.specs.declared.shares.TheConstants.{MIN_SHARES, MAX_SHARES, DEFAULT_SHARES}
 use Rattle.bw_columns.specs.declared.shares.TheConstants.{DEFAULT_WEIGHT}
 use Rattle.bw_columns.specs.Logarithm.{IsLogarithmBelow, IsLogarithmAbove}
+use Rattle.bw_columns.specs.Logarithm.{IsLogarithmWithin, IsLogarithmNear}
 
 -- shares within the range of `cpu.shares`
 abbrev pub bounded : ℕ → ℕ
@@ -42,6 +43,23 @@ pub record IsLeastAbove (shares weight : ℕ) : Type 0 where
   pub before_above : IsLogarithmAbove before_most (weight - 1)
   pub on_or_above : curve ten_most shares_most ≤ height ten_most weight_least
   pub before_under : height ten_least before_most < curve ten_least shares_least
+
+-- A weight so near the curve that logarithms, enclosed to less than two units, do not tell on which
+-- side it is. The least weight is not shown to be under the curve, nor the greatest to be on it.
+pub record IsUntold (shares : ℕ) : Type 0 where
+  pub weight : ℕ
+  pub ten_most : ℕ
+  pub ten_least : ℕ
+  pub shares_most : ℕ
+  pub shares_least : ℕ
+  pub ten_near : IsLogarithmNear ten_most 10
+  pub ten_within : IsLogarithmWithin ten_least 10
+  pub shares_near : IsLogarithmNear shares_most shares
+  pub shares_within : IsLogarithmWithin shares_least shares
+  pub under : (weight ≡ MIN_WEIGHT) ⊎ ((units : ℕ) × IsLogarithmWithin units weight
+      × (height ten_most units < curve ten_most shares_most))
+  pub on : (weight ≡ MAX_WEIGHT) ⊎ ((units : ℕ) × IsLogarithmNear units weight
+      × (curve ten_least shares_least ≤ height ten_least units))
 
 -- The weight on the curve through 2 shares and weight 1, 1024 and 100, 262144 and 10000, rounded
 -- up: 10 to the power of (l² + 125 l) / 612 - 7 / 34, where l is the logarithm of the shares to

@@ -15,6 +15,7 @@ use crate::columns::Columns;
 use crate::refusal::Refusal;
 use bw_cert::{CertFault, read_certified};
 use bw_check::{Verdict, check};
+use bw_machine::Count;
 use std::alloc::Global;
 
 /// The verdict on amounts by a claimed certificate.
@@ -42,7 +43,7 @@ pub fn verdict_of(
     }
     let instance = instance_of(alloc, host, columns)?;
     let certificate = claim.certificate(alloc)?;
-    Ok(check(alloc, &instance, amounts, &certificate)?)
+    Ok(check(alloc, &instance, amounts, &certificate, &mut Count::none())?)
 }
 
 /// The verdict on a certified text.
@@ -60,5 +61,6 @@ pub fn verdict_in(alloc: Global, text: &[u8]) -> Result<Verdict, CertFault>
         &certified.instance,
         certified.amounts.as_slice(),
         &certified.certificate,
+        &mut Count::none(),
     )?)
 }

@@ -9,6 +9,7 @@ use crate::asked_group::instance_with;
 use crate::asked_instance::Host;
 use crate::columns::{Columns, limit_number};
 use crate::refusal::Refusal;
+use bw_machine::Count;
 use bw_model::{Instance, InstanceFault};
 use bw_questions::{guarantee, least_limit, least_processors, least_weight};
 use std::alloc::{AllocError, Global};
@@ -42,7 +43,7 @@ fn least_limit_in(
     if group == 0 {
         return Err(Refusal::Instance(InstanceFault::RootLimited));
     }
-    let limit = least_limit(alloc, instance, group, amount)?;
+    let limit = least_limit(alloc, instance, group, amount, &mut Count::none())?;
     Ok(limit_number(limit))
 }
 
@@ -65,12 +66,12 @@ fn answer_in(
             Err(_) => Err(Refusal::from(AllocError)),
         },
         Question::LeastWeight(amount) => {
-            let weight = least_weight(alloc, instance, group, amount)?;
+            let weight = least_weight(alloc, instance, group, amount, &mut Count::none())?;
             Ok(weight.unwrap_or(0))
         }
         Question::LeastLimit(amount) => least_limit_in(alloc, instance, group, amount),
         Question::LeastProcessors(amount) => {
-            let processors = least_processors(alloc, instance, group, amount)?;
+            let processors = least_processors(alloc, instance, group, amount, &mut Count::none())?;
             Ok(processors.unwrap_or(0))
         }
     }

@@ -1,8 +1,9 @@
 //! Weights of `cpu.shares`, as container runtimes write them.
-ghost use Rattle.std.specs.Prelude.{◌≡◌, ◌<◌, ◌≤◌, ◌^◌, IfSome};
+ghost use Rattle.std.specs.Prelude.{◌≡◌, ◌-◌, ◌<◌, ◌≤◌, ◌^◌, ◌⊎◌, IfSome, IfNone};
 ghost use Rattle.bw_model.specs.declared.limits.TheConstants.{MIN_WEIGHT, MAX_WEIGHT};
 ghost use Rattle.bw_columns.specs.Shares.{linear_weight, curve, height};
-ghost use Rattle.bw_columns.specs.Shares.{IsLeastAbove, IsLogarithmicWeight};
+ghost use Rattle.bw_columns.specs.Logarithm.{IsLogarithmBelow, IsLogarithmWithin};
+ghost use Rattle.bw_columns.specs.Shares.{IsLeastAbove, IsUntold, IsLogarithmicWeight};
 
 use crate::logarithm::{UNIT, logarithm_above, logarithm_below};
 use bw_model::limits::{MAX_WEIGHT, MIN_WEIGHT};
@@ -48,36 +49,62 @@ fn height(ten: u64, weight: u64) -> u128
     unit * unit * (612 * u128::from(weight) + 126 * u128::from(ten))
 }
 
-// The least weight whose logarithm is shown to be on or above the curve, looked for by halving.
-fn candidate(ten: u64, shares: u64) -> u64
+// The least weight that is shown to be on or above the curve, or the greatest weight, and the
+// logarithm that shows that the weight before it is not.
+#[derive(Clone, Copy)]
+struct Candidate {
+    weight: u64,
+    // units that are at most the logarithm of the weight
+    least: u64,
+    // units that are at most the logarithm of the weight before it
+    before: u64,
+}
+
+// The nearest weight to the curve, looked for by halving.
+fn nearest(ten: u64, shares: u64) -> Candidate
     requires { (ten < 2 ^ 41) × (shares < 2 ^ 41) }
-    ensures { (2 ≤ result) × (result ≤ MAX_WEIGHT) }
+    ensures range { (2 ≤ result.weight) × (result.weight ≤ MAX_WEIGHT) }
+    ensures bound { result.least < 2 ^ 41 }
+    ensures least { IsLogarithmBelow result.least result.weight }
+    ensures close { IsLogarithmWithin result.least result.weight }
+    ensures on { (result.weight ≡ MAX_WEIGHT) ⊎ (curve ten shares ≤ height ten result.least) }
+    ensures before { IsLogarithmWithin result.before (result.weight - 1) }
+    ensures under { (result.weight ≡ 2) ⊎ (height ten result.before < curve ten shares) }
 {
     let most = curve(ten, shares);
-    let (mut under, mut above) = (MIN_WEIGHT, MAX_WEIGHT);
-    for _ in 0..14u32 {
+    let (mut under, mut before) = (MIN_WEIGHT, logarithm_below(MIN_WEIGHT));
+    let (mut above, mut least) = (MAX_WEIGHT, logarithm_below(MAX_WEIGHT));
+    while under + 1 < above {
         let middle = (under + above) / 2;
-        if middle > under && most <= height(ten, logarithm_below(middle)) {
+        let units = logarithm_below(middle);
+        if most <= height(ten, units) {
             above = middle;
-        } else if middle > under {
+            least = units;
+        } else {
             under = middle;
+            before = units;
         }
     }
-    above
+    Candidate {
+        weight: above,
+        least,
+        before,
+    }
 }
 
 // The weight on the curve between 3 and 262143 shares, rounded up.
 fn weight_between(shares: u64) -> Option<u64>
     requires { (MIN_SHARES < shares) × (shares < MAX_SHARES) }
     ensures weight { IfSome result (IsLeastAbove shares) }
+    ensures none { IfNone result (IsUntold shares) }
     ensures range { IfSome result (λ weight. (MIN_WEIGHT ≤ weight) × (weight ≤ MAX_WEIGHT)) }
 {
     let (ten_most, shares_most) = (logarithm_above(10), logarithm_above(shares));
-    let weight = candidate(ten_most, shares_most);
-    if curve(ten_most, shares_most) > height(ten_most, logarithm_below(weight)) {
+    let (ten_least, shares_least) = (logarithm_below(10), logarithm_below(shares));
+    let Candidate { weight, least, .. } = nearest(ten_most, shares_most);
+    if curve(ten_most, shares_most) > height(ten_most, least) {
         return None;
     }
-    let (ten_least, shares_least) = (logarithm_below(10), logarithm_below(shares));
     if height(ten_least, logarithm_above(weight - 1)) >= curve(ten_least, shares_least) {
         return None;
     }
@@ -86,10 +113,11 @@ fn weight_between(shares: u64) -> Option<u64>
 
 /// The weight that runc from 1.3.2 on and crun from 1.23 on write for shares: 1 to 10000.
 ///
-/// None says that logarithms to 36 binary digits do not tell the weight. No number of shares is
-/// known for which they do not: tests try each of them.
+/// None says that a weight is so near the curve that logarithms to 36 binary digits do not tell on
+/// which side it is. Tests try each number of shares, and each has a weight.
 pub fn logarithmic_weight(shares: u64) -> Option<u64>
     ensures weight { IfSome result (IsLogarithmicWeight shares) }
+    ensures none { IfNone result (IsUntold shares) }
     ensures range { IfSome result (λ weight. (MIN_WEIGHT ≤ weight) × (weight ≤ MAX_WEIGHT)) }
 {
     if shares <= MIN_SHARES {

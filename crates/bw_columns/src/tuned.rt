@@ -11,6 +11,7 @@ use crate::certificate::flag_numbers;
 use crate::columns::Columns;
 use crate::goal_columns::goals_of;
 use crate::refusal::Refusal;
+use bw_machine::Count;
 use bw_model::Instance;
 use bw_questions::{Goal, Measure, TuneFault, Tuning, tune};
 use std::alloc::{AllocError, Global};
@@ -93,7 +94,7 @@ fn tuning_in(
     ensures err { IfErr result
         (λ e. IsGoalsAnswer instance.now.rows goals.now (number_of_refusal e)) }
 {
-    match tune(alloc, instance, goals, measure) {
+    match tune(alloc, instance, goals, measure, &mut Count::none()) {
         Ok(tuning) => Ok(tuning_columns(alloc, instance, goals, &tuning)?),
         Err(fault) => Err(refusal_of(fault)),
     }

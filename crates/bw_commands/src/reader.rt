@@ -9,7 +9,7 @@ use crate::change::apply_change;
 use crate::command::{Command, Question};
 use crate::fault::ScriptFault;
 use bw_demand::gather_rows;
-use bw_hierarchy::{Hierarchy, fixed_keys};
+use bw_hierarchy::{Hierarchy, keys_of};
 use bw_model::HostShape;
 use bw_plan::plan_rows;
 use std::alloc::{AllocError, Global};
@@ -31,15 +31,15 @@ impl Model for ScriptReader {
 }
 
 impl ScriptReader {
-    /// Makes the root alone.
+    /// Makes the root alone. `hash_key` is a number that whoever writes the script cannot know.
     ///
     /// # Errors
     ///
     /// `AllocError` if an allocation failed.
-    pub fn new(alloc: Global, shape: HostShape) -> Result<ScriptReader, AllocError>
+    pub fn new(alloc: Global, hash_key: u64, shape: HostShape) -> Result<ScriptReader, AllocError>
         ensures { IfOk result (λ r. r ≡ new_hierarchy shape) }
     {
-        let keys = fixed_keys().map_err(|_| AllocError)?;
+        let keys = keys_of(hash_key).map_err(|_| AllocError)?;
         let hierarchy = Hierarchy::new(alloc, keys, shape).map_err(|_| AllocError)?;
         Ok(ScriptReader { alloc, hierarchy })
     }

@@ -58,16 +58,22 @@ fn take_line(
 
 /// Reads a script: makes the changes of its lines in a new hierarchy of the root alone.
 ///
-/// Each leaf uses its slices, so `period` leaves of each group's limit what the plan does not give
-/// it. A line that is only answered changes nothing, and is refused as others are.
+/// `hash_key` is as in [`ScriptReader::new`]. Each leaf uses its slices, so `period` leaves of each
+/// group's limit what the plan does not give it. A line that is only answered changes nothing, and
+/// is refused as others are.
 ///
 /// # Errors
 ///
 /// `AllocError` if an allocation failed.
-pub fn read_script(alloc: Global, shape: HostShape, text: &[u8]) -> Result<ReadScript, AllocError>
+pub fn read_script(
+    alloc: Global,
+    shape: HostShape,
+    hash_key: u64,
+    text: &[u8],
+) -> Result<ReadScript, AllocError>
     ensures { IfOk result (λ r. IsRead shape text.now r.refused.items r.reader) }
 {
-    let mut reader = ScriptReader::new(alloc, shape)?;
+    let mut reader = ScriptReader::new(alloc, hash_key, shape)?;
     let mut refused = Vec::new(alloc);
     let mut number = 1;
     let mut rest = text;

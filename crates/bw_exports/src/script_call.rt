@@ -34,9 +34,10 @@ fn are_even(
 /// Reads a script, as `arbiter run` does on a host: the groups after its last line by column, and
 /// the refused lines.
 ///
-/// The host is that of [`crate::plan_call::arbiter_plan`]. A line that only asks for an answer
-/// changes nothing. Each leaf uses the slices of its periods: `period` leaves of the limit of each
-/// group what the plan does not give it.
+/// The host is that of [`crate::plan_call::arbiter_plan`]. `hash_key` is a number that whoever
+/// writes the script cannot know: one who does can choose names that take long. No answer depends
+/// on it. A line that only asks for an answer changes nothing. Each leaf uses the slices of its
+/// periods: `period` leaves of the limit of each group what the plan does not give it.
 ///
 /// The answer is 0 if all columns are written. Group g of `count` groups, in order of creation, is
 /// entry g of `parents`, `weights`, `limits` and `demands`, as `arbiter_plan` takes them, with the
@@ -56,6 +57,7 @@ pub extern "C" fn arbiter_script(
     processors: u64,
     period_us: u64,
     slice_us: u64,
+    hash_key: u64,
     text: &[u8],
     parents: &mut [u32],
     weights: &mut [u64],
@@ -99,7 +101,7 @@ pub extern "C" fn arbiter_script(
         Ok(shape) => shape,
         Err(fault) => return u32::from(fault.number()),
     };
-    let told = match told_by(alloc, shape, text) {
+    let told = match told_by(alloc, shape, hash_key, text) {
         Ok(told) => told,
         Err(_) => return Refusal::from(AllocError).number(),
     };

@@ -1,7 +1,7 @@
 //! `arbiter_weight_of_shares`: the weight of `cpu.shares`, called from C.
 ghost use Rattle.std.specs.Prelude.{◌≡◌, ◌≢◌, ◌<◌, ◌≤◌};
 ghost use Rattle.bw_model.specs.declared.limits.TheConstants.{MAX_WEIGHT};
-ghost use Rattle.bw_columns.specs.Shares.{linear_weight, IsLogarithmicWeight};
+ghost use Rattle.bw_columns.specs.Shares.{linear_weight, IsUntold, IsLogarithmicWeight};
 
 use bw_columns::{linear_weight, logarithmic_weight};
 
@@ -23,6 +23,7 @@ pub(crate) const SHARES_LOGARITHMIC: u32 = 2;
 pub extern "C" fn arbiter_weight_of_shares(shares: u64, conversion: u32) -> u64
     ensures linear { conversion ≡ 1 → result ≡ linear_weight shares }
     ensures logarithmic { conversion ≡ 2 → 0 < result → IsLogarithmicWeight shares result }
+    ensures untold { conversion ≡ 2 → result ≡ 0 → IsUntold shares }
     ensures none { conversion ≢ 1 → conversion ≢ 2 → result ≡ 0 }
     ensures bound { result ≤ MAX_WEIGHT }
 {

@@ -36,17 +36,22 @@ fn refused_faults(alloc: Global, refused: &[RefusedLine]) -> Result<Vec<u32>, Al
         .collect(alloc)
 }
 
-/// Reads a script.
+/// Reads a script. `hash_key` is as in [`read_script`].
 ///
 /// # Errors
 /// The fault of a failed allocation.
-pub(crate) fn told_by(alloc: Global, shape: HostShape, text: &[u8]) -> Result<Told, Fault>
+pub(crate) fn told_by(
+    alloc: Global,
+    shape: HostShape,
+    hash_key: u64,
+    text: &[u8],
+) -> Result<Told, Fault>
     ensures told { IfOk result (λ t. IsTold shape text.now t) }
     ensures long { IfOk result (λ t. AreLong (columns_of t.groups)) }
     ensures few { IfOk result (λ t. length t.groups.parents.items ≤ MAX_GROUPS) }
     ensures each { IfOk result (λ t. length t.faults.items ≡ length t.lines.items) }
 {
-    let read = read_script(alloc, shape, text)?;
+    let read = read_script(alloc, shape, hash_key, text)?;
     let refused = read.refused.as_slice();
     Ok(Told {
         groups: group_columns(alloc, read.reader.hierarchy())?,

@@ -1,27 +1,32 @@
-//! Keys of the hash by which groups are found, for callers that need no secret ones.
+//! Keys of the hash by which groups are found, for callers that have a number for them.
 use std::hash::RandomState;
 use std::io::Result;
 use std::random::RandomSource;
 
-// Gives zeros.
-struct Zeros;
+// Gives the bytes of a number. The bytes behind them stay as they are.
+#[derive(Clone, Copy)]
+struct OneNumber {
+    number: u64,
+}
 
-impl RandomSource for Zeros {
+impl RandomSource for OneNumber {
     fn fill_bytes(&self, buf: &mut [u8]) -> Result<()> {
-        buf.fill(0);
+        for (byte, part) in buf.iter_mut().zip(&self.number.to_le_bytes()) {
+            *byte = *part;
+        }
         Ok(())
     }
 }
 
-/// Keys that are the same each time, for a caller that has no source of random bytes.
+/// Keys that follow from a number, the same ones each time.
 ///
 /// # Cost
 ///
-/// Names that are chosen to share a hash cost a logarithm each.
+/// One who knows the number can choose names that meet. Each is then compared with those before it.
 ///
 /// # Errors
 ///
 /// None. The type is that of `RandomState::new`, which hands on an error of its source.
-pub fn fixed_keys() -> Result<RandomState> {
-    RandomState::new(&Zeros)
+pub fn keys_of(number: u64) -> Result<RandomState> {
+    RandomState::new(&OneNumber { number })
 }

@@ -17,5 +17,5 @@ pub use cgroup::{Cgroup, CpuController, KeptCgroup};
 pub use fault::Fault;
 pub use group_file::{GroupFile, file_named};
 pub use hierarchy::Hierarchy;
-pub use keys::fixed_keys;
+pub use keys::keys_of;
 pub use laws::{bursts_are_within_quotas, write_changes_one_value};

@@ -12,7 +12,7 @@ use Rattle.bw_model.specs.declared.quota.Quota.{Quota}
 use Rattle.bw_tree.specs.Groups.{TreeState, IsTree, group_at, has_group}
 use Rattle.bw_tree.specs.Tree.{mkdir_refusal, rmdir_refusal, demand_refusal, setting_refusal}
 use Rattle.bw_tree.specs.Tree.{with_group, with_setting, set_demand, set_weight}
-use Rattle.bw_tree.specs.Tree.{set_max, set_burst, root_group, root_alone}
+use Rattle.bw_tree.specs.Tree.{set_max, set_burst, root_alone}
 use Rattle.bw_tree.specs.declared.fault.TreeFault.{TreeFault}
 use Rattle.bw_tree.specs.declared.fault.TreeFault.TheVariants.{NotFound}
 use Rattle.bw_tree.specs.declared.limits.TheConstants.{FIRST_ID}
@@ -185,13 +185,4 @@ write_IsTree t path name text ok =
 -- ---- the root alone
 
 pub alone_IsTree : IsTree (root_alone FIRST_ID)
-alone_IsTree = root_IsTree FIRST_ID root_group (omega arith) refl refl refl
-    (record {
-      some_weight = omega arith;
-      weight = omega arith;
-      quota = tt;
-      long_period = omega arith;
-      short_period = omega arith;
-      burst = omega arith;
-      demand = omega arith;
-    })
+alone_IsTree = root_IsTree FIRST_ID (omega arith)

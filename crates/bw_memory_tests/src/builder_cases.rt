@@ -1,5 +1,5 @@
 //! The builder, which copies the tree before it changes it.
-use bw_hierarchy::{CgroupBuilder, Fault, Hierarchy, fixed_keys};
+use bw_hierarchy::{CgroupBuilder, Fault, Hierarchy, keys_of};
 use bw_model::HostShape;
 use bw_tree::TreeFault;
 use std::alloc::Global;
@@ -8,7 +8,7 @@ use std::test::Fail;
 
 fn new_hierarchy(alloc: Global) -> Result<Hierarchy, Fail> {
     let shape = HostShape::new(1, 100_000, 5_000)?;
-    let keys = fixed_keys()?;
+    let keys = keys_of(0)?;
     match Hierarchy::new(alloc, keys, shape) {
         Err(_) => Ok(Hierarchy::new(alloc, keys, shape)?),
         Ok(hierarchy) => Ok(hierarchy),

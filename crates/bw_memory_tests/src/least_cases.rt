@@ -2,6 +2,7 @@
 ghost use Rattle.std.specs.Prelude.{◌<◌, length};
 
 use crate::instances::{Group, instance};
+use bw_machine::Count;
 use bw_model::Instance;
 use bw_questions::{least_limit, least_processors, least_weight};
 use std::alloc::{AllocError, Global};
@@ -43,8 +44,8 @@ fn weight(
 ) -> Result<Option<u64>, AllocError>
     requires { group < length instance.now.rows }
 {
-    match least_weight(alloc, instance, group, amount) {
-        Err(_) => least_weight(alloc, instance, group, amount),
+    match least_weight(alloc, instance, group, amount, &mut Count::none()) {
+        Err(_) => least_weight(alloc, instance, group, amount, &mut Count::none()),
         answer => answer,
     }
 }
@@ -57,8 +58,8 @@ fn processors(
 ) -> Result<Option<u64>, AllocError>
     requires { group < length instance.now.rows }
 {
-    match least_processors(alloc, instance, group, amount) {
-        Err(_) => least_processors(alloc, instance, group, amount),
+    match least_processors(alloc, instance, group, amount, &mut Count::none()) {
+        Err(_) => least_processors(alloc, instance, group, amount, &mut Count::none()),
         answer => answer,
     }
 }
@@ -72,8 +73,8 @@ fn limit(
     requires row { group < length instance.now.rows }
     requires below_root { 0 < group }
 {
-    match least_limit(alloc, instance, group, amount) {
-        Err(_) => least_limit(alloc, instance, group, amount),
+    match least_limit(alloc, instance, group, amount, &mut Count::none()) {
+        Err(_) => least_limit(alloc, instance, group, amount, &mut Count::none()),
         answer => answer,
     }
 }

@@ -1,5 +1,6 @@
 //! Weights that meet several goals, from both starts, and goals that cannot be met together.
 use crate::instances::{Group, instance};
+use bw_machine::Count;
 use bw_model::Instance;
 use bw_questions::{Goal, Measure, TuneFault, Tuning, tune};
 use std::alloc::Global;
@@ -51,10 +52,10 @@ fn tuning(
     goals: &[Goal],
     measure: Measure,
 ) -> Result<Tuning, TuneFault> {
-    match tune(alloc, instance, goals, measure) {
+    match tune(alloc, instance, goals, measure, &mut Count::none()) {
         Err(TuneFault::OutOfMemory) => {
             assert!(rt; TuneFault::OutOfMemory.number() == 71);
-            tune(alloc, instance, goals, measure)
+            tune(alloc, instance, goals, measure, &mut Count::none())
         }
         answer => answer,
     }
@@ -136,16 +137,40 @@ fn guaranteed_goals(rt: HostRuntime) -> Result<(), Fail> {
 fn refused_goals(rt: HostRuntime) -> Result<(), Fail> {
     let groups = instance(rt.alloc(), &GROUPS)?;
     let missing = [goal(ROOT, 1), goal(MISSING, 1)];
-    let answer = tune(rt.alloc(), &groups, &missing, Measure::Planned);
+    let answer = tune(
+        rt.alloc(),
+        &groups,
+        &missing,
+        Measure::Planned,
+        &mut Count::none(),
+    );
     assert!(rt; answer.err() == Some(TuneFault::NotFound));
     let root = [goal(POD, 1), goal(POD_A, 1), goal(ROOT, 1)];
-    let answer = tune(rt.alloc(), &groups, &root, Measure::Planned);
+    let answer = tune(
+        rt.alloc(),
+        &groups,
+        &root,
+        Measure::Planned,
+        &mut Count::none(),
+    );
     assert!(rt; answer.err() == Some(TuneFault::RootFixed));
     let above = [goal(POD_A, 1), goal(POD, 1)];
-    let answer = tune(rt.alloc(), &groups, &above, Measure::Planned);
+    let answer = tune(
+        rt.alloc(),
+        &groups,
+        &above,
+        Measure::Planned,
+        &mut Count::none(),
+    );
     assert!(rt; answer.err() == Some(TuneFault::GoalAbove));
     let twice = [goal(WEB, 1), goal(WEB, 2)];
-    let answer = tune(rt.alloc(), &groups, &twice, Measure::Planned);
+    let answer = tune(
+        rt.alloc(),
+        &groups,
+        &twice,
+        Measure::Planned,
+        &mut Count::none(),
+    );
     assert!(rt; answer.err() == Some(TuneFault::GoalAbove));
     assert!(rt; TuneFault::NotFound.number() == 20);
     assert!(rt; TuneFault::RootFixed.number() == 26);

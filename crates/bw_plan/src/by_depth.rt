@@ -23,9 +23,9 @@ use rayon::prelude::*;
 use std::alloc::{AllocError, Global};
 use std::thread::Threads;
 
-// Least number of children to split among in one piece of work. Several threads pay where the
-// groups of a depth have twice as many.
-const PIECE_CHILDREN: usize = 2048;
+/// Least number of children to split among in one piece of work. Several threads pay where the
+/// groups of a depth have twice as many.
+pub(crate) const PIECE_CHILDREN: usize = 2048;
 
 // Number of children of a group that share its amount: 0 for an only child, which gets all. A
 // product in place of a branch, since which groups have several children is hard to predict.

@@ -1,6 +1,7 @@
 //! Certificates whose lists are not as long as the rows, which no certified text has.
 
 use bw_check::{CheckFault, Verdict, check};
+use bw_machine::Count;
 use bw_model::{Certificate, HostShape, Instance, InstanceFault, Mark, Row};
 use std::alloc::Global;
 use std::process::Abort;
@@ -50,7 +51,7 @@ fn verdict_once(
         tight: tight.to_vec(alloc)?,
         levels: levels.to_vec(alloc)?,
     };
-    Ok(check(alloc, &instance, amounts, &certificate)?)
+    Ok(check(alloc, &instance, amounts, &certificate, &mut Count::none())?)
 }
 
 /// Asserts the verdict on the first `counts` amounts, flags and levels, on one processor of 20

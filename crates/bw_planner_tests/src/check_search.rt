@@ -15,6 +15,7 @@
 
 use bw_cert::certify;
 use bw_check::{Verdict, check};
+use bw_machine::Count;
 use bw_model::{Certificate, HostShape, Instance, InstanceFault, Mark, Row};
 use bw_plan::plan;
 use std::alloc::{AllocError, Global};
@@ -200,7 +201,7 @@ fn is_refused(
 ) -> Result<bool, AllocError> {
     for flags in 0..2u64.saturating_pow(instance.group_count()) {
         write_flags(certificate, flags);
-        if check(alloc, instance, amounts, certificate)? == Verdict::Accepted {
+        if check(alloc, instance, amounts, certificate, &mut Count::none())? == Verdict::Accepted {
             return Ok(false);
         }
     }
@@ -282,7 +283,7 @@ fn is_exact(
     let planned = plan(alloc, instance)?;
     let amounts = planned.amounts.as_slice();
     let mut certificate = certify(alloc, instance, &planned)?;
-    if check(alloc, instance, amounts, &certificate)? != Verdict::Accepted {
+    if check(alloc, instance, amounts, &certificate, &mut Count::none())? != Verdict::Accepted {
         return Ok(false);
     }
     let within = within_of(alloc, size, instance.rows(), lists)?;

@@ -1,5 +1,12 @@
 -- One step of a halving.
-use Rattle.std.proofs.Common.{◌≡◌, ℕ, ◌+◌, ◌<◌, ◌≤◌, subst, sym, arith}
+use Rattle.std.proofs.Common.{◌≡◌, ℕ, suc, ◌+◌, ◌-◌, ◌*◌, ◌/◌, ◌^◌, ◌<◌, ◌≤◌, subst, sym, ap, ◌∙◌, arith}
+use Rattle.std.proofs.Common.{inl, inr}
+use Rattle.std.proofs.lemmas.Bool.{cases_lt}
+use Rattle.std.proofs.Math.Nat.{pow-suc}
+use Rattle.bw_questions.specs.declared.least.setting.Setting.{Setting}
+use Rattle.bw_questions.specs.declared.least.setting.Setting.TheVariants.{Weight, Processors}
+use Rattle.bw_questions.specs.Change.{greatest_of}
+use Rattle.bw_questions.specs.Plans.{halvings_of}
 
 -- numbers below a gap at which a fact does not hold, and the one above it, at which it does
 abbrev pub IsGap : (ℕ → Type 0) → ℕ → ℕ → ℕ → Type 0
@@ -29,3 +36,35 @@ module _ (Holds : ℕ → Type 0) (greatest low high middle : ℕ) (gap : IsGap 
         (rises v middle first (omega (arith, less, l_is)) (omega (arith, before, gap.2)) holds),
     λ within. subst Holds (sym h_is) (gap.4 (omega (arith, within, h_is))),
   )
+
+-- A gap that is not empty takes one halving more.
+pub halved : (width next made whole : ℕ) → 0 < width → width < 2 ^ (whole - made)
+    → next ≤ width / 2 → made ≤ whole
+    → (made + 1 ≤ whole) × (next < 2 ^ (whole - (made + 1)))
+halved width next made whole some fits half within = elim (cases_lt made whole) [
+  | inl less ↦
+      let e : whole - made ≡ suc (whole - (made + 1)) = omega (arith, less) in
+      let p : 2 ^ (whole - made) ≡ 2 * 2 ^ (whole - (made + 1)) =
+      ap (λ (n : ℕ). 2 ^ n) e ∙ omega (arith, pow-suc 2 (whole - (made + 1))) in
+      (omega (arith, less), omega (arith, p, fits, half))
+  | inr no_less ↦
+      let e : whole - made ≡ 0 = omega (arith, no_less) in
+      let none : width < 2 ^ 0 = subst (λ (n : ℕ). width < 2 ^ n) e fits in
+      let clash : ⊥ = omega (arith, none, some) in
+      absurd clash
+]
+
+few_values : (setting : Setting) → greatest_of setting < 2 ^ halvings_of setting
+few_values Weight = omega arith
+few_values Processors = omega arith
+
+-- All values of a setting are a gap of its halvings.
+pub first_width : (setting : Setting) (greatest made : ℕ) → greatest ≡ greatest_of setting
+    → greatest + 1 - 1 < 2 ^ (made + halvings_of setting - made)
+first_width setting greatest made is =
+    let e : halvings_of setting ≡ made + halvings_of setting - made = omega arith in
+    subst (λ (n : ℕ). greatest + 1 - 1 < 2 ^ n) e (omega (arith, is, few_values setting))
+
+pub some_value : (setting : Setting) → 0 < greatest_of setting
+some_value Weight = omega arith
+some_value Processors = omega arith

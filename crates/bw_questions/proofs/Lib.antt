@@ -3,8 +3,10 @@ mod Alike
 mod AskingRows
 mod Blame
 mod BusyRows
+mod ByAll
 mod Counts
 mod Demanding
+mod ExactReadings
 mod Halving
 mod Help
 mod Judged
@@ -20,4 +22,5 @@ mod Rounds
 mod Rows
 mod Runs
 mod StillInstance
+mod TimeSlices
 mod TwoStarts

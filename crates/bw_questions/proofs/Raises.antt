@@ -1,10 +1,11 @@
 -- Raises: each is at most what any weights that meet the goals have, and no sum of weights falls.
-use Rattle.std.proofs.Common.{◌≡◌, ◌≢◌, ℕ, zero, suc, ◌-◌, ◌+◌, ◌<◌, ◌≤◌, List, [], ◌∷◌, Bool}
-use Rattle.std.proofs.Common.{true, false, Option, None, Some, length, refl, ap, sym, ◌∙◌, arith, inl, inr}
-use Rattle.std.proofs.Common.{get_or-set_same, get_or-set_other}
+use Rattle.std.proofs.Common.{◌≡◌, ◌≢◌, ℕ, zero, suc, ◌-◌, ◌+◌, ◌*◌, ◌<◌, ◌≤◌, List, [], ◌∷◌}
+use Rattle.std.proofs.Common.{Bool, true, false, Option, None, Some, length, refl, ap, sym, ◌∙◌}
+use Rattle.std.proofs.Common.{arith, inl, inr, get_or-set_same, get_or-set_other, replicate}
 use Rattle.std.specs.Prelude.{slice_index_or, slice_set}
-use Rattle.std.proofs.lemmas.Bool.{cases_lt, cases_eq}
-use Rattle.std.proofs.lemmas.List.{length-set}
+use Rattle.std.proofs.Math.Nat.{mul-le-mul_left}
+use Rattle.std.proofs.lemmas.Bool.{cases_lt, cases_eq, iff_false}
+use Rattle.std.proofs.lemmas.List.{length-set, length-replicate}
 use Rattle.bw_model.specs.declared.row.Row.{Row}
 use Rattle.bw_model.specs.declared.limits.TheConstants.{MIN_WEIGHT, MAX_WEIGHT}
 use Rattle.bw_model.specs.Groups.{Groups, IsInstance, weight_of, is_under}
@@ -16,8 +17,9 @@ use Rattle.bw_questions.specs.declared.tuned.measure.Measure.{Measure}
 use Rattle.bw_questions.specs.declared.tuned.tuning.Conflict.{Conflict}
 use Rattle.bw_questions.specs.Change.{with_weight}
 use Rattle.bw_questions.specs.Least.{IsLeast}
+use Rattle.bw_questions.specs.Plans.{plans_of_raises}
 use Rattle.bw_questions.specs.Raising.{IsTooMuch}
-use Rattle.bw_questions.specs.Tune.{goal_at, AreGoals, IsMet, IsReweighted, IsNoLighter}
+use Rattle.bw_questions.specs.Tune.{goal_at, AreGoals, IsMet, IsReweighted, IsNoLighter, IsShort}
 use Rattle.bw_questions.specs.Tune.{IsTuned, IsLeastRaise, AreMet, AreMarkedMet}
 use Rattle.bw_questions.proofs.Alike.{IsAlike, alike_back, alike_on, with_alike, around}
 use Rattle.bw_questions.proofs.Judged.{lighter_meets}
@@ -84,21 +86,80 @@ reweighted_more start current goals one k w below found first last =
           (weighed current (goal_at goals k).group w) inside h (λ same. out k below (sym same));
     })
 
+-- what the weights of the goals' groups can rise yet, in all
+abbrev pub spare_of : List Row → List Goal → ℕ
+spare_of rows [] = 0
+spare_of rows (goal ∷ goals) = (MAX_WEIGHT - weight_of rows goal.group) + spare_of rows goals
+
+pub spare_of-most : (rows : List Row) (goals : List Goal)
+    → spare_of rows goals ≤ MAX_WEIGHT * length goals
+spare_of-most rows [] = omega arith
+spare_of-most rows (goal ∷ goals) = omega (arith, spare_of-most rows goals)
+
+spare_of-no_more : (before after : List Row)
+    → ((h : ℕ) → weight_of before h ≤ weight_of after h) → (goals : List Goal)
+    → spare_of after goals ≤ spare_of before goals
+spare_of-no_more before after all [] = omega arith
+spare_of-no_more before after all (goal ∷ goals) =
+    omega (arith, all goal.group, spare_of-no_more before after all goals)
+
+spare_of-less : (before after : List Row)
+    → ((h : ℕ) → weight_of before h ≤ weight_of after h) → (goals : List Goal) (k : ℕ)
+    → k < length goals
+    → weight_of before (goal_at goals k).group < weight_of after (goal_at goals k).group
+    → weight_of after (goal_at goals k).group ≤ MAX_WEIGHT
+    → spare_of after goals < spare_of before goals
+spare_of-less before after all [] k below more last = absurd (omega (arith, below))
+spare_of-less before after all (goal ∷ goals) zero below more last =
+    omega (arith, more, last, spare_of-no_more before after all goals)
+spare_of-less before after all (goal ∷ goals) (suc k) below more last =
+    omega (
+      arith,
+      all goal.group,
+      spare_of-less before after all goals k (omega (arith, below)) more last,
+    )
+
+-- One raise more: its plans are no more than what it takes off.
+pub raise_counted : (n before after spare left limit : ℕ)
+    → before + (n + 14) * spare ≤ limit → after ≤ before + (n + 14) → left < spare
+    → after + (n + 14) * left ≤ limit
+raise_counted n before after spare left limit so_far more less =
+    omega (arith, so_far, more, mul-le-mul_left (n + 14) less)
+
+-- The plans of all raises, and of one turn more.
+pub raises_counted : (n first before after spare : ℕ)
+    → before + (n + 14) * spare ≤ first + (n + 14) * (MAX_WEIGHT * n)
+    → after ≤ before + (n + 14) → after ≤ first + plans_of_raises n
+unfolding plans_of_raises
+raises_counted n first before after spare so_far more = omega (arith, so_far, more)
+
 -- What stands at each turn: the weights are at most those of all that meet the marked goals.
 pub record IsBelow (measure : Measure) (start : Groups) (goals : List Goal) (current : Groups)
     (marked : List Bool) : Type 0 where
   pub reweighted : IsReweighted start current goals
   pub no_lighter : IsNoLighter start current
   pub one_each : length marked ≡ length goals
+  pub short : (k : ℕ) → slice_index_or marked k false ≡ true → IsShort measure start goals k
   pub least : (others : Groups) → IsReweighted start others goals → IsNoLighter start others
       → AreMarkedMet measure others goals marked → IsNoLighter current others
 
+unmarked : (n k : ℕ) → slice_index_or (replicate n false) k false ≡ false
+unmarked zero k = refl
+unmarked (suc n) zero = refl
+unmarked (suc n) (suc k) = unmarked n k
+
 pub below_self : (measure : Measure) (start : Groups) (goals : List Goal) (marked : List Bool)
-    → IsInstance start → length marked ≡ length goals → IsBelow measure start goals start marked
-below_self measure start goals marked valid long = record {
+    → IsInstance start → marked ≡ replicate (length goals) false
+    → IsBelow measure start goals start marked
+below_self measure start goals marked valid none = record {
   reweighted = reweighted_self start goals valid;
   no_lighter = λ h. omega arith;
-  one_each = long;
+  one_each = ap length none ∙ length-replicate (length goals) false;
+  short = λ k is.
+      let unset : slice_index_or marked k false ≡ false =
+      ap (λ ms. slice_index_or ms k false) none ∙ unmarked (length goals) k in
+      absurd (iff_false {b = slice_index_or marked k false}
+      {P = slice_index_or marked k false ≡ true} (λ on. on, λ on. on) unset is);
   least = λ others one above met. above;
 }
 
@@ -120,6 +181,21 @@ module _ (measure : Measure) (start : Groups) (goals : List Goal) (current : Gro
   marked_here : slice_index_or (slice_set marked k true) k false ≡ true
   marked_here = get_or-set_same marked k true false k_in
 
+  -- Each goal that was marked falls short, and one more that does with another weight of its group.
+  marked_short : AreGoals start.rows goals → (w : ℕ) → MIN_WEIGHT ≤ w → w ≤ MAX_WEIGHT
+      → ¬ IsMet measure (with_weight current (goal_at goals k).group w) (goal_at goals k) → (l : ℕ)
+      → slice_index_or (slice_set marked k true) l false ≡ true → IsShort measure start goals l
+  marked_short good w first last fails l is = elim (cases_eq l k) [
+    | inl here ↦
+        rw here (
+          with_weight current (goal_at goals k).group w,
+          reweighted_more start current goals so_far.reweighted k w below (good.found k below) first
+              last,
+          fails,
+        )
+    | inr other ↦ so_far.short l (sym (get_or-set_other marked k l true false other) ∙ is)
+  ]
+
   module _ (one : ThereIsOnePlan) (gives : OthersWeightsGiveNothing) (valid : IsInstance start)
       (good : AreGoals start.rows goals) where
     g_in : (goal_at goals k).group < length current.rows
@@ -134,6 +210,10 @@ module _ (measure : Measure) (start : Groups) (goals : List Goal) (current : Gro
           good.apart l k l_in below (λ e. apart (sym e))
           (ap (λ n. is_under start.rows n (goal_at goals k).group) same ∙ under)
     ]
+
+    now : (MIN_WEIGHT ≤ weight_of current.rows (goal_at goals k).group)
+        × (weight_of current.rows (goal_at goals k).group ≤ MAX_WEIGHT)
+    now = so_far.reweighted.valid.weights (goal_at goals k).group g_in
 
     module _ (others : Groups) (other : IsReweighted start others goals)
         (above : IsNoLighter current others) where
@@ -268,6 +348,8 @@ module _ (measure : Measure) (start : Groups) (goals : List Goal) (current : Gro
             )
       ];
       one_each = length-set marked k true ∙ so_far.one_each;
+      short = marked_short good (weight_of current.rows (goal_at goals k).group) now.0 now.1
+          (found.3 (weight_of current.rows (goal_at goals k).group) now.0 more);
       least = λ others other no_lighter met h.
           let above : IsNoLighter current others =
           so_far.least others other no_lighter (marked_before others met) in
@@ -290,6 +372,25 @@ module _ (measure : Measure) (start : Groups) (goals : List Goal) (current : Gro
           ];
     }
 
+    -- A raise leaves less to raise.
+    pub raise-spare : (w : ℕ) → weight_of current.rows (goal_at goals k).group < w → w ≤ MAX_WEIGHT
+        → spare_of (with_weight current (goal_at goals k).group w).rows goals
+        < spare_of current.rows goals
+    raise-spare w more last =
+        let here = weight_here current (goal_at goals k).group
+        (weighed current (goal_at goals k).group w) g_in in
+        spare_of-less current.rows (with_weight current (goal_at goals k).group w).rows
+        (λ h. elim (cases_eq h (goal_at goals k).group) [
+          | inl same ↦ rw same (omega (arith, more, here))
+          | inr apart ↦
+              omega (
+                arith,
+                weight_other current (goal_at goals k).group
+                    (weighed current (goal_at goals k).group w) g_in h apart,
+              )
+        ])
+        goals k below (omega (arith, more, here)) (omega (arith, last, here))
+
     -- Where no weight meets the goal, it is too much beside the marked ones.
     pub raise-IsTooMuch : IsLeast (λ n. IsMet measure
         (with_weight current (goal_at goals k).group n) (goal_at goals k)) MIN_WEIGHT MAX_WEIGHT None
@@ -300,6 +401,11 @@ module _ (measure : Measure) (start : Groups) (goals : List Goal) (current : Gro
       one_each = rw are (length-set marked k true ∙ so_far.one_each);
       within = rw here below;
       marked = rw (here, are) marked_here;
+      short = λ l is.
+          let set : slice_index_or (slice_set marked k true) l false ≡ true =
+          ap (λ ms. slice_index_or ms l false) (sym are) ∙ is in
+          marked_short good (weight_of current.rows (goal_at goals k).group) now.0 now.1
+          (none (weight_of current.rows (goal_at goals k).group) now.0 now.1) l set;
       never = λ others other no_lighter met.
           let all : AreMarkedMet measure others goals (slice_set marked k true) = rw are at met in
           never_met others other

@@ -19,7 +19,8 @@ use Rattle.bw_questions.specs.HeldRule.{IsRound, asking, demand_where, everyone,
 use Rattle.bw_questions.specs.HeldRule.{leaf_limit, own_limit, round_limit, round_of, with_eighth}
 use Rattle.bw_questions.specs.Reading.{IsSameButDemands, IsTrueReading, limit_at, admitted_at, admitted}
 use Rattle.bw_questions.specs.HeldLaws.{NoneBelowItsGuarantee, GuaranteeIsAdmitted, NoneAboveItsLimit}
-use Rattle.bw_questions.specs.HeldLaws.{IsWithinPlan, LimitsAdmitThePlan, AskedIsAdmittedAsPlanned}
+use Rattle.bw_questions.specs.HeldLaws.{IsWithinPlan, LesserIsAdmitted, LimitsAdmitThePlan}
+use Rattle.bw_questions.specs.HeldLaws.{AskedIsAdmittedAsPlanned}
 use Rattle.bw_change_laws.proofs.CallerLemmas.{same_tree, weights_same}
 use Rattle.bw_questions.proofs.AskingRows.{as_many, demand_at, asking_alike, asking_limits}
 use Rattle.bw_questions.proofs.AskingRows.{where-IsInstance, round-IsInstance, everyone-IsInstance}
@@ -318,6 +319,19 @@ all_admitted plans used wants hungry demands amounts limits leaf vu round vw sam
     × (demand_of wants.rows leaf ≤ limit) =
     none_below plans used wants hungry demands amounts limits leaf (demand_of wants.rows leaf) vu
     round vw same below is is_guaranteed in
+    omega (arith, admits wants limits leaf found.0 is found.1, found.2)
+
+pub lesser_admitted : ThereIsOnePlan → LesserIsAdmitted
+lesser_admitted plans used wants hungry demands amounts limits leaf guaranteed vu round vw same
+    below is is_guaranteed =
+    let all : IsSameButDemands wants (everyone wants) =
+    same_asking wants (λ g. demand_where wants.rows true g) in
+    let found : (limit : ℕ) × (limit_at limits leaf ≡ Some limit) × (guaranteed ≤ limit) =
+    none_below plans used (everyone wants) hungry demands amounts limits leaf guaranteed vu round
+    (everyone-IsInstance wants vw)
+    (joined (everyone wants) wants used (turned wants (everyone wants) all) same)
+    (omega (arith, below, all.tree.as_many))
+    (leaf_same wants.rows (everyone wants).rows all.tree leaf ∙ is) is_guaranteed in
     omega (arith, admits wants limits leaf found.0 is found.1, found.2)
 
 -- A round beside what it asked for, whatever was read.

@@ -12,7 +12,8 @@ use Rattle.bw_questions.specs.declared.tuned.tuning.Tuning.{Tuning}
 use Rattle.bw_questions.specs.declared.tuned.tuning.Tuning.TheVariants.{Met, Unmet}
 use Rattle.bw_questions.specs.Change.{with_weight}
 use Rattle.bw_questions.specs.Raising.{IsRaising, IsTooMuch}
-use Rattle.bw_questions.specs.Tune.{goal_at, AreGoals, IsReweighted, IsNoLighter, IsTuning}
+use Rattle.bw_questions.specs.Tune.{goal_at, AreGoals, IsReweighted, IsNoLighter, IsShort}
+use Rattle.bw_questions.specs.Tune.{IsTuning, NamesTheShort}
 use Rattle.bw_questions.proofs.Raises.{reweighted_on, reweighted_back}
 use Rattle.bw_questions.proofs.Rising.{weighed}
 use Rattle.bw_questions.proofs.StillInstance.{weight_here, weight_other}
@@ -99,6 +100,14 @@ module _ (groups light : Groups) (goals : List Goal) (valid : IsInstance groups)
     never = λ others other met.
         raised.never others (from_light others other) (light_below others other) met;
   }
+
+  -- Goals that fall short under weights from the least ones on do so under some weights.
+  pub light-short : (measure : Measure) (tuning : Tuning) → IsRaising measure light goals tuning
+      → NamesTheShort measure groups goals tuning
+  light-short measure (Met tuned) raised = tt
+  light-short measure (Unmet conflict) raised = inr (λ k is.
+      let short : IsShort measure light goals k = raised.short k is in
+      (short.0, reweighted_on groups light short.0 goals weights short.1, short.2))
 
 -- One more goal's group gets the least weight.
 pub lighter_more : (groups light : Groups) (goals : List Goal) → IsReweighted groups light goals

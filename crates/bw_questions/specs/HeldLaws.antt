@@ -1,12 +1,14 @@
 -- Laws of one round: the floor, a leaf's own limit, and limits that admit no more than the plan.
-use Rattle.std.specs.Prelude.{◌≡◌, ℕ, ◌<◌, ◌≤◌, List, Bool, true, false, Option, Some, length, max}
-use Rattle.std.specs.Prelude.{slice_index}
+use Rattle.std.specs.Prelude.{◌≡◌, ℕ, ◌<◌, ◌≤◌, List, Bool, true, false, Option, Some, length}
+use Rattle.std.specs.Prelude.{min, max, slice_index}
 use Rattle.bw_model.specs.Allocation.{total, IsWithin}
 use Rattle.bw_model.specs.Groups.{Groups, IsInstance, demand_of, is_leaf}
 use Rattle.bw_model.specs.Plan.{IsPlan}
 use Rattle.bw_questions.specs.Guarantee.{IsGuaranteed}
-use Rattle.bw_questions.specs.HeldRule.{IsRound, is_hungry, own_limit, round_of, with_eighth}
-use Rattle.bw_questions.specs.Reading.{IsSameButDemands, IsTrueReading, limit_at, admitted_at, admitted}
+use Rattle.bw_questions.specs.HeldRule.{IsRound, everyone, is_hungry, own_limit, round_of}
+use Rattle.bw_questions.specs.HeldRule.{with_eighth}
+use Rattle.bw_questions.specs.Reading.{IsSameButDemands, IsTrueReading, limit_at, admitted_at}
+use Rattle.bw_questions.specs.Reading.{admitted}
 
 -- No leaf is limited below its guarantee, whatever it wants and whatever was read. The guarantee is
 -- the least that its want gets while the others ask for anything.
@@ -28,6 +30,17 @@ GuaranteeIsAdmitted = (used wants : Groups) (hungry : List Bool) (demands amount
     → leaf < length wants.rows → is_leaf wants.rows leaf ≡ true
     → IsGuaranteed wants leaf (demand_of wants.rows leaf)
     → admitted_at wants limits leaf ≡ demand_of wants.rows leaf
+
+-- While wants move: a leaf is admitted at least the lesser of what it wants now and of what it is
+-- guaranteed where it asks for everything, whatever was read.
+abbrev pub LesserIsAdmitted : Type 0
+LesserIsAdmitted = (used wants : Groups) (hungry : List Bool) (demands amounts : List ℕ)
+    (limits : List (Option ℕ)) (leaf guaranteed : ℕ)
+    → IsInstance used → IsRound used hungry demands amounts limits
+    → IsInstance wants → IsSameButDemands wants used
+    → leaf < length wants.rows → is_leaf wants.rows leaf ≡ true
+    → IsGuaranteed (everyone wants) leaf guaranteed
+    → min (demand_of wants.rows leaf) guaranteed ≤ admitted_at wants limits leaf
 
 -- No leaf is limited above its own limit, whatever was read.
 abbrev pub NoneAboveItsLimit : Type 0

@@ -142,6 +142,24 @@ NamesTheExcess groups goals tuning = (amounts : List ℕ) (n : ℕ) → IsPlan g
     → n < length goals → asked_first goals n ≤ slice_index amounts 0
     → slice_index amounts 0 < asked_first goals (suc n) → NamesUpTo n tuning
 
+-- a goal is not met under some weights of the goals' groups
+abbrev pub IsShort : Measure → Groups → List Goal → ℕ → Type 0
+IsShort measure groups goals k =
+    (others : Groups) × IsReweighted groups others goals × ¬ IsMet measure others (goal_at goals k)
+
+-- the goals up to a place ask for more than is served in all
+abbrev pub IsExcess : Groups → List Goal → ℕ → Type 0
+IsExcess groups goals n = (amounts : List ℕ) × IsPlan groups amounts
+    × (slice_index amounts 0 < asked_first goals (suc n))
+
+-- Goals that cannot be met together: the first that ask for more than is served in all, or goals of
+-- which each one falls short under some weights.
+abbrev pub NamesTheShort : Measure → Groups → List Goal → Tuning → Type 0
+NamesTheShort measure groups goals (Met tuned) = Unit {0}
+NamesTheShort measure groups goals (Unmet conflict) = IsExcess groups goals conflict.goal
+    ⊎ ((k : ℕ) → slice_index_or conflict.together.items k false ≡ true
+    → IsShort measure groups goals k)
+
 -- the groups whose plan tells what a goal is measured by
 abbrev pub judged : Measure → Groups → ℕ → Groups
 judged Planned groups group = groups

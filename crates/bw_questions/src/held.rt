@@ -11,6 +11,9 @@ ghost use Rattle.bw_questions.specs.HeldRule.{IsRound, everyone, round_of};
 mod asking;
 mod laws;
 mod limits;
+mod reading;
+mod tasks;
+mod written;
 
 use asking::{demands_of, round_of};
 use bw_cert::certify_gathered;
@@ -18,12 +21,14 @@ use bw_demand::gather_rows;
 use bw_model::{Certificate, Instance};
 use bw_plan::{plan, plan_rows};
 pub use laws::{
-    asked_is_admitted_as_planned, guarantee_is_admitted, limits_admit_the_plan,
-    none_above_its_limit, none_below_its_guarantee, nothing_else_stays, plan_is_reached,
-    plan_stays, wants_give_the_plan,
+    asked_is_admitted_as_planned, exact_readings_are_true, guarantee_is_admitted,
+    limits_admit_the_plan, none_above_its_limit, none_below_its_guarantee, nothing_else_stays,
+    plan_is_reached, plan_stays, wants_give_the_plan,
 };
 use limits::limits_of;
+pub use reading::{Reading, RoundTimes, reading_of};
 use std::alloc::{AllocError, Global};
+pub use written::{can_be_written, weight_of_limit, written_quota};
 
 /// The limits of a round, with the demands and the certified plan that they come from.
 #[derive(Debug, Drop)]

@@ -1,8 +1,9 @@
 //! The least values, by halving: what a value reaches, each greater one does.
-ghost use Rattle.std.specs.Prelude.{◌≡◌, ◌<◌, ◌≤◌, ◌↔◌, None, length, IfOk, IsTrue};
+ghost use Rattle.std.specs.Prelude.{◌≡◌, ◌+◌, ◌<◌, ◌≤◌, ◌↔◌, None, length, IfOk, OnOk, IsTrue};
 ghost use Rattle.bw_questions.specs.Change.{with_weight, with_limit, with_processors, changed};
 ghost use Rattle.bw_questions.specs.Change.{greatest_of};
 ghost use Rattle.bw_questions.specs.Least.{Reaches, IsLeast, IsLeastLimit, Rises};
+ghost use Rattle.bw_questions.specs.Plans.{ArePlans, halvings_of};
 
 mod changed;
 mod setting;
@@ -10,6 +11,7 @@ mod setting;
 use bw_change_laws::{
     capacity_takes_nothing, limit_only_cuts, raised_limits_serve_no_less, raised_weight_alone_gains,
 };
+use bw_machine::Count;
 use bw_model::Instance;
 use bw_model::limits::{MAX_PROCESSORS, MAX_WEIGHT, MIN_WEIGHT};
 use bw_plan::{plan, there_is_one_plan};
@@ -18,7 +20,7 @@ pub(crate) use changed::{reweighted, still};
 use setting::{Setting, greatest};
 use std::alloc::{AllocError, Global};
 
-/// Whether the plan gives a group at least so many slices.
+/// Whether the plan gives a group at least so many slices. It makes one plan, and counts it.
 ///
 /// # Errors
 /// `AllocError` if memory was refused.
@@ -27,12 +29,15 @@ pub(crate) fn reaches(
     instance: &Instance,
     group: u32,
     amount: u64,
+    plans: &mut Count,
 ) -> Result<bool, AllocError>
     requires { group < length instance.now.rows }
-    ensures { IfOk result (λ enough. IsTrue enough ↔ Reaches instance.now group amount) }
+    ensures reached { IfOk result (λ enough. IsTrue enough ↔ Reaches instance.now group amount) }
+    ensures plans { plans.new.steps ≡ plans.old.steps + 1 }
 {
     // its contract says that this is an instance
     let _rows = instance.rows();
+    *plans = plans.one_more();
     let plan = plan(alloc, instance)?;
     Ok(plan.amounts[group as usize] >= amount)
 }
@@ -44,12 +49,15 @@ fn least(
     setting: Setting,
     group: u32,
     amount: u64,
+    plans: &mut Count,
 ) -> Result<Option<u64>, AllocError>
     requires row { group < length instance.now.rows }
     requires rises { Rises instance.now setting group amount }
-    ensures { IfOk result (IsLeast
+    ensures least { IfOk result (IsLeast
         (λ v. Reaches (changed instance.now setting group v) group amount)
         1 (greatest_of setting)) }
+    ensures plans { ArePlans (halvings_of setting) plans.old.steps plans.new.steps }
+    ensures some { OnOk result (plans.old.steps < plans.new.steps) }
 {
     let greatest = greatest(setting);
     // Each value below `low` falls short. `high` and each one above it reach the amount.
@@ -58,7 +66,7 @@ fn least(
     while low < high {
         let middle = low + (high - low) / 2;
         let tried = changed(alloc, instance, setting, group, middle)?;
-        if reaches(alloc, &tried, group, amount)? {
+        if reaches(alloc, &tried, group, amount, plans)? {
             high = middle;
         } else {
             low = middle + 1;
@@ -79,16 +87,19 @@ pub fn least_weight(
     instance: &Instance,
     group: u32,
     amount: u64,
+    plans: &mut Count,
 ) -> Result<Option<u64>, AllocError>
     requires { group < length instance.now.rows }
-    ensures { IfOk result (IsLeast (λ w. Reaches (with_weight instance.now group w) group amount)
-        MIN_WEIGHT MAX_WEIGHT) }
+    ensures least { IfOk result (IsLeast
+        (λ w. Reaches (with_weight instance.now group w) group amount) MIN_WEIGHT MAX_WEIGHT) }
+    ensures plans { ArePlans 14 plans.old.steps plans.new.steps }
+    ensures some { OnOk result (plans.old.steps < plans.new.steps) }
 {
     let _rows = instance.rows();
     there_is_one_plan();
     raised_limits_serve_no_less();
     raised_weight_alone_gains();
-    least(alloc, instance, Setting::Weight, group, amount)
+    least(alloc, instance, Setting::Weight, group, amount, plans)
 }
 
 /// The least number of processors with which the plan gives a group at least so many slices, all
@@ -103,15 +114,18 @@ pub fn least_processors(
     instance: &Instance,
     group: u32,
     amount: u64,
+    plans: &mut Count,
 ) -> Result<Option<u64>, AllocError>
     requires { group < length instance.now.rows }
-    ensures { IfOk result (IsLeast (λ n. Reaches (with_processors instance.now n) group amount)
-        1 MAX_PROCESSORS) }
+    ensures least { IfOk result (IsLeast
+        (λ n. Reaches (with_processors instance.now n) group amount) 1 MAX_PROCESSORS) }
+    ensures plans { ArePlans 7 plans.old.steps plans.new.steps }
+    ensures some { OnOk result (plans.old.steps < plans.new.steps) }
 {
     let _rows = instance.rows();
     there_is_one_plan();
     capacity_takes_nothing();
-    least(alloc, instance, Setting::Processors, group, amount)
+    least(alloc, instance, Setting::Processors, group, amount, plans)
 }
 
 // Whether a group without its limit reaches an amount.
@@ -120,14 +134,17 @@ fn reaches_unlimited(
     instance: &Instance,
     group: u32,
     amount: u64,
+    plans: &mut Count,
 ) -> Result<bool, AllocError>
     requires row { group < length instance.now.rows }
     requires below_root { 0 < group }
-    ensures { IfOk result (λ enough. IsTrue enough
+    ensures reached { IfOk result (λ enough. IsTrue enough
         ↔ Reaches (with_limit instance.now group None) group amount) }
+    ensures plans { ArePlans 1 plans.old.steps plans.new.steps }
+    ensures one { OnOk result (plans.new.steps ≡ plans.old.steps + 1) }
 {
     let unlimited = relimited(alloc, instance, group, None)?;
-    reaches(alloc, &unlimited, group, amount)
+    reaches(alloc, &unlimited, group, amount, plans)
 }
 
 /// The least limit of a group, in slices, with which the plan gives it at least so many slices, all
@@ -143,14 +160,17 @@ pub fn least_limit(
     instance: &Instance,
     group: u32,
     amount: u64,
+    plans: &mut Count,
 ) -> Result<Option<u64>, AllocError>
     requires row { group < length instance.now.rows }
     requires below_root { 0 < group }
-    ensures { IfOk result (IsLeastLimit instance.now group amount) }
+    ensures least { IfOk result (IsLeastLimit instance.now group amount) }
+    ensures plans { ArePlans 1 plans.old.steps plans.new.steps }
+    ensures one { OnOk result (plans.new.steps ≡ plans.old.steps + 1) }
 {
     let _rows = instance.rows();
     there_is_one_plan();
     limit_only_cuts();
-    let enough = reaches_unlimited(alloc, instance, group, amount)?;
+    let enough = reaches_unlimited(alloc, instance, group, amount, plans)?;
     Ok(if enough { Some(amount) } else { None })
 }

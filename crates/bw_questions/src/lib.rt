@@ -11,9 +11,10 @@ mod why;
 
 pub use guaranteed::{GuaranteeFault, guarantee};
 pub use held::{
-    Held, asked_is_admitted_as_planned, guarantee_is_admitted, hold, limits_admit_the_plan,
+    Held, Reading, RoundTimes, asked_is_admitted_as_planned, can_be_written,
+    exact_readings_are_true, guarantee_is_admitted, hold, limits_admit_the_plan,
     none_above_its_limit, none_below_its_guarantee, nothing_else_stays, plan_is_reached,
-    plan_stays, wants_give_the_plan,
+    plan_stays, reading_of, wants_give_the_plan, weight_of_limit, written_quota,
 };
 pub use least::{least_limit, least_processors, least_weight};
 pub use tuned::{Conflict, Goal, Measure, TuneFault, Tuning, tune};

@@ -1,6 +1,7 @@
 //! Weights under which several goals are met at once.
-ghost use Rattle.std.specs.Prelude.{IfOk, IfErr, OnOk};
-ghost use Rattle.bw_questions.specs.Tune.{AreGoals, IsTuning, NamesTheExcess};
+ghost use Rattle.std.specs.Prelude.{◌+◌, ◌*◌, IfOk, IfErr, OnOk, length};
+ghost use Rattle.bw_questions.specs.Plans.{ArePlans, plans_of_raises};
+ghost use Rattle.bw_questions.specs.Tune.{AreGoals, IsTuning, NamesTheExcess, NamesTheShort};
 ghost use Rattle.bw_questions.specs.Fault.{IsTuneRefused};
 
 mod excess;
@@ -13,6 +14,7 @@ mod measure;
 mod raising;
 mod tuning;
 
+use bw_machine::Count;
 use bw_model::Instance;
 use excess::excess;
 pub use fault::TuneFault;
@@ -31,7 +33,8 @@ pub use tuning::{Conflict, Tuning};
 /// weights do not meet all goals, they are the least of all from 1 on.
 ///
 /// If no weights meet all goals, the answer is [`Tuning::Unmet`], with goals that cannot be met
-/// together. If they ask for more than the plan serves in all, those are the first that do.
+/// together. If they ask for more than the plan serves in all, those are the first that do. Else
+/// each of them falls short under some weights. Other goals may conflict too.
 ///
 /// # Cost
 ///
@@ -51,24 +54,28 @@ pub fn tune(
     instance: &Instance,
     goals: &[Goal],
     measure: Measure,
+    plans: &mut Count,
 ) -> Result<Tuning, TuneFault>
     ensures goals { OnOk result (AreGoals instance.now.rows goals.now) }
     ensures ok { IfOk result (IsTuning measure instance.now goals.now) }
     ensures excess { IfOk result (NamesTheExcess instance.now goals.now) }
+    ensures short { IfOk result (NamesTheShort measure instance.now goals.now) }
     ensures err { IfErr result (IsTuneRefused instance.now.rows goals.now) }
+    ensures plans { ArePlans (1 + 2 * plans_of_raises (length goals.now)) plans.old.steps
+        plans.new.steps }
 {
     let _rows = instance.rows();
     if let Some(fault) = refusal(instance, goals) {
         return Err(fault);
     }
-    if let Some(conflict) = excess(alloc, instance, goals)? {
+    if let Some(conflict) = excess(alloc, instance, goals, plans)? {
         return Ok(Tuning::Unmet(conflict));
     }
-    match raised(alloc, measure, instance, goals)? {
+    match raised(alloc, measure, instance, goals, plans)? {
         Tuning::Met(tuned) => Ok(Tuning::Met(tuned)),
         Tuning::Unmet(_) => {
             let light = lightest(alloc, instance, goals)?;
-            let tuning = raised(alloc, measure, &light, goals)?;
+            let tuning = raised(alloc, measure, &light, goals, plans)?;
             Ok(tuning)
         }
     }

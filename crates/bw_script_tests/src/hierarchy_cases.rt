@@ -1,7 +1,7 @@
 //! Groups made by the builder and set by the controller, against worked values. No script line
 //! reaches these calls. A call that runs out of memory is repeated on the unchanged hierarchy, so
 //! each case holds with any one of its allocations failing.
-use bw_hierarchy::{Cgroup, CgroupBuilder, CpuController, Fault, Hierarchy, fixed_keys};
+use bw_hierarchy::{Cgroup, CgroupBuilder, CpuController, Fault, Hierarchy, keys_of};
 use bw_model::HostShape;
 use bw_tree::{GroupId, TreeFault};
 use std::alloc::Global;
@@ -11,7 +11,7 @@ use std::test::Fail;
 // Root of a host with one processor of 20 slices of 5000 microseconds.
 fn new_hierarchy(alloc: Global) -> Result<Hierarchy, Fail> {
     let shape = HostShape::new(1, 100_000, 5000)?;
-    let keys = fixed_keys()?;
+    let keys = keys_of(0)?;
     match Hierarchy::new(alloc, keys, shape) {
         Err(_) => Ok(Hierarchy::new(alloc, keys, shape)?),
         Ok(made) => Ok(made),

@@ -1,6 +1,6 @@
 //! Trees of groups by ids, which no script line names, against worked values. Assertions stand in
 //! functions that borrow a tree. A test owns it, and would have to drop it at each assertion.
-use bw_hierarchy::fixed_keys;
+use bw_hierarchy::keys_of;
 use bw_model::{HostShape, Quota};
 use bw_tree::{GroupId, Snapshot, Tree, TreeFault, is_drawn_within};
 use std::alloc::Global;
@@ -43,7 +43,7 @@ fn put_groups(tree: &mut Tree) -> Result<(), TreeFault> {
 
 // A tree of `a` and `a/b`.
 fn small_tree(alloc: Global) -> Result<Tree, Fail> {
-    let keys = fixed_keys()?;
+    let keys = keys_of(0)?;
     let mut tree = match Tree::new(alloc, keys) {
         Err(_) => Tree::new(alloc, keys)?,
         Ok(tree) => tree,
@@ -54,7 +54,7 @@ fn small_tree(alloc: Global) -> Result<Tree, Fail> {
 
 #[test]
 fn ids_that_are_spent(rt: HostRuntime) -> Result<(), Fail> {
-    let keys = fixed_keys()?;
+    let keys = keys_of(0)?;
     let mut last = match Tree::with_next_id(rt.alloc(), keys, u64::MAX) {
         Err(_) => Tree::with_next_id(rt.alloc(), keys, u64::MAX)?,
         Ok(tree) => tree,
@@ -283,7 +283,7 @@ fn chain_of_long_names(rt: HostRuntime) -> Result<(), Fail> {
 // second group stands among the others of the key.
 #[test]
 fn names_that_share_a_key(rt: HostRuntime) -> Result<(), Fail> {
-    let keys = fixed_keys()?;
+    let keys = keys_of(0)?;
     assert!(rt; keys.hash_one("") % 4_294_967_291 == 352_806_701);
     let mut tree = match Tree::new(rt.alloc(), keys) {
         Err(_) => Tree::new(rt.alloc(), keys)?,

@@ -13,6 +13,7 @@ ghost use Rattle.bw_streams.specs.Watched.{inner_of, has_failed, read_calls, IsF
 
 use bw_cert::{CertFault, read_certified};
 use bw_check::{CheckFault, Verdict, check};
+use bw_machine::Count;
 use bw_streams::{
     READ_CALLS, RunFault, Watched, piece_room, put_number, put_number_line, put_refusal, send_line,
 };
@@ -108,6 +109,7 @@ fn finding_in(alloc: Global, text: &[u8]) -> Result<Finding, AllocError>
                 &certified.instance,
                 certified.amounts.as_slice(),
                 &certified.certificate,
+                &mut Count::none(),
             )?;
             Ok(Finding::Checked(verdict))
         }

@@ -22,7 +22,8 @@ use Rattle.bw_ticket.specs.Turns.{Sitter, RunsFollowTheProtocol, maker, brings_o
 use Rattle.bw_ticket.specs.Turns.{IsRoundOfTurns, LeadsInRounds, RunsServeDrawnTickets}
 use Rattle.bw_ticket.specs.Turns.Doing.{IsUp}
 use Rattle.bw_ticket.proofs.Allowed.{few_calls}
-use Rattle.bw_ticket.proofs.TurnsFollow.{Meets, left_in, one_turn}
+use Rattle.bw_ticket.proofs.Meets.{Meets, left_in}
+use Rattle.bw_ticket.proofs.TurnsFollow.{one_turn}
 
 run-append : (s : WaitState) (es fs : List Event) → run s (es ++ fs) ≡ run (run s es) fs
 run-append s [] fs = refl

@@ -2,6 +2,7 @@
 use Rattle.std.specs.Prelude.{ℕ, ◌+◌, ◌*◌, ◌%◌, ◌^◌, ◌<◌, nat_eq, nat_lt, ◌==◌, cond, List}
 use Rattle.std.specs.Prelude.{if◌then◌else◌, Option, Some, None, IfSome}
 use Rattle.std.specs.List.{fold}
+use Rattle.std.specs.Int.{w32, from_be_bytes}
 use Rattle.std.specs.HashMap.{HashMap, get}
 use Rattle.std.specs.BTreeMap.{BTreeMap, get_by_text, btree_map_len}
 use Rattle.std.specs.declared.string.String.{String}
@@ -30,6 +31,11 @@ with_byte seed hash byte =
 -- the hash of a text and more bytes
 unfoldable pub with_bytes : ℕ → PathHash → List ℕ → PathHash
 with_bytes seed hash bytes = fold (with_byte seed) hash bytes
+
+-- the value with more coefficients, which are words of four bytes
+unfoldable pub with_words : ℕ → ℕ → List (List ℕ) → ℕ
+with_words seed value words =
+    fold (λ v word. value_with seed v (from_be_bytes w32 word)) value words
 
 -- the number that stands for a whole text: the bytes that wait are a coefficient too
 unfoldable pub number : ℕ → PathHash → ℕ

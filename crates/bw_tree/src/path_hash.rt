@@ -1,6 +1,6 @@
 //! Hash of a path. A group is found by that of its whole path.
 ghost use Rattle.std.specs.Prelude.{◌≡◌, ◌<◌, ◌^◌};
-ghost use Rattle.bw_tree.specs.Keys.{value_with, with_byte, with_bytes, number};
+ghost use Rattle.bw_tree.specs.Keys.{value_with, with_byte, with_bytes, with_words, number};
 ghost use Rattle.bw_tree.specs.Nodes.{no_text_hash};
 
 use std::hash::{BuildHasher, RandomState};
@@ -71,11 +71,11 @@ impl PathHash {
     }
 
     // Hash of a whole text, four bytes at a time.
-    pub(crate) fn of_text(seed: u64, text: &[u8]) -> PathHash {
+    pub(crate) fn of_text(seed: u64, text: &[u8]) -> PathHash
+        ensures { result ≡ with_bytes seed no_text_hash text.now }
+    {
         let (words, rest) = text.as_chunks::<4>();
-        let value = words.iter().fold(1u32, |value, word| {
-            value_with(seed, value, u32::from_be_bytes(*word))
-        });
+        let value = with_words(seed, 1, words);
         PathHash { value, waiting: 1 }.with_bytes(seed, rest)
     }
 }
@@ -83,6 +83,16 @@ impl PathHash {
 // Point that the keys give: below the prime, and as good as random where they are.
 pub(crate) fn seed_of(keys: RandomState) -> u64 {
     keys.hash_one("") % PRIME
+}
+
+// The value of the polynomial with more coefficients, which are words of four bytes.
+#[tactic(auto, unfolding(crate::specs::Keys::with_words))]
+fn with_words(seed: u64, value: u32, words: &[[u8; 4]]) -> u32
+    ensures { result ≡ with_words seed value words.now }
+{
+    words.iter().fold(value, |value, word| {
+        value_with(seed, value, u32::from_be_bytes(*word))
+    })
 }
 
 // The value of the polynomial with one more coefficient.

@@ -44,8 +44,8 @@ impl Tree {
     fn keyed(&self, path: &str) -> Option<GroupId>
         ensures { IfSome result (λ id. find_path self.now.groups path.now ≡ Some id) }
     {
-        let hash = PathHash::of_text(self.seed, path.as_bytes());
-        let id = self.children.first(hash.number(self.seed))?;
+        let hash = PathHash::of_text(self.index.seed, path.as_bytes());
+        let id = self.index.children.first(hash.number(self.index.seed))?;
         if !self.is_spelled(id, path.as_bytes()) {
             return None;
         }

@@ -276,7 +276,7 @@ woken_writes s o a k n j _ = by_any (list_any (sleeps_on (length s.words) (word_
     by_any true = inl refl
     by_any false = inl refl
 
-mine : (t : ℕ) → one_if (t == t) ≡ 1
+pub mine : (t : ℕ) → one_if (t == t) ≡ 1
 mine t = ap one_if (eq-eqb t t refl)
 
 take_writes : (s : WaitState) (o : Option Phase) (k : ℕ) (c : Bool)

@@ -13,6 +13,7 @@ mod PeekFirst
 mod Raising
 mod RoundsRaise
 mod RunSound
+mod Stages
 mod Invariant
 mod WakeSound
 mod WakeWords

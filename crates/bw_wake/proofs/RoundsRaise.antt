@@ -19,179 +19,21 @@ use Rattle.bw_wake.specs.declared.seats.Event.TheVariants.{TakeMark, Wake}
 use Rattle.bw_wake.specs.Protocol.{WaitState, or_same, one_less, tickets_woken, word_of, mark_at}
 use Rattle.bw_wake.specs.Protocol.{start, run, happens, after, is_possible, moved, marked, sleeps_on}
 use Rattle.bw_wake.specs.Protocol.{wake_by}
-use Rattle.bw_wake.specs.Progress.{one_if, count, sleeps, wakes, busy, seat_of, is_still}
-use Rattle.bw_wake.specs.Rounds.{MakesOne, AreRounds, run_rounds}
+use Rattle.bw_wake.specs.Progress.{one_if, count, sleeps, wakes, busy, seat_of}
+use Rattle.bw_wake.specs.Rounds.{AreRounds, run_rounds}
 use Rattle.bw_wake.specs.Rounds.{EightRoundsRaiseServing, DrawnTicketsAreServed}
 use Rattle.bw_machine.proofs.CallerLemmas.{get_same, get_other}
 use Rattle.bw_wake.proofs.Counts.{count_at}
-use Rattle.bw_wake.proofs.Effects.{after_at, now, after_is, IsOther, other_seat, serves, two_seats}
-use Rattle.bw_wake.proofs.Effects.{mark_stays_gone, taken_is_gone, draws}
+use Rattle.bw_wake.proofs.Effects.{after_at, now, IsOther, other_seat, two_seats}
+use Rattle.bw_wake.proofs.Effects.{mark_stays_gone, taken_is_gone, mine}
 use Rattle.bw_wake.proofs.Invariant.{waits, may_sleep, Stands, Sound}
-use Rattle.bw_wake.proofs.PeekFirst.{peeks_first, PeekIsFirst, happens_first}
+use Rattle.bw_wake.proofs.PeekFirst.{peeks_first}
 use Rattle.bw_wake.proofs.Raising.{some_seat, one_is, none_looked}
-use Rattle.bw_wake.proofs.RunSound.{happens_sound}
+use Rattle.bw_wake.proofs.Stages.{Good, good_after, good_run, good_rounds, rounds_le}
+use Rattle.bw_wake.proofs.Stages.{rounds_drawn, Rises, more, not_possible, rises, IsAt, event_at}
+use Rattle.bw_wake.proofs.Stages.{can_at, lands, stays_up, alone, Stage}
 use Rattle.bw_wake.proofs.WakeSound.{start_sound, waits_once, none_any}
 use Rattle.bw_wake.proofs.WordsApart.{to_next, words_apart}
-
-abbrev Good : WaitState → Type 0
-Good s = Sound s × PeekIsFirst s
-
-good_after : (s : WaitState) (e : Event) → Good s → Good (happens s e)
-good_after s e g = (happens_sound s e g.0, happens_first s e g.0 g.1)
-
-good_run : (s : WaitState) (es : List Event) → Good s → Good (run s es)
-good_run s [] g = g
-good_run s (e ∷ es) g = good_run (happens s e) es (good_after s e g)
-
-good_rounds : (s : WaitState) (rs : List (List Event)) → Good s → Good (run_rounds s rs)
-good_rounds s [] g = g
-good_rounds s (r ∷ rs) g = good_rounds (run s r) rs (good_run s r g)
-
--- the ticket that is served never falls
-event_le : (s : WaitState) (e : Event) → s.serving ≤ (happens s e).serving
-event_le s e = ⊎_elim (λ (same : (happens s e).serving ≡ s.serving). omega arith)
-    (λ (lt : s.serving < (happens s e).serving). omega arith) (serves s e)
-
-run_le : (s : WaitState) (es : List Event) → s.serving ≤ (run s es).serving
-run_le s [] = omega arith
-run_le s (e ∷ es) = let a = event_le s e in let b = run_le (happens s e) es in omega arith
-
-rounds_le : (s : WaitState) (rs : List (List Event)) → s.serving ≤ (run_rounds s rs).serving
-rounds_le s [] = omega arith
-rounds_le s (r ∷ rs) = let a = run_le s r in let b = rounds_le (run s r) rs in omega arith
-
-run_drawn : (s : WaitState) (es : List Event) → s.next ≤ (run s es).next
-run_drawn s [] = omega arith
-run_drawn s (e ∷ es) = let a = draws s e in let b = run_drawn (happens s e) es in omega arith
-
-rounds_drawn : (s : WaitState) (rs : List (List Event)) → s.next ≤ (run_rounds s rs).next
-rounds_drawn s [] = omega arith
-rounds_drawn s (r ∷ rs) =
-    let a = run_drawn s r in let b = rounds_drawn (run s r) rs in omega arith
-
--- whatever happens first, n rounds after it raise the ticket that is served
-abbrev Rises : ℕ → WaitState → Type 0
-Rises n s = (before : List Event) (rounds : List (List Event)) → n ≤ length rounds
-    → AreRounds (run s before) rounds
-    → s.serving < (run_rounds (run s before) rounds).serving
-
-more : (m n : ℕ) (s : WaitState) → m ≤ n → Rises m s → Rises n s
-more m n s le h = λ before rounds few are. h before rounds (omega arith) are
-
--- A stage on the way: P holds, and the event of the seat i is the next one. That event leads to a
--- state from where n rounds are enough. An event of another seat does so too, or P still holds.
-record Stage (n i : ℕ) (P : WaitState → Type 0) : Type 0 where
-  up : (s : WaitState) → P s → (p : Phase) × (slice_get s.phases i ≡ Some p) × (is_still p ≡ false)
-  own : (s : WaitState) (e : Event) → Good s → P s → seat_of e ≡ i → is_possible s e ≡ true
-      → (happens s e).serving ≡ s.serving → Rises n (happens s e)
-  other : (s : WaitState) (e : Event) → Good s → P s → i ≢ seat_of e
-      → (happens s e).serving ≡ s.serving → Rises n (happens s e) ⊎ P (happens s e)
-
-abbrev Goes : ℕ → ℕ → (WaitState → Type 0) → WaitState → Event → Type 0
-Goes n i P s e = (s.serving < (happens s e).serving) ⊎ (Rises n (happens s e)
-    ⊎ (P (happens s e) × (seat_of e ≡ i → is_possible s e ≡ true → ⊥)))
-
-not_possible : (s : WaitState) (o : Option WaitState) → is_some o ≡ false → or_same s o ≡ s
-not_possible s (Some x) h = absurd (cc h)
-not_possible s None h = refl
-
-true-not-false : (b : Bool) → b ≡ true → b ≡ false → ⊥
-true-not-false true t f = cc f
-true-not-false false t f = cc t
-
-goes : (n i : ℕ) (P : WaitState → Type 0) → Stage n i P → (s : WaitState) (e : Event) → Good s
-    → P s → Goes n i P s e
-goes n i P st s e g h = ⊎_elim (λ same. by_seat same (ℕ_discrete (seat_of e) i)) (λ lt. inl lt)
-    (serves s e)
-  where
-    by_possible : (b : Bool) → is_possible s e ≡ b → seat_of e ≡ i
-        → (happens s e).serving ≡ s.serving → Goes n i P s e
-    by_possible true can mine same = inr (inl (st.own s e g h mine can same))
-    by_possible false can mine same =
-        inr (inr (
-          subst P (sym (not_possible s (after s e) can)) h,
-          λ m poss. true-not-false (is_possible s e) poss can,
-        ))
-
-    by_seat : (happens s e).serving ≡ s.serving → Dec (seat_of e ≡ i) → Goes n i P s e
-    by_seat same (yes mine) = by_possible (is_possible s e) refl mine same
-    by_seat same (no ne) = ⊎_elim (λ r. inr (inl r)) (λ p. inr (inr (p, λ m. absurd (ne m))))
-        (st.other s e g h (λ m. ne (sym m)) same)
-
-in_round : (n i : ℕ) (P : WaitState → Type 0) → Stage n i P → (s : WaitState) (r : List Event)
-    (rs : List (List Event)) → Good s → P s → MakesOne i s r → n ≤ length rs
-    → AreRounds (run s r) rs → s.serving < (run_rounds (run s r) rs).serving
-in_round n i P st s [] rs g h makes few are = absurd makes
-in_round n i P st s (e ∷ es) rs g h makes few are =
-    let le = event_le s e in let le_run = run_le (happens s e) es in
-    let le_rounds = rounds_le (run (happens s e) es) rs in
-    ⊎_elim (λ (lt : s.serving < (happens s e).serving). omega arith)
-    (λ z. ⊎_elim (λ (r : Rises n (happens s e)). let k = r es rs few are in omega arith)
-    (λ (p : P (happens s e) × (seat_of e ≡ i → is_possible s e ≡ true → ⊥)).
-    ⊎_elim (λ (m : (seat_of e ≡ i) × (is_possible s e ≡ true)). absurd (p.1 m.0 m.1))
-    (λ (m : MakesOne i (happens s e) es).
-    let k = in_round n i P st (happens s e) es rs (good_after s e g) p.0 m few are in omega arith)
-    makes) z)
-    (goes n i P st s e g h)
-
-rises : (n i : ℕ) (P : WaitState → Type 0) → Stage n i P → (s : WaitState) → Good s → P s
-    → Rises (suc n) s
-rises n i P st s g h [] [] few are = absurd (omega arith)
-rises n i P st s g h [] (r ∷ rs) few are = let w = st.up s h in
-    in_round n i P st s r rs g h (are.0 i w.0 w.1 w.2) (omega arith) are.1
-rises n i P st s g h (e ∷ es) rounds few are =
-    let le = event_le s e in let le_run = run_le (happens s e) es in
-    let le_rounds = rounds_le (run (happens s e) es) rounds in
-    ⊎_elim (λ (lt : s.serving < (happens s e).serving). omega arith)
-    (λ z. ⊎_elim (λ (r : Rises n (happens s e)). let k = r es rounds (omega arith) are in omega arith)
-    (λ (p : P (happens s e) × (seat_of e ≡ i → is_possible s e ≡ true → ⊥)).
-    let k = rises n i P st (happens s e) (good_after s e g) p.0 es rounds few are in omega arith) z)
-    (goes n i P st s e g h)
-
--- The seat i is in the phase p, and the ticket t is served.
-abbrev IsAt : ℕ → Phase → ℕ → WaitState → Type 0
-IsAt i p t s = (slice_get s.phases i ≡ Some p) × (s.serving ≡ t)
-
--- an event of a seat in this phase
-event_at : (s : WaitState) (e : Event) (i : ℕ) (p : Phase) → slice_get s.phases i ≡ Some p
-    → seat_of e ≡ i → after s e ≡ after_at s e (Some p)
-event_at s e i p at mine = after_is s e ∙ ap (after_at s e) (ap (slice_get s.phases) mine ∙ at)
-
-can_at : (s : WaitState) (e : Event) (i : ℕ) (p : Phase) → slice_get s.phases i ≡ Some p
-    → seat_of e ≡ i → is_possible s e ≡ true → is_some (after_at s e (Some p)) ≡ true
-can_at s e i p at mine can = sym (ap is_some (event_at s e i p at mine)) ∙ can
-
--- where its seat has moved
-lands : (s x : WaitState) (e : Event) (i t : ℕ) (p q : Phase) → slice_get s.phases i ≡ Some p
-    → seat_of e ≡ i → after s e ≡ Some x → x.phases ≡ slice_set s.phases (seat_of e) q
-    → (happens s e).serving ≡ s.serving → s.serving ≡ t → IsAt i q t (happens s e)
-lands s x e i t p q at mine is moves same served =
-    let there : slice_get x.phases i ≡ Some q =
-    ap (λ ps. slice_get ps i) (moves ∙ ap (λ (y : ℕ). slice_set s.phases y q) mine)
-    ∙ get_same s.phases i p q at in
-    (ap (λ o. slice_get (or_same s o).phases i) is ∙ there, same ∙ served)
-
--- a seat that is up stays where it is at an event of another
-stays_up : (s : WaitState) (e : Event) (i : ℕ) (p : Phase) → is_still p ≡ false
-    → slice_get s.phases i ≡ Some p → i ≢ seat_of e → slice_get (happens s e).phases i ≡ Some p
-stays_up s e i p awake at ne =
-    ⊎_elim (λ (same : slice_get (happens s e).phases i ≡ slice_get s.phases i). same ∙ at)
-    (λ (w : (t : ℕ) × (slice_get s.phases i ≡ Some (Asleep t))
-    × (slice_get (happens s e).phases i ≡ Some (Waiting t))).
-    let same : Some p ≡ Some (Asleep w.0) = sym at ∙ w.1 in
-    let q : p ≡ Asleep w.0 = cc same in absurd (cc (sym awake ∙ ap is_still q)))
-    (other_seat s e i ne)
-
--- a stage of one seat alone
-alone : (n i t : ℕ) (p : Phase) → is_still p ≡ false
-    → ((s : WaitState) (e : Event) → Good s → IsAt i p t s → seat_of e ≡ i
-    → is_possible s e ≡ true → (happens s e).serving ≡ s.serving → Rises n (happens s e))
-    → Stage n i (IsAt i p t)
-alone n i t p awake own = record {
-  up = λ s h. (p, h.0, awake);
-  own = own;
-  other = λ s e g h ne same. inr (stays_up s e i p awake h.0 ne, same ∙ h.1);
-}
 
 own_done : (s : WaitState) (e : Event) → is_some (after_at s e (Some Done)) ≡ true
     → s.serving < (now s e (Some Done)).serving
@@ -411,9 +253,6 @@ sleeper_goes s e j t g (inr at) same = ⊎_elim (λ r. inl r) (λ at'. inr (inr 
 some_word : (s : WaitState) (i : ℕ) (p : Phase) → Sound s → slice_get s.phases i ≡ Some p
     → 0 < length s.words
 some_word s i p r at = let few = slice_get_within s.phases i p at in omega (arith, r.words)
-
-mine : (t : ℕ) → one_if (t == t) ≡ 1
-mine t = ap one_if (eq-eqb t t refl)
 
 -- It has looked in vain, and its mark is gone: it does not sleep.
 abbrev HasLostMark : ℕ → ℕ → WaitState → Type 0

@@ -1,4 +1,4 @@
-"""The answer of an audit: a row for each group, the worst first, as text and as data."""
+"""The answer of an audit: a row for each group, the worst first, as text, as data and as a page."""
 from __future__ import annotations
 
 from collections.abc import Iterator, Sequence
@@ -6,12 +6,14 @@ from dataclasses import dataclass, replace
 from fractions import Fraction
 from typing import Any
 
-from arbiter_host import text, units
-from arbiter_host.audit.causes import Outlooks, cause_of
+from arbiter_host import svg, text, units
+from arbiter_host.audit.causes import NOTHING, Outlooks, cause_of
 from arbiter_host.audit.intervals import Audit, Cell, Interval, Off
 from arbiter_host.demands import mean
+from arbiter_host.html import rendered
 from arbiter_host.model import Group
-from arbiter_host.names import short, shown
+from arbiter_host.names import cut, short, shown
+from arbiter_host.series import gapped
 
 HEADS = ("used", "plan", "mean off", "of plan", "worst off", "of plan then", "intervals",
          "likely cause", "group")
@@ -20,6 +22,12 @@ COLUMNS = {"used_millicpu": "used", "demand_millicpu": "demand", "plan_millicpu"
            "periods": "periods", "throttled": "throttled", "hungry": "hungry", "tasks": "tasks"}
 # Thousandths of a CPU of a hundredth.
 HUNDREDTH = 10
+# Groups whose use is drawn.
+MOST_DRAWN = 12
+# A picture fits a window of 500 pixels as it is.
+WIDTH, HEIGHT, LEFT, RIGHT, TOP, BOTTOM = 440, 170, 52, 12, 12, 24
+# Colours of the page, which has others in the dark.
+FAINT, LINE, USED, PLANNED = (f"var(--{each})" for each in ("faint", "line", "get", "bad"))
 
 
 @dataclass(frozen=True)
@@ -107,7 +115,6 @@ def head(ranked: Ranked) -> Iterator[str]:
 
 
 def cells_of(row: AuditRow) -> list[str]:
-    """The cells of a row."""
     average, most = row.average, row.most
     return [cpus(average.used), cpus(average.planned), points(average.off), percent(average.part),
             points(most.off), percent(most.part), str(row.count), row.cause,
@@ -135,7 +142,6 @@ def off_data(off: Off) -> dict[str, Any]:
 
 
 def row_data(row: AuditRow, intervals: Sequence[Interval]) -> dict[str, Any]:
-    """A row as data."""
     return {"group": row.path, "title": row.group.title, "weight": row.group.weight,
             "quota_usec": row.group.quota, "period_usec": row.group.period,
             "intervals": row.count,
@@ -148,7 +154,6 @@ def row_data(row: AuditRow, intervals: Sequence[Interval]) -> dict[str, Any]:
 
 
 def as_data(ranked: Ranked) -> dict[str, Any]:
-    """An audit as data."""
     audit, host = ranked.audit, ranked.audit.plan.model.host
     return {"host": {"processors": host.processors, "period_usec": host.period_us,
                      "slice_usec": host.slice_us},
@@ -158,3 +163,44 @@ def as_data(ranked: Ranked) -> dict[str, Any]:
                           for each in audit.intervals],
             "notes": audit.notes, "placement": {"not_known": ranked.why_not or None},
             "groups": [row_data(row, audit.intervals) for row in ranked.rows]}
+
+
+def picture(row: AuditRow, intervals: Sequence[Interval]) -> str:
+    """Plan and use of a group over time, in CPUs: stairs, with a gap where nothing was measured."""
+    lines = {(colour, dash): [None if cell is None else float(getattr(cell, key)) / 1000
+                              for cell in row.cells]
+             for key, colour, dash in (("planned", PLANNED, "5 3"), ("used", USED, ""))}
+    most = max([0.001, *(each for values in lines.values() for each in values if each is not None)])
+    step = (WIDTH - LEFT - RIGHT) / len(intervals)
+
+    def height(value: float) -> float:
+        tall = HEIGHT - TOP - BOTTOM
+        return TOP + tall - tall * value / most
+
+    def parts() -> Iterator[str]:
+        for value in svg.steps(most, 4):
+            y = height(value)
+            yield svg.line((LEFT, y), (WIDTH - RIGHT, y), LINE)
+            yield svg.words((LEFT - 6, y + 4), f"{value:g}", FAINT, 12, "end")
+        ends = ((intervals[0], LEFT, "start"), (intervals[-1], WIDTH - RIGHT, "end"))
+        for interval, x, anchor in ends[:len(intervals)]:
+            yield svg.words((x, HEIGHT - 6), cut(interval.name, 24), FAINT, 12, anchor)
+        for (colour, dash), values in lines.items():
+            for points in gapped(values, lambda at: LEFT + step * at, height):
+                yield svg.shape(points, colour, 1.5, "none", dash)
+
+    return svg.inside(WIDTH, HEIGHT, f"plan and use of {row.path}", [*parts()])
+
+
+def page(found: Ranked, title: str) -> str:
+    """One HTML page: the table, which sorts, and plan and use over time of the worst groups."""
+    rows = []
+    for row in found.busy:
+        *cells, cause, name = cells_of(row)
+        rows.append({"name": name, "cause": cause, "cells": list(zip(HEADS, cells)),
+                     "is_bad": row.cause == NOTHING})
+    drawn = [{"name": short(shown(row.path)), "cause": row.cause,
+              "picture": picture(row, found.audit.intervals)} for row in found.busy[:MOST_DRAWN]]
+    return rendered("audit.html", title, head(found), rows=rows, drawn=drawn,
+                    foot=list(foot(found)),
+                    notes=[shown(each) for each in found.audit.notes])

@@ -13,7 +13,7 @@ from arbiter_host.faults import HostFault
 from arbiter_host.looks import CAME, MICROSECONDS, Look, Span, between
 from arbiter_host.model import Group, Model
 from arbiter_host.names import shown
-from arbiter_host.plan import Engine, Plan, plan
+from arbiter_host.plan import Engine, Plan, asking, plan
 from arbiter_host.sources.usage import some
 
 AWAY = "groups while nothing was measured"
@@ -100,12 +100,14 @@ class Audit:
     notes: list[str] = field(default_factory=list)
 
 
-def unplanned_cell(group: Group, span: Span, tasks: int | None, host: Host,
+def unplanned_cell(engine: Engine, group: Group, span: Span, tasks: int | None, host: Host,
                    want: str | None) -> Cell:
     """A leaf before its plan: what it used and wanted. A hungry one wanted what it used, raised by
     the time in which it waited or was throttled, as `top` does. Its tasks bound it. `want` is
     another rule for all."""
-    hungry, risen = span.is_hungry(group.quota is not None), span.risen
+    with asking("a reading"):
+        hungry = span.reading(engine.library, host, group.quota is not None).is_hungry
+    risen = span.risen
     rule = want or ("psi" if hungry else "usage")
     demand = demands.wanted(rule, group, span.measured(tasks), host, span.seconds)
     if demand is None:
@@ -148,8 +150,8 @@ def interval_of(engine: Engine, one: Look, two: Look, want: str | None,
             holes[path] = span
         else:
             group = model.groups[path]
-            cells[path] = unplanned_cell(group, span, two.tasks.get(path, group.tasks), model.host,
-                                         want)
+            cells[path] = unplanned_cell(engine, group, span, two.tasks.get(path, group.tasks),
+                                         model.host, want)
     gone = one.counted.keys() - two.counted.keys() - model.groups.keys() - {"."}
     parents = one.model.children()
     holes |= {path: CAME for path in gone if not parents.get(path)}

@@ -8,12 +8,12 @@ from __future__ import annotations
 
 import importlib
 import os
-from collections.abc import Callable, Iterator, Sequence
+from collections.abc import Iterator, Sequence
 from dataclasses import dataclass, field
 from typing import NamedTuple
 
 from arbiter import Library
-from arbiter_host import apply, load
+from arbiter_host import apply
 from arbiter_host.atomic_files import Document, own_folder, put_all
 from arbiter_host.faults import HostFault, UsageFault
 from arbiter_host.model import Group, Model, check_settings
@@ -59,18 +59,14 @@ class Differing(NamedTuple):
 
 @dataclass
 class Draft:
-    """A change that is to be written: both models, the files of BEFORE, and the way."""
+    """A change that is to be written: both models, and the top of the tree."""
 
     before: Model
     after: Model
-    files: Sequence[load.Opened]
     root: Root
-    by: apply.By
     library: Library
     # The conversion of shares that the runtime makes.
     runtime: str
-    # Reads files as the first source was read.
-    reread: Callable[[Sequence[load.Opened]], Model]
     # What the form cannot say, and what is to be told beside, in words.
     refused: list[str] = field(default_factory=list)
     told: list[str] = field(default_factory=list)

@@ -11,19 +11,11 @@ from arbiter import Library
 from arbiter_host import search, units
 from arbiter_host.atomic_files import Document
 from arbiter_host.exports import Differing, Draft, head
-from arbiter_host.names import last_name, shown
-from arbiter_host.sources.data import loads, number, table, text
+from arbiter_host.sources.containers import ContainerSource
+from arbiter_host.sources.data import number, table, text
 
 NAME = re.compile(r"[a-zA-Z0-9][a-zA-Z0-9_.-]{0,100}")
 LABELS = "com.docker.compose."
-
-
-def by_group(draft: Draft) -> dict[str, dict[str, Any]]:
-    """The containers of the files, by the names of their groups."""
-    files = [loads(data or b"[]", shown(name)) for name, data in draft.files]
-    return {f"{begin}{text(each, 'Id')}{end}": each for entries in files
-            for each in (entries if isinstance(entries, list) else [entries])
-            for begin, end in (("", ""), ("docker-", ".scope"), ("libpod-", ".scope"))}
 
 
 def shares_of(library: Library, weight: int, conversion: str) -> int | None:
@@ -79,14 +71,14 @@ def service_of(container: dict[str, Any]) -> tuple[str, str]:
 
 
 def documents(draft: Draft) -> list[Document]:
-    """An override of each project."""
-    containers, changed = by_group(draft), set()
+    source, changed = draft.before.owned, set()
+    containers = {path: source.running[at] for path, (at, _) in source.built[1].items()
+                  } if isinstance(source, ContainerSource) else {}
     projects: dict[str, dict[str, dict[str, Any]]] = {}
     words: dict[str, list[str]] = {}
     for group in draft.groups():
-        scope = last_name(group.before.place)
-        changed.add(scope)
-        container = containers.get(scope, {})
+        changed.add(group.path)
+        container = containers.get(group.path, {})
         project, service = service_of(container)
         if not (NAME.fullmatch(project) and NAME.fullmatch(service)):
             draft.refuse(group.path, f"no service of compose ({LABELS}project and .service are"
@@ -97,17 +89,15 @@ def documents(draft: Draft) -> list[Document]:
             draft.refuse(group.path, f"the service {service} is to have two settings")
         words.setdefault(project, []).append(f"# {group.words}\n")
     # A service has all its containers changed or none.
-    here = {last_name(each.place) for each in draft.before.groups.values()} - changed
-    for scope, container in containers.items():
+    for path, container in containers.items():
         project, service = service_of(container)
-        if scope in here and service in projects.get(project, {}):
+        if path not in changed and service in projects.get(project, {}):
             draft.refuse(text(container, "Name").strip("/"),
                          f"is of the service {service} too, and does not change")
     return [document(project, services, words[project]) for project, services in projects.items()]
 
 
 def document(project: str, services: dict[str, dict[str, Any]], words: Sequence[str]) -> Document:
-    """The override of a project."""
     use = f"# docker compose -p {project} -f COMPOSE.yaml -f {project}.override.yaml up -d\n"
     if any("cpus" in keys for keys in services.values()):
         use += ("# Compose takes no `cpus` beside deploy.resources.limits.cpus: where a service"

@@ -33,16 +33,16 @@ def documents(draft: Draft) -> list[Document]:
             continue
         unit = unit_of(folder)
         if not unit:
-            draft.refuse(group.path, "its group is none of a unit by its path (-o shell writes"
-                         " its files)")
+            draft.refuse(group.path, "its group is none of a unit by its path (--yes writes its"
+                         " files)")
         elif unit in seen:
             draft.refuse(group.path, f"{seen[unit]} has the unit {unit} too")
         elif group.has_burst:
-            draft.refuse(group.path, "a burst: units have no setting for it (-o shell)")
+            draft.refuse(group.path, "a burst: units have no setting for it (--yes writes it)")
         elif group.has_limit and apply.percent(apply.settings_of(group.after)) is None:
             limit = apply.settings_of(group.after)
-            draft.refuse(group.path, "CPUQuota= has two decimals of a percent, and"
-                         f" {limit.quota} in {limit.period} microseconds has more (-o shell)")
+            draft.refuse(group.path, f"CPUQuota= has two decimals of a percent, and {limit.quota}"
+                         f" in {limit.period} microseconds has more (--yes writes it)")
         else:
             seen[unit] = group.path
             section = SECTIONS[unit.rpartition(".")[2]]

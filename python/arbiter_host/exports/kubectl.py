@@ -1,35 +1,30 @@
 """Strategic merge patches of what owns pods, for `kubectl patch --patch-file` or kustomize.
 
 The requests and limits of containers are what is written. Weights and limits of pods and classes
-follow from them, so the patched pods are read again: a group that kubelet and the runtime would
-set otherwise than is asked is refused.
+follow from them: a group that kubelet and the runtime would set otherwise than is asked is refused.
 """
 from __future__ import annotations
 
-import json
 import re
-from collections.abc import Iterator, Sequence
+from collections.abc import Iterator, Mapping, Sequence
 from fractions import Fraction
 from typing import Any, NamedTuple
 
 import yaml
 
-from arbiter_host import apply, load
+from arbiter_host import apply
 from arbiter_host.atomic_files import Document
 from arbiter_host.exports import Differing, Draft, head
 from arbiter_host.exports.compose import shares_of
-from arbiter_host.faults import naming
+from arbiter_host.faults import HostFault
+from arbiter_host.model import Group
 from arbiter_host.names import shown
-from arbiter_host.sources.data import loads, table, tables, text
-from arbiter_host.sources.kubernetes import is_pod, items_of
-from arbiter_host.sources.pods import MIRROR
+from arbiter_host.owned import Amounts, Setting
+from arbiter_host.sources.kubernetes import MAKERS, PodSource
+from arbiter_host.sources.pods import Container, Pod
 
 # What a name of an object may be, so that it can be a part of a file's name and of a command.
 NAME = re.compile(r"[a-z0-9]([-a-z0-9.]{0,251}[a-z0-9])?")
-# Kinds whose template of pods may be changed, and their versions.
-OWNERS = {"Deployment": "apps/v1", "StatefulSet": "apps/v1", "DaemonSet": "apps/v1",
-          "ReplicaSet": "apps/v1", "ReplicationController": "v1"}
-HASH = "pod-template-hash"
 # The amounts of a container by `requests` and `limits`; those of the containers by their names, for
 # each list of a pod. None takes an amount away.
 Resources = dict[str, dict[str, str | None]]
@@ -49,72 +44,16 @@ class Target(NamedTuple):
         return f"{self.kind} {shown(self.namespace)}/{shown(self.name)}"
 
 
-class Pods:
-    """The pods of the files, which are changed here, and the containers by their titles."""
-
-    def __init__(self, files: Sequence[load.Opened]) -> None:
-        self.files = [(name, loads(data or b"{}", shown(name))) for name, data in files]
-        self.items = [item for name, data in self.files for item in items_of(data, shown(name))]
-        self.pods = [each for each in self.items if is_pod(each)]
-        # With the pod of each, and the list of the pod in which it stands.
-        self.containers = {"/".join([*name_of(pod), text(each, "name")]): (pod, key, each)
-                           for pod in self.pods for key in ("initContainers", "containers")
-                           for each in tables(pod, "spec", key)}
-
-    def of(self, target: Target) -> list[dict[str, Any]]:
-        """The pods of a target."""
-        return [each for each in self.pods if target_of(each, self.items) == target]
-
-    def written(self) -> list[load.Opened]:
-        """The files as they are after the change."""
-        return [(name, json.dumps(data).encode()) for name, data in self.files]
-
-    def patch(self, target: Target, rows: Rows) -> None:
-        """Changes all pods of a target, as its patch does. Their class is reckoned again."""
-        for pod in self.of(target):
-            table(pod, "status").pop("qosClass", None)
-            for key, entries in rows.items():
-                known = {text(each, "name"): each for each in tables(pod, "spec", key)}
-                for name in entries.keys() & known.keys():
-                    held = known[name].setdefault("resources", {})
-                    for kind, value in entries[name].items():
-                        cpu = held.setdefault(kind, {})
-                        cpu |= value
-                        if cpu["cpu"] is None:
-                            del cpu["cpu"]
-
-
-def name_of(item: dict[str, Any]) -> tuple[str, str]:
-    """The namespace and the name of an object."""
-    return text(item, "metadata", "namespace") or "default", text(item, "metadata", "name")
-
-
-def controller_of(item: dict[str, Any]) -> tuple[str, str]:
-    """Kind and name of what controls an object; both empty where nothing does."""
-    owners = tables(item, "metadata", "ownerReferences")
-    owner: Any = next((each for each in owners if each.get("controller") is True), {})
-    return text(owner, "kind"), text(owner, "name")
-
-
-def deployment_of(pod: dict[str, Any], name: str, items: Sequence[dict[str, Any]]) -> str:
-    """The Deployment of a pod's ReplicaSet: as its object says, else by the pod's hash."""
-    own = (name_of(pod)[0], name)
-    for each in items:
-        if each.get("kind") == "ReplicaSet" and name_of(each) == own:
-            kind, above = controller_of(each)
-            return above if kind == "Deployment" else ""
-    mark = text(pod, "metadata", "labels", HASH)
-    return name.removesuffix(f"-{mark}") if mark and name.endswith(f"-{mark}") else ""
-
-
-def target_of(pod: dict[str, Any], items: Sequence[dict[str, Any]]) -> Target:
+def target_of(pod: Pod) -> Target:
     """What owns a pod as far up as its template may be changed; else the pod."""
-    kind, name = controller_of(pod)
-    if kind == "ReplicaSet":
-        above = deployment_of(pod, name, items)
-        kind, name = ("Deployment", above) if above else (kind, name)
-    namespace, own = name_of(pod)
-    return Target(kind, namespace, name) if kind in OWNERS else Target("Pod", namespace, own)
+    kind, _, owner = pod.owner.partition(" ")
+    namespace, _, name = owner.partition("/")
+    return Target(kind, namespace, name) if kind else Target("Pod", pod.namespace, pod.name)
+
+
+def list_of(container: Container) -> str:
+    """The list of a pod in which a container stands."""
+    return "initContainers" if container.is_init else "containers"
 
 
 def request_of(draft: Draft, group: Differing) -> int | None:
@@ -137,12 +76,12 @@ def limit_of(draft: Draft, group: Differing) -> int | None:
     return int(exact)
 
 
-def changes(draft: Draft, group: Differing, raw: dict[str, Any]) -> Resources:
+def changes(draft: Draft, group: Differing, now: Amounts) -> Resources:
     """The resources of a container that change. A limit alone must not become the request."""
     amounts = {}
     if group.has_weight or group.has_request:
         amounts["requests"] = request_of(draft, group)
-    elif group.has_limit and "cpu" not in table(raw, "resources", "requests"):
+    elif group.has_limit and now.request == now.limit:
         amounts["requests"] = int(group.before.request or 0)
     if group.has_limit:
         amounts["limits"] = limit_of(draft, group)
@@ -162,9 +101,17 @@ def paired(draft: Draft) -> Iterator[Differing]:
             yield Differing(path, each, draft.after.groups[then])
 
 
-def check_again(draft: Draft, pods: Pods) -> None:
+def settings_of(source: PodSource, patches: Mapping[Target, Rows]) -> Iterator[Setting]:
+    """What the patches set: containers of all pods of their targets."""
+    for path in source.own:
+        pod, number, _ = source.part(path)
+        rows = patches.get(target_of(pod), {}).get(list_of(pod.parts[number]), {})
+        for key, cpu in rows.get(pod.parts[number].name, {}).items():
+            yield Setting(path, key.removesuffix("s"), cpu["cpu"] or "none")
+
+
+def check(draft: Draft, groups: Mapping[str, Group]) -> None:
     """Refuses each group that kubelet and the runtime would set otherwise than is asked."""
-    groups = draft.reread(pods.written()).groups
     for path, group in draft.after.groups.items():
         if path not in draft.before.groups and path not in draft.moved:
             continue
@@ -176,11 +123,11 @@ def check_again(draft: Draft, pods: Pods) -> None:
                          f" {told}: requests and limits of containers decide it")
 
 
-def refusal_of(pod: dict[str, Any], target: Target) -> str:
+def refusal_of(pod: Pod, target: Target) -> str:
     """Why a pod cannot be patched; empty where it can."""
     if not (NAME.fullmatch(target.namespace) and NAME.fullmatch(target.name)):
         return f"{target.words} is no name that Kubernetes takes"
-    if text(pod, "metadata", "annotations", MIRROR):
+    if pod.is_static:
         return f"{target.words} is a static pod: its file on the node says its requests and limits"
     return ""
 
@@ -208,7 +155,7 @@ def document(target: Target, rows: Rows, words: Sequence[str]) -> Document:
         spec = {"template": {"spec": spec}}
     file = f"{target.namespace}.{kind}.{target.name}.yaml"
     command = f"kubectl -n {target.namespace} patch {kind} {target.name}{more} --patch-file {file}"
-    data = {"apiVersion": OWNERS.get(target.kind, "v1"), "kind": target.kind,
+    data = {"apiVersion": "apps/v1" if target.kind in MAKERS else "v1", "kind": target.kind,
             "metadata": {"name": target.name, "namespace": target.namespace}, "spec": spec}
     return Document(file, head("kubectl") + "".join(f"# {each}\n" for each in (command, *words))
                     + yaml.safe_dump(data, sort_keys=False))
@@ -216,33 +163,33 @@ def document(target: Target, rows: Rows, words: Sequence[str]) -> Document:
 
 def documents(draft: Draft) -> list[Document]:
     """A patch of each owner, or of a pod without one."""
-    with naming("-o kubectl is for pods"):
-        pods = Pods(draft.files)
+    source = draft.before.owned
+    if not isinstance(source, PodSource):
+        raise HostFault("-o kubectl is for pods")
     patches: dict[Target, Rows] = {}
     words: dict[Target, list[str]] = {}
     for group in paired(draft):
-        if group.before.title not in pods.containers or not (
+        if not source.has(group.path) or not (
                 group.has_weight or group.has_limit or group.has_request):
             continue
-        pod, key, container = pods.containers[group.before.title]
-        target, name = target_of(pod, pods.items), text(container, "name")
+        pod, number, now = source.part(group.path)
+        target, container = target_of(pod), pod.parts[number]
         refusal = refusal_of(pod, target)
         if refusal:
             draft.refuse(group.path, refusal)
             continue
         check_class(draft, group, target)
-        resources = changes(draft, group, container)
-        row = patches.setdefault(target, {}).setdefault(key, {})
-        if row.setdefault(name, resources) != resources:
-            draft.refuse(f"{target.words}, container {name}", "two of its pods are to have two"
-                         " settings")
+        resources = changes(draft, group, now)
+        row = patches.setdefault(target, {}).setdefault(list_of(container), {})
+        if row.setdefault(container.name, resources) != resources:
+            draft.refuse(f"{target.words}, container {container.name}", "two of its pods are to"
+                         " have two settings")
         words.setdefault(target, []).append(group.words)
-    for target, rows in patches.items():
-        pods.patch(target, rows)
-    check_again(draft, pods)
+    check(draft, source.changed(list(settings_of(source, patches))).plain.groups)
     for target in patches:
+        count = sum(target_of(pod) == target for pod in source.pods)
         draft.told.append(f"{target.words}: " + (
             "nothing owns it whose template may change: its patch lasts as long as it"
-            if target.kind == "Pod" else "the patch changes all its pods, on all nodes; in these"
-            f" files it has {len(pods.of(target))}"))
+            if target.kind == "Pod" else "the patch changes all its pods, on all nodes; here it"
+            f" has {count}"))
     return [document(target, rows, words[target]) for target, rows in patches.items()]

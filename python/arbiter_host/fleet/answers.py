@@ -1,36 +1,31 @@
 """The answers of one host to the questions of a fleet, as plain data. Amounts are slices.
 
-Each is worked out from what a worker sent, after the proved check accepted its plans here. So a
-worker that is wrong costs its host the answer, and shows no other amount.
+Each is worked out from the rows that a worker sent, whose plans are made and accepted by the proved
+check here. So a worker that is wrong costs its host alone.
 """
 from __future__ import annotations
 
-import ctypes
-import zlib
-from array import array
 from collections import Counter
 from collections.abc import Callable, Iterator, Sequence
 from dataclasses import astuple, dataclass
 from fractions import Fraction
-from functools import cached_property
 from typing import Any
 
-from arbiter import Certificate, Columns, Host
-from arbiter.c import NO_LIMIT
+from arbiter import Columns, Host
+from arbiter.columns import column
 from arbiter_host import series
 from arbiter_host.faults import HostFault
-from arbiter_host.fleet.work import Job, Sent, SentPlan
-from arbiter_host.model import checked
-from arbiter_host.plan import Answer, Engine
+from arbiter_host.fleet.work import Job, Sent, SentRows
+from arbiter_host.model import Group, Model, checked
+from arbiter_host.plan import Engine, Plan, Planned, plan_of
 from arbiter_host.series import SampleCell
 
 # Most groups that an answer names for one reason.
 MOST_NAMED = 5
-# The types of the columns: those of the rows, the amounts, and those of the certificate.
-KINDS = ("I", "Q", "Q", "Q", "Q", "B", "Q", "Q", "I")
+# The types of the columns of rows.
+KINDS = ("I", "Q", "Q", "Q")
 # What a reply of another form than that of `work` may raise.
-BROKEN = (ValueError, KeyError, TypeError, IndexError, AttributeError, OverflowError,
-          RecursionError, zlib.error, ctypes.ArgumentError)
+BROKEN = (ValueError, KeyError, TypeError, IndexError, AttributeError, OverflowError)
 
 
 @dataclass(frozen=True)
@@ -52,88 +47,50 @@ class HostAnswer:
         return self.cpus(found)
 
 
-def unpacked(data: bytes, count: int) -> tuple[Columns, array[int], Certificate]:
-    """So many rows, their amounts and certificate. A ValueError or zlib.error where there are
-    none."""
-    size = sum(count * array(kind).itemsize for kind in KINDS)
-    raw = zlib.decompressobj().decompress(data, size + 1)
-    if len(raw) != size:
-        raise ValueError("of other rows")
-    arrays, at = [], 0
-    for kind in KINDS:
-        end = at + count * array(kind).itemsize
-        arrays.append(array(kind, raw[at:end]))
-        at = end
-    return Columns(*arrays[:4]), arrays[4], Certificate(*arrays[5:])
+def accepted(engine: Engine, host: Host, sent: SentRows) -> Plan:
+    """The plan of rows that a worker sent."""
+    rows = Columns(*(column(kind, each, "rows")
+                     for kind, each in zip(KINDS, sent.columns, strict=True)))
+    model = Model(host, {path: Group(path) for path in sent.paths[1:]})
+    if not all(isinstance(each, str) for each in sent.paths) or not (
+            len(rows) == len(sent.paths) == len(model.groups) + 1):
+        raise TypeError(sent.paths)
+    return plan_of(engine, model, rows)
 
 
-@dataclass(frozen=True)
-class Accepted:
-    """A plan that the proved check accepted in this process. Lists have an entry for each row."""
-
-    host: Host
-    # The paths of the groups, `.` first.
-    paths: Sequence[str]
-    answer: Answer
-    engine: Engine
-
-    @property
-    def gets(self) -> Sequence[int]:
-        return self.answer.amounts
-
-    @property
-    def wants(self) -> Sequence[int]:
-        return self.answer.figures.wants
-
-    def limit(self, row: int) -> int | None:
-        """The limit of a group; that of the root is the capacity."""
-        limit = self.answer.columns.limits[row]
-        return self.host.capacity if row == 0 else None if limit == NO_LIMIT else limit
-
-    @cached_property
-    def leaves(self) -> list[int]:
-        """The rows of the groups without children, in which demands are."""
-        above = set(self.answer.columns.parents)
-        return [row for row in range(1, len(self.paths)) if row not in above]
-
-    @cached_property
-    def sums(self) -> dict[str, int]:
-        return {"served": self.gets[0], "wanted": self.wants[0],
-                "lacking": sum(self.gets[row] < self.wants[row] for row in self.leaves),
-                "starved": sum(self.gets[row] == 0 < self.wants[row] for row in self.leaves),
-                "throttled": sum(self.answer.figures.tights[1:])}
+def leaves(plan: Plan) -> list[Planned]:
+    """The groups without children, in which demands are."""
+    return [each for each in plan.groups[1:] if not each.children]
 
 
-def accepted(engine: Engine, host: Host, plan: SentPlan) -> Accepted:
-    """A plan of a worker, once the proved check accepted it here."""
-    if not all(isinstance(each, str) for each in plan.paths):
-        raise TypeError(plan.paths)
-    return Accepted(host, plan.paths, engine.accepted(
-        host, *unpacked(plan.data, len(plan.paths))), engine)
+def sums(plan: Plan) -> dict[str, int]:
+    return {"served": plan.root.gets, "wanted": plan.root.want,
+            "lacking": sum(each.gets < each.want for each in leaves(plan)),
+            "starved": sum(each.is_starved for each in leaves(plan)),
+            "throttled": sum(each.is_throttled for each in plan.groups)}
 
 
-def explained(_: Job, plans: Iterator[Accepted], told: dict[str, Any]) -> dict[str, Any]:
+def explained(_: Job, plans: Iterator[Plan], told: dict[str, Any]) -> dict[str, Any]:
     """What a host serves, which groups are worst off, and what limits the total."""
     plan = next(plans)
-    worst = sorted((plan.gets[row] - plan.wants[row], plan.paths[row], row)
-                   for row in plan.leaves if plan.gets[row] < plan.wants[row])[:MOST_NAMED]
-    limiting = [[plan.paths[row], plan.limit(row)] for row in plan.answer.limiting]
-    return {**plan.sums, "limits": len(limiting), "limiting": limiting[:MOST_NAMED],
-            "worst": [[path, plan.gets[row], plan.wants[row]] for _, path, row in worst],
+    worst = sorted((each.gets - each.want, each.path, each.row) for each in leaves(plan)
+                   if each.gets < each.want)[:MOST_NAMED]
+    limiting = [[each.path, each.limit] for each in plan.limiting]
+    return {**sums(plan), "limits": len(limiting), "limiting": limiting[:MOST_NAMED],
+            "worst": [[path, plan.groups[row].gets, plan.groups[row].want]
+                      for _, path, row in worst],
             "notes": int(told["notes"]), "refused": int(told["refused"])}
 
 
-def moved(before: Accepted, after: Accepted) -> list[tuple[int, str]]:
+def moved(before: Plan, after: Plan) -> list[tuple[int, str]]:
     """By how much the amount of each group without children rises, and its path.
 
     A pod whose class changes has another path, and its row stays.
     """
-    rows: Sequence[int] = range(len(before.paths))
-    if len(before.paths) != len(after.paths):
-        then = {path: row for row, path in enumerate(after.paths)}
-        rows = [then[path] for path in before.paths]
-    return [(after.gets[rows[row]] - before.gets[row], before.paths[row])
-            for row in before.leaves]
+    groups, by_path = after.groups, after.by_path()
+    if len(before.groups) != len(groups):
+        groups = [by_path[each.path] for each in before.groups]
+    return [(groups[each.row].gets - each.gets, each.path) for each in leaves(before)]
 
 
 def losses(rises: Sequence[tuple[int, str]], sign: int = -1) -> list[list[Any]]:
@@ -142,20 +99,20 @@ def losses(rises: Sequence[tuple[int, str]], sign: int = -1) -> list[list[Any]]:
     return [[path, -sign * rise] for rise, path in most]
 
 
-def compared(_: Job, plans: Iterator[Accepted], told: dict[str, Any]) -> dict[str, Any]:
+def compared(_: Job, plans: Iterator[Plan], told: dict[str, Any]) -> dict[str, Any]:
     """Who gains by a change and who loses."""
     before, after, paths = next(plans), next(plans), told["matched"]
     rises = moved(before, after)
     of_set = [rise for rise, path in rises
               if any(path == each or path.startswith(each + "/") for each in paths)]
-    return {"matched": len(paths), "before": before.sums, "after": after.sums,
+    return {"matched": len(paths), "before": sums(before), "after": sums(after),
             # How many groups have each change.
             "changes": sorted(Counter(rise for rise, _ in rises).items()),
             "changed_groups": sum(of_set), "others": sum(rise for rise, _ in rises) - sum(of_set),
             "gains": losses(rises, 1), "losses": losses(rises)}
 
 
-def placed(job: Job, plans: Iterator[Accepted], told: dict[str, Any]) -> dict[str, Any]:
+def placed(job: Job, plans: Iterator[Plan], told: dict[str, Any]) -> dict[str, Any]:
     """What each pod gets by itself beside what is there, and who loses."""
     before, pods = next(plans), list[dict[str, Any]]()
     for (name, _), pod in zip(job.pods, told["pods"], strict=True):
@@ -163,29 +120,29 @@ def placed(job: Job, plans: Iterator[Accepted], told: dict[str, Any]) -> dict[st
             pods.append({"pod": name, "why": str(pod["why"])})
             continue
         after, asking = next(plans), set(pod["asking"])
-        rows = [row for row in after.leaves if after.paths[row] in asking]
+        groups = [each for each in leaves(after) if each.path in asking]
         rises = moved(before, after)
         lost = [-rise for rise, _ in rises if rise < 0]
-        pods.append({"pod": name, "gets": sum(after.gets[row] for row in rows),
-                     "wants": sum(after.wants[row] for row in rows),
-                     "left": after.host.capacity - after.gets[0],
+        pods.append({"pod": name, "gets": sum(each.gets for each in groups),
+                     "wants": sum(each.want for each in groups),
+                     "left": after.capacity - after.root.gets,
                      "lost": sum(lost), "losing": len(lost),
                      "losers": [[path, -rise] for path, rise in losses(rises)]})
-    return {"before": before.sums, "pods": pods}
+    return {"before": sums(before), "pods": pods}
 
 
-def replayed(_: Job, plans: Iterator[Accepted], told: dict[str, Any]) -> dict[str, Any]:
+def replayed(_: Job, plans: Iterator[Plan], told: dict[str, Any]) -> dict[str, Any]:
     """The sums of each group over all samples."""
     samples, quotas = [], dict(zip(told["columns"], told["quotas"], strict=True))
     for counts in told["times"]:
         cells = {path: SampleCell() for path in told["columns"]}
         for times in counts:
             plan = next(plans)
-            counters = plan.engine.book(plan.host, plan.answer,
-                                        list(map(quotas.get, plan.paths))).counters
+            by_path = plan.by_path()
+            counters = plan.engine.book(plan.model.host, plan.answer,
+                                        [quotas.get(path) for path in by_path]).counters
             for path, cell in cells.items():
-                row = plan.paths.index(path)
-                cell.count(plan.answer, row, plan.limit(row), counters, times)
+                cell.count(by_path[path], counters, times)
         samples.append(cells)
     return {"samples": len(samples), "unknown": list(map(str, told["unknown"])),
             "groups_of_columns": [
@@ -193,7 +150,7 @@ def replayed(_: Job, plans: Iterator[Accepted], told: dict[str, Any]) -> dict[st
                 for path in told["columns"]]}
 
 
-ACTIONS: dict[str, Callable[[Job, Iterator[Accepted], dict[str, Any]], dict[str, Any]]] = {
+ACTIONS: dict[str, Callable[[Job, Iterator[Plan], dict[str, Any]], dict[str, Any]]] = {
     "explain": explained, "diff": compared, "place": placed, "replay": replayed}
 
 

@@ -1,4 +1,4 @@
-"""The hosts of a fleet: files of a folder or of a list, or the nodes of a cluster."""
+"""The hosts of a fleet: files of a folder, or the nodes of a cluster."""
 from __future__ import annotations
 
 import argparse
@@ -17,8 +17,6 @@ from arbiter_host.sources import kubernetes, pods
 from arbiter_host.sources.data import below as found_below, loads, table, text
 from arbiter_host.sources.usage import Used, some
 
-# A line of a script, by which it is no list.
-MADE = re.compile(rb"^[ \t]*mkdir[ \t]", re.M)
 NODE = re.compile(rb'"kind"\s*:\s*"Node"')
 # Files that a tree of cgroups has, and the folder of a fleet does not.
 TREE_FILES = frozenset({"cgroup.controllers", "cgroup.procs", "cpu.stat"})
@@ -113,35 +111,19 @@ def fleet_in(options: argparse.Namespace, files: Sequence[load.Opened],
     if data is None:
         paths = below(path)
         return Fleet(named(paths, path)) if paths else None
-    if options.kind in (None, "kubernetes") and not options.node:
-        items = items_of(path, data)
-        if items:
-            return of_cluster(path, items, used(), options.want)
-    return of_list(path, data) if options.kind is None else None
+    is_meant = options.kind in (None, "kubernetes") and not options.node
+    items = items_of(path, data) if is_meant else []
+    return of_cluster(path, items, used(), options.want) if items else None
 
 
 def of_one(files: Sequence[load.Opened]) -> Fleet:
     """The fleet of one host, which is one file."""
     (path, data), *more = files
     if more or data is None:
-        raise UsageFault("many hosts are a folder of their files, a list of these, or a cluster's"
-                         " JSON; one host is one file")
+        raise UsageFault("many hosts are a folder of their files, or a cluster's JSON; one host is"
+                         " one file")
     name = os.path.splitext(os.path.basename(path))[0]
     return Fleet([HostFile(names.shown(name), path, data)])
-
-
-def of_list(path: str, data: bytes) -> Fleet | None:
-    """The hosts of a list of files, one a line, relative to its folder: what is no other source,
-    and has a line that names a file."""
-    if load.kind_of(path, data) != "script" or path.endswith(".script") or MADE.search(data):
-        return None
-    folder = "" if path == "-" else os.path.dirname(path)
-    lines = [line.strip() for line in data.decode("utf-8", "surrogateescape").split("\n")]
-    paths = [os.path.join(folder, line) for line in lines if line and not line.startswith("#")]
-    if not any(map(os.path.lexists, paths)):
-        return None
-    return Fleet(named(paths, os.path.commonpath([os.path.abspath(os.path.dirname(each))
-                                                  for each in paths])))
 
 
 def of_cluster(word: str, items: Sequence[dict[str, Any]], used: Sequence[Used] = (),

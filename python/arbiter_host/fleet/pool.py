@@ -5,12 +5,12 @@ notices workers that die; whoever its scheduler lets in can run code in all that
 """
 from __future__ import annotations
 
+import ctypes
 import importlib
 import logging
 import multiprocessing
 import os
 import signal
-import threading
 import warnings
 from collections.abc import Generator, Iterable, Iterator
 from concurrent.futures import (FIRST_COMPLETED, Executor, Future, ProcessPoolExecutor,
@@ -18,7 +18,6 @@ from concurrent.futures import (FIRST_COMPLETED, Executor, Future, ProcessPoolEx
 from concurrent.futures.process import BrokenProcessPool
 from contextlib import contextmanager, suppress
 from itertools import chain
-from multiprocessing.connection import wait as wait_for
 from typing import Any
 
 from arbiter_host.faults import HostFault
@@ -37,6 +36,8 @@ ASK_SECONDS = 15.0
 # Seconds after which the end of a pool is late.
 LATE_SECONDS = 1.0
 GONE = "the scheduler went away"
+# PR_SET_PDEATHSIG of Linux.
+DEATH_SIGNAL = 1
 
 
 # The name of a host, and what a worker sent of it or why nothing came.
@@ -45,13 +46,7 @@ Replies = Generator[tuple[str, Sent | str], None, None]
 
 def begin_worker() -> None:
     """Ends this process when the one that began it is gone, whatever it works at."""
-    def wait_for_parent() -> None:
-        parent = multiprocessing.parent_process()
-        if parent is not None:
-            wait_for([parent.sentinel])
-        os._exit(1)
-
-    threading.Thread(target=wait_for_parent, daemon=True).start()
+    ctypes.CDLL(None).prctl(DEATH_SIGNAL, signal.SIGKILL)
 
 
 @contextmanager

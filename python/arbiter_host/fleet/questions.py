@@ -10,7 +10,7 @@ from typing import Any
 
 from arbiter_host import change, load, names, options as table, plain_files, progress
 from arbiter_host.faults import HostFault, NothingFound, UsageFault
-from arbiter_host.fleet import answers, hosts, pending, pool, report
+from arbiter_host.fleet import answers, hosts, pool, report
 from arbiter_host.fleet.answers import HostAnswer
 from arbiter_host.fleet.hosts import Fleet
 from arbiter_host.fleet.work import HostFile, Job
@@ -33,7 +33,7 @@ def fleet_in(options: argparse.Namespace) -> Fleet | None:
     An option that has no effect on a fleet is refused. Files are read once: `load` has them then.
     """
     files = load.opened(options, options.source)
-    options.kept = dict(files)
+    options.kept = (list(options.source), files)
     words = options.used if options.asked != "replay" else []
     fleet = hosts.fleet_in(options, files, lambda: used.entries(options) if words else [])
     if fleet is None:
@@ -50,13 +50,11 @@ def check_sets(words: Sequence[str]) -> None:
     """A fault where a change is none on any host."""
     for word in words:
         _, key, value = change.split(word)
-        try:
+        with change.naming(word):
             if change.is_owned(word):
                 change.check_value(word)
             else:
                 change.apply(Group("any"), key, value, False)
-        except HostFault as fault:
-            raise UsageFault(f"--set {names.shown(word)}: {fault.message}") from fault
 
 
 def job_of(options: argparse.Namespace, fleet: Fleet) -> Job:
@@ -126,26 +124,8 @@ def asked(options: argparse.Namespace, job: Job, fleet: Fleet,
     return [found[name] for name in sorted(found)], sorted(missing.items())
 
 
-def with_pending(options: argparse.Namespace, job: Job, fleet: Fleet,
-                 told: report.Report) -> report.Report:
-    """The report of a cluster's plan, with where its pods go that no node has yet."""
-    if options.asked != "explain" or not fleet.pending:
-        return told
-    pods = [(f"{each.title}.json", each.data) for each in fleet.shapes().values()]
-    placing, _ = asked(options, replace(job, action="place", pods=pods), fleet)
-    return pending.added(told, pending.placed(fleet, placing, options.rank), options.rank)
-
-
+# The forms of an answer of many hosts.
 FORMS = ("text", "json", "html")
-
-
-def outputs_of(options: argparse.Namespace) -> list[table.Output]:
-    """The forms and files that are asked for. A fault for a form that many hosts have not."""
-    outputs = table.outputs(options)
-    for form, _ in outputs:
-        if form not in FORMS:
-            raise UsageFault(f"-o {form}: of many hosts there is {', '.join(FORMS)}")
-    return outputs
 
 
 def answered(options: argparse.Namespace) -> bool:
@@ -158,11 +138,14 @@ def answered(options: argparse.Namespace) -> bool:
 
 def answer(options: argparse.Namespace, fleet: Fleet) -> None:
     """Asks each host of a fleet, and reports."""
-    outputs, job = outputs_of(options), job_of(options, fleet)
+    outputs, job = table.outputs(options, FORMS), job_of(options, fleet)
     samples = samples_of(options, fleet) if options.asked == "replay" else None
     answers, missing = asked(options, job, fleet, samples)
-    made = report.built(options.asked, answers, missing, options.rank)
-    told = with_pending(options, job, fleet, made)
+    told = report.built(options.asked, answers, missing, options.rank)
+    if options.asked == "explain" and fleet.pending:
+        pods = [(f"{each.title}.json", each.data) for each in fleet.shapes().values()]
+        placing, _ = asked(options, replace(job, action="place", pods=pods), fleet)
+        told = report.with_pending(told, fleet, placing, options.rank)
     write_forms(outputs, {"text": lambda: report.text(told, options.everything),
                           "json": lambda: json_text(told.data), "html": lambda: report.page(told)})
     check_answered(fleet, answers, missing)

@@ -1,17 +1,14 @@
 """The report of many hosts: what each question's answers come to, as lines, rows and data."""
 from __future__ import annotations
 
-import math
-from bisect import bisect_left
-from collections import Counter
 from collections.abc import Callable, Iterable, Mapping, Sequence
-from dataclasses import dataclass
+from dataclasses import dataclass, replace
 from fractions import Fraction
-from itertools import accumulate
 from typing import Any
 
 from arbiter_host import text as layout
 from arbiter_host.fleet.answers import HostAnswer
+from arbiter_host.fleet.hosts import Fleet
 from arbiter_host.html import rendered
 from arbiter_host.names import short, shown
 from arbiter_host.series import COUNTS
@@ -21,8 +18,9 @@ RULES = {
     "least-loss": "the least that others lose and the pod lacks, then the most CPU left",
     "most-left": "the most CPU left, then the least that others lose and the pod lacks",
 }
-# Percents of hosts or groups, and the names of the values that so many do not exceed.
-QUANTILES = {0: "least", 5: "5%", 25: "25%", 50: "median", 75: "75%", 95: "95%", 100: "greatest"}
+# The table of pods that no node has yet, and the amounts of an answer in it.
+PENDING = ["pod", "requests", "host", "gets", "wants", "others lose", "why"]
+AMOUNTS = ("gets", "wants", "lost")
 MOST_MOVED = 10
 # Rows of a table without `--all`.
 MOST_ROWS = 20
@@ -66,12 +64,11 @@ def amount_of(*keys: str) -> Cell:
 
 def table(title: str, hosts: Iterable[HostAnswer], columns: Columns) -> Table:
     """A table with a row for each host, in the order in which they are given."""
-    return Table(title, list(columns), [[cell(host) for cell in columns.values()]
-                                        for host in hosts])
+    return Table(title, ["host", *columns], [
+        [host.name, *(cell(host) for cell in columns.values())] for host in hosts])
 
 
 def cpu(value: Fraction) -> str:
-    """CPUs."""
     return f"{float(value):.2f}"
 
 
@@ -93,25 +90,6 @@ def total(hosts: Iterable[HostAnswer], *keys: str) -> Fraction:
     return sum((host.of(*keys) for host in hosts), Fraction(0))
 
 
-def quantiles(weighted: Iterable[tuple[Fraction, int]]) -> dict[str, Fraction]:
-    """The quantiles of values, each so many times, by their names. Empty of no value."""
-    counts: Counter[Fraction] = Counter()
-    for value, count in weighted:
-        counts[value] += count
-    ordered = sorted(counts)
-    ranks = list(accumulate(counts[value] for value in ordered))
-    return {name: ordered[bisect_left(ranks, max(math.ceil(Fraction(ranks[-1] * percent, 100)), 1))]
-            for percent, name in QUANTILES.items()} if ordered else {}
-
-
-def quantile_data(values: Mapping[str, Fraction]) -> dict[str, float]:
-    return {name: number(value) for name, value in values.items()}
-
-
-def quantile_words(values: Mapping[str, Fraction], places: int = 2) -> str:
-    return ", ".join(f"{name} {float(value):.{places}f}" for name, value in values.items())
-
-
 def group_words(groups: Sequence[Sequence[Any]], host: HostAnswer, none: str = "-") -> str:
     """The first groups of a list with their amounts."""
     return ", ".join(f"{'the host' if path == '.' else short(shown(path))}"
@@ -125,7 +103,6 @@ def lack(host: HostAnswer) -> Fraction:
 
 PLANNED = ("groups", "lacking", "starved", "throttled")
 PLAN_COLUMNS: Columns = {
-    "host": lambda host: host.name,
     "cpus": count_of("cpus"), "served": amount_of("served"), "wanted": amount_of("wanted"),
     "lack": lambda host: cpu(lack(host)),
     "use": lambda host: part(host.of("served"), host.of("capacity")),
@@ -139,18 +116,13 @@ def of_plan(hosts: Sequence[HostAnswer], _: str) -> Parts:
     """The report of `explain`: the hosts that lack most first."""
     amounts = {key: total(hosts, key) for key in ("served", "wanted", "capacity")}
     counts = {key: sum(host.answer[key] for host in hosts) for key in PLANNED}
-    use = quantiles((100 * host.of("served") / host.of("capacity"), 1) for host in hosts)
-    lacks = quantiles((lack(host), 1) for host in hosts)
     lines = [f"{cpu(amounts['served'])} of {cpu(amounts['capacity'])} CPUs served,"
              f" {cpu(amounts['wanted'])} wanted, groups: {counts['groups']};"
              " the proved check accepted each plan",
              f"groups without all that they want: {counts['lacking']}, of these starved:"
-             f" {counts['starved']}; throttled: {counts['throttled']}",
-             f"use of a host in percent: {quantile_words(use, 0)}",
-             f"lack of a host in CPUs: {quantile_words(lacks)}"]
+             f" {counts['starved']}; throttled: {counts['throttled']}"]
     ordered = sorted(hosts, key=lambda host: (-lack(host), host.name))
-    data: dict[str, Any] = {f"{key}_cpus": number(value) for key, value in amounts.items()}
-    data |= {**counts, "lack_cpus": quantile_data(lacks)}
+    data = {f"{key}_cpus": number(value) for key, value in amounts.items()} | counts
     return lines, [table("Hosts, the greatest lack first", ordered, PLAN_COLUMNS)], data
 
 
@@ -160,7 +132,6 @@ def lost(host: HostAnswer) -> Fraction:
 
 
 CHANGE_COLUMNS: Columns = {
-    "host": lambda host: host.name,
     "matched": count_of("matched"),
     "served": amount_of("before", "served"), "then": amount_of("after", "served"),
     "changed groups": lambda host: signed(host.of("changed_groups")),
@@ -187,22 +158,19 @@ def of_changes(hosts: Sequence[HostAnswer], _: str) -> Parts:
     changes = [(host.cpus(rise), count) for host in hosts
                for rise, count in host.answer["changes"]]
     gain, lose = (sum(count for rise, count in changes if sign * rise > 0) for sign in (1, -1))
-    among = quantiles((rise, count) for rise, count in changes if rise)
     with_group = sum(host.answer["matched"] > 0 for host in hosts)
     lines = [f"{cpu(before)} CPUs served before, {cpu(after)} after; the proved check accepted"
              " each plan",
              f"hosts with such a group: {with_group} of {len(hosts)}",
              f"groups that gain: {gain}, that lose: {lose}, of"
-             f" {sum(count for _, count in changes)} without children",
-             f"change of a group that gains or loses, in CPUs: {quantile_words(among)}"
-             if among else "no group gains or loses"]
+             f" {sum(count for _, count in changes)} without children"]
     tables = [Table("Groups that gain and lose most", ["host", "group", "change"],
                     [*moved(hosts, "gains"), *moved(hosts, "losses")]),
               table("Hosts, the greatest loss first",
                     sorted(hosts, key=lambda host: (-lost(host), host.name)), CHANGE_COLUMNS)]
     return lines, tables, {
         "before_cpus": number(before), "after_cpus": number(after), "gain": gain, "lose": lose,
-        "hosts_with_such_a_group": with_group, "change_cpus": quantile_data(among)}
+        "hosts_with_such_a_group": with_group}
 
 
 def ranked(hosts: Sequence[HostAnswer], place: int, rule: str) -> list[HostAnswer]:
@@ -219,8 +187,7 @@ def place_columns(place: int) -> Columns:
     def amount(key: str) -> Callable[[HostAnswer], str]:
         return lambda host: cpu(host.cpus(host.answer["pods"][place][key]))
 
-    return {"host": lambda host: host.name, "gets": amount("gets"), "wants": amount("wants"),
-            "others lose": amount("lost"),
+    return {"gets": amount("gets"), "wants": amount("wants"), "others lose": amount("lost"),
             "losing": lambda host: str(host.answer["pods"][place]["losing"]),
             "left": amount("left"),
             "lose most": lambda host: group_words(host.answer["pods"][place]["losers"], host)}
@@ -256,7 +223,6 @@ def count(host: HostAnswer, key: str) -> int:
 
 
 SERIES_COLUMNS: Columns = {
-    "host": lambda host: host.name,
     "samples": count_of("samples"),
     "wanted": lambda host: cpu(mean(host, "wanted")),
     "got": lambda host: cpu(mean(host, "got")),
@@ -299,6 +265,52 @@ def built(action: str, hosts: Sequence[HostAnswer], missing: Sequence[tuple[str,
             "fleet": sums, "hosts": [{"host": host.name, **host.answer} for host in hosts]}
     return Report(action, [first, *(lines if hosts else [])], tables if hosts else [],
                   list(missing), data)
+
+
+def pending(fleet: Fleet, hosts: Sequence[HostAnswer], rule: str) -> list[dict[str, Any]]:
+    """Each pod in order goes to the best host that has room for its request, or why it does not.
+
+    What a host gives is as if the pod came alone. Its request stays taken for those behind it.
+    """
+    room, rows = dict(fleet.room or {}), []
+    places = {shape: place for place, shape in enumerate(fleet.shapes())}
+    for pod in fleet.pending:
+        place = places[pod.shape]
+        order = ranked(hosts, place, rule)
+        best = next((host for host in order
+                     if room.get(host.name, pod.request) >= pod.request), None)
+        row: dict[str, Any] = {"pod": pod.title, "request_millicpu": pod.request,
+                               "host": best.name if best else None}
+        if best is None:
+            row["why"] = refusal(place, hosts, order)
+        else:
+            room[best.name] = room.get(best.name, pod.request) - pod.request
+            row |= {f"{key}_cpus": number(best.cpus(best.answer["pods"][place][key]))
+                    for key in AMOUNTS}
+        rows.append(row)
+    return rows
+
+
+def refusal(place: int, hosts: Sequence[HostAnswer], order: Sequence[HostAnswer]) -> str:
+    if not hosts:
+        return "no host is answered"
+    if order:
+        return f"pods before it take what {order[0].name} has left"
+    rest = f", and so {len(hosts) - 1} more" if len(hosts) > 1 else ""
+    return f"{hosts[0].name}: {hosts[0].answer['pods'][place]['why']}{rest}"
+
+
+def with_pending(to: Report, fleet: Fleet, hosts: Sequence[HostAnswer], rule: str) -> Report:
+    """A report with where the pods go that no node has yet."""
+    pods = pending(fleet, hosts, rule)
+    unplaced = sum(each["host"] is None for each in pods)
+    rows = [[each["pod"], f"{each['request_millicpu']}m", each["host"] or "unplaced",
+             *(f"{each[f'{key}_cpus']:.2f}" if each["host"] else "-" for key in AMOUNTS),
+             each.get("why", "-")] for each in pods]
+    line = (f"pods that no node has yet: {len(pods)}, unplaced: {unplaced}; by {rule}:"
+            f" {RULES[rule]}")
+    return replace(to, lines=[*to.lines, line], data={**to.data, "pending": pods}, tables=[
+        *to.tables, Table("Pods that no node has yet", PENDING, rows)])
 
 
 def table_lines(table_: Table, has_all: bool) -> list[str]:

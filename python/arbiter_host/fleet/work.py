@@ -1,12 +1,11 @@
-"""What a worker does: reads one host and plans it.
+"""What a worker does: reads one host.
 
-It sends the plans with their certificates, and what the file says beside them. What they come to is
-worked out where they are gathered, by `answers`.
+It sends the rows of its plans, and what the file says beside them. They are planned, and what they
+come to is worked out, where they are gathered, by `answers`.
 """
 from __future__ import annotations
 
 import functools
-import zlib
 from argparse import Namespace
 from array import array
 from collections import Counter
@@ -18,7 +17,8 @@ from arbiter import Columns, Host
 from arbiter_host import change, demands, load, names, series
 from arbiter_host.faults import HostFault
 from arbiter_host.model import Model
-from arbiter_host.plan import Engine, Plan, engine_of, plan
+from arbiter_host.plan import Engine, Plan, engine_of
+from arbiter_host.sources import by_options
 from arbiter_host.sources.samples import History
 
 
@@ -58,39 +58,36 @@ class HostFile:
     history: History | None = None
 
 
-class SentPlan(NamedTuple):
-    """A plan as it travels: the paths of its rows, `.` first, and `packed` rows with their
-    certificate."""
+class SentRows(NamedTuple):
+    """The rows of a plan as they travel: their paths, `.` first, and parents, weights, limits and
+    demands."""
 
     paths: list[str]
-    data: bytes
+    columns: tuple[array[int], ...]
 
 
 class Sent(NamedTuple):
-    """What a worker sends of a host: its plans, and what its file says beside them."""
+    """What a worker sends of a host: the rows of its plans, and what its file says beside them."""
 
     host: Host
-    plans: list[SentPlan]
+    plans: list[SentRows]
     told: dict[str, Any]
 
 
-Asked = tuple[list[SentPlan], dict[str, Any]]
+Asked = tuple[list[SentRows], dict[str, Any]]
 
 
-def packed(columns: Columns, amounts: Sequence[int], certificate: Sequence[array[int]]) -> bytes:
-    """Rows and their certificate: the bytes of each column, compressed."""
-    rows = (columns.parents, columns.weights, columns.limits, columns.demands)
-    return zlib.compress(b"".join(map(bytes, (*rows, array("Q", amounts), *certificate))), 1)
+def sent(model: Model, columns: Columns) -> SentRows:
+    return SentRows([".", *model.groups], (columns.parents, columns.weights, columns.limits,
+                                           columns.demands))
 
 
-def sent(made: Plan) -> SentPlan:
-    answer = made.answer
-    return SentPlan([".", *made.model.groups],
-                    packed(answer.columns, answer.amounts, answer.certificate))
+def rows(engine: Engine, *models: Model) -> list[SentRows]:
+    return [sent(each, Columns.of(each.rows(engine.library))) for each in models]
 
 
 def explained(_: Job, model: Model, engine: Engine) -> Asked:
-    return [sent(plan(engine, model))], {"notes": len(model.notes), "refused": len(model.refused)}
+    return rows(engine, model), {"notes": len(model.notes), "refused": len(model.refused)}
 
 
 def matched(model: Model, words: Sequence[str]) -> tuple[list[str], set[str]]:
@@ -108,8 +105,7 @@ def matched(model: Model, words: Sequence[str]) -> tuple[list[str], set[str]]:
 
 def compared(job: Job, model: Model, engine: Engine) -> Asked:
     words, paths = matched(model, job.sets)
-    models = (model, change.changed(model, words))
-    return [sent(plan(engine, each)) for each in models], {"matched": sorted(paths)}
+    return rows(engine, model, change.changed(model, words)), {"matched": sorted(paths)}
 
 
 def with_pod(model: Model, pod: Model) -> tuple[Model, list[str]]:
@@ -146,33 +142,33 @@ def pod_of(job: Job, name: str, data: bytes, model: Model, engine: Engine) -> Mo
 
 
 def placed(job: Job, model: Model, engine: Engine) -> Asked:
-    """The plan without a pod, and the plan with each by itself."""
-    plans, pods = [sent(plan(engine, model))], list[dict[str, Any]]()
+    """The rows without a pod, and those with each by itself."""
+    models, pods = [model], list[dict[str, Any]]()
     for name, data in job.pods:
         try:
             after, asking = with_pod(model, pod_of(job, name, data, model, engine))
-            plans.append(sent(plan(engine, after)))
+            models.append(after)
             pods.append({"pod": name, "asking": asking})
         except HostFault as fault:
             pods.append({"pod": name, "why": fault.message})
-    return plans, {"pods": pods}
+    return rows(engine, *models), {"pods": pods}
 
 
 def replayed(job: Job, model: Model, engine: Engine, history: History) -> Asked:
-    """The plans of all samples, and how many periods each holds for."""
+    """The rows of all samples, and how many periods each holds for."""
     missing: list[str] = []
     path_of = series.targets(model, history.columns, job.mapping,
                              missing if job.is_served else None)
     if not path_of or not history.samples:
         raise HostFault("no sample of a group of this host")
     periods = series.sample_periods(job.sample_usec, model.host.period_us)
-    plans, times = list[SentPlan](), []
+    plans, times = list[SentRows](), []
     for _, asked in history.demands(job.unit, model.host):
         series.set_demands(model, path_of, asked)
         counts: Counter[Plan] = Counter()
         for made, _, count in series.periods_of(engine, model, periods):
             counts[made] += count
-        plans += map(sent, counts)
+        plans += [sent(each.model, each.answer.columns) for each in counts]
         times.append(list(counts.values()))
     quotas = dict(zip([".", *model.groups], series.quotas_of(model, engine)))
     columns = list(path_of.values())
@@ -183,26 +179,28 @@ def replayed(job: Job, model: Model, engine: Engine, history: History) -> Asked:
 ACTIONS = {"explain": explained, "diff": compared, "place": placed}
 
 
-@functools.cache
-def engine_here(path: str | None) -> Engine:
-    """The engine over the library of a path, once for each process."""
-    return engine_of(path)
+# The engine over the library of a path, once for each process.
+engine_here = functools.cache(engine_of)
 
 
 def planned(job: Job, host: HostFile) -> Sent:
-    """The plans of one host, and what its file says beside them."""
-    engine = engine_here(job.library)
-    model = load.of_bytes(Namespace(**job.options), host.path, host.data or b"", engine)
+    """The rows of one host, and what its file says beside them."""
+    engine, options = engine_here(job.library), Namespace(**job.options)
+    model = load.of_bytes(options, host.path, host.data or b"", engine)
     if model.refused and not model.groups:
         raise HostFault(f"no host: {len(model.refused)} lines are none of a script, the first:"
                         f" {model.refused[0]}")
-    plans, told = (ACTIONS[job.action](job, model, engine) if host.history is None
-                   else replayed(job, model, engine, host.history))
+    if host.history is None:
+        plans, told = ACTIONS[job.action](job, model, engine)
+    else:
+        kind = options.kind or load.kind_of(host.path, host.data)
+        model = by_options.of_samples(options, kind, model, job.unit, job.sample_usec)
+        plans, told = replayed(job, model, engine, host.history)
     return Sent(model.host, plans, told)
 
 
 def answered(job: Job, host: HostFile) -> Sent | str:
-    """The plans of one host, or why there are none."""
+    """The rows of one host, or why there are none."""
     try:
         return planned(job, host)
     except HostFault as fault:

@@ -3,10 +3,12 @@ from __future__ import annotations
 
 import argparse
 from dataclasses import replace
+from fractions import Fraction
 
 from arbiter import Host
 from arbiter_host import looks, units
 from arbiter_host.faults import HostFault, UsageFault
+from arbiter_host.model import Model
 from arbiter_host.names import shown
 from arbiter_host.sources.wish import Wish
 
@@ -25,6 +27,19 @@ def of_host(options: argparse.Namespace) -> Wish:
                       else time_option(getattr(options, name), f"--{name}")
                       for name in ("period", "slice"))
     return Wish(options.cpus, period, slice_)
+
+
+def of_samples(options: argparse.Namespace, kind: str, model: Model, unit: str,
+               sample: int) -> Model:
+    """The model for samples of what was used: with slices as fine as can be, unless the source says
+    its period itself or the demands are counted in it."""
+    if kind in ("script", "toml", "json") or unit in ("slices", "us"):
+        return model
+    after = model.with_host(of_host(options).of_use(model.host, sample))
+    one = Fraction(1000 * after.host.slice_us, after.host.period_us)
+    if one > 1:
+        after.notes.append(f"a slice is {units.decimal(one)}m: each use is rounded up to it")
+    return after
 
 
 def machine(options: argparse.Namespace, want: str = "") -> Host:

@@ -52,5 +52,5 @@ def read(folders: Sequence[str], host: Host, times: Times = Times(), want: str =
     measured = {path: series.measured(path) for path in model.groups}
     demands.set_demands(model, measured, want, series.seconds)
     model.notes += [*own_notes(model, series), *slice_notes(model)]
-    model.owned = systemd.TreeSource(model.copy(), want=want)
+    model.owned = systemd.TreeSource(model.copy(), measured, seconds=series.seconds)
     return model

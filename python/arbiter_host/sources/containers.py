@@ -144,9 +144,10 @@ class ContainerSource(Measurable):
         measured = {path: Measured() for path in model.groups}
         measured |= {path: self.known.get(place, Measured()) for path, place in places.items()}
         demands.set_demands(model, measured, want, self.seconds)
-        demands.stop(model, [path for path, each in zip(paths, self.running)
-                             if below(each, "State", "Paused") is True
-                             or text(each, "State", "Status") == "paused"], "paused")
+        for state in ("Paused", "Restarting"):
+            demands.stop(model, [path for path, each in zip(paths, self.running)
+                                 if below(each, "State", state) is True
+                                 or text(each, "State", "Status") == state.lower()], state.lower())
         return model, places
 
     def add(self, model: Model, container: Inspected, taken: dict[str, set[str]]) -> str:
@@ -179,6 +180,13 @@ class ContainerSource(Measurable):
     def folders_by(self, driver: str) -> dict[Place, str]:
         return {(at, 0): "/".join(place_of(each, driver)) for at, each in enumerate(self.running)
                 if text(each, "Id")}
+
+    def owner(self, path: str) -> str:
+        """The service of compose of which it is one of several containers, else itself."""
+        labels = table(self.running[self.built[1][path][0]], "Config", "Labels")
+        project, service = (text(labels, f"com.docker.compose.{key}") for key in (
+            "project", "service"))
+        return f"service {project}/{service}" if project and service else path
 
     def places_of(self, entry: Used) -> Sequence[Place]:
         """The container of an identifier, else of a name."""

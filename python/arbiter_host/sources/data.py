@@ -9,6 +9,9 @@ from arbiter_host.faults import HostFault
 
 MAX_TEXT = 253
 MAX_BYTES = 128 << 20
+# Memory that the data of JSON may take, and about how much each letter of it stands for at most.
+MOST_MEMORY = 1 << 30
+COSTS = {b"[": 80, b"{": 240, b",": 64}
 
 
 def check_size(data: bytes, name: str, most: int = MAX_BYTES) -> None:
@@ -28,9 +31,19 @@ def decoded(data: bytes, name: str, most: int = MAX_BYTES, encoding: str = "utf-
         raise HostFault(f"{name}:{line}: not UTF-8") from error
 
 
+def check_memory(data: bytes, name: str) -> None:
+    """A fault where the data of JSON could take more memory than that."""
+    width = 1 if data.isascii() else 4
+    if len(data) * (1 + 2 * width) + sum(
+            cost * data.count(letter) for letter, cost in COSTS.items()) > MOST_MEMORY:
+        raise HostFault(f"{name}: too many values: to read them may take more than"
+                        f" {MOST_MEMORY >> 20} MiB of memory")
+
+
 def loads(data: bytes, name: str) -> Any:
     """The data of a JSON file; a fault names file and line."""
     words = decoded(data, name)
+    check_memory(data, name)
     try:
         return json.loads(words)
     except json.JSONDecodeError as error:

@@ -28,8 +28,8 @@ from arbiter_host.sources.data import decoded
 from arbiter_host.sources.register import is_json
 from arbiter_host.sources.wish import File, Wish, only
 
-# Most bytes of a host file.
-MAX_BYTES = 32 << 20
+# Most bytes of a host file. Tables of TOML take up to 130 times their text in memory.
+MAX_BYTES = 8 << 20
 # Most of the sum over the lines of TOML of the squares of their dots: a name of n parts takes n^2.
 MAX_DOTS = 10**9
 # Comments and texts of TOML, and texts of JSON; and what stands behind a text that is a name.

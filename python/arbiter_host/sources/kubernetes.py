@@ -8,6 +8,7 @@ from __future__ import annotations
 
 import functools
 import math
+import re
 from collections.abc import Iterable, Iterator, Mapping, Sequence
 from dataclasses import dataclass, replace
 from fractions import Fraction
@@ -17,16 +18,16 @@ from arbiter import Host, Library
 from arbiter_host import demands, names, search, units
 from arbiter_host.demands import Measured, Place
 from arbiter_host.faults import HostFault, NoHost
-from arbiter_host.model import Group, Model, check_count, checked
+from arbiter_host.model import NO_POD, Group, Model, PodNames, check_count, checked
 from arbiter_host.names import NOWHERE, shown
 from arbiter_host.owned import Amounts, Owned, Range, Setting
 from arbiter_host.sources.data import below, loads, table, text
 from arbiter_host.sources.measurable import Measurable
 from arbiter_host.sources.pods import (CLASSES, TOP, Container, NodeFacts, Pod, folder_at,
-                                       folder_of, names_of, node_facts, pod_of, requested,
-                                       scope_of, thousandths)
+                                       folder_of, names_by, names_of, node_facts, pod_of,
+                                       requested, scope_of, thousandths)
 from arbiter_host.sources.usage import Used, of_metrics
-from arbiter_host.sources.wish import File, Wish
+from arbiter_host.sources.wish import DRIVERS, File, Wish
 
 ENDED = ("Succeeded", "Failed")
 # Kinds that make pods of a template.
@@ -136,13 +137,13 @@ class PodBuilder:
         return units.weight_of_shares(self.source.library, shares, conversion)
 
     def add(self, parent: str, raw: str, weight: int, place: str, title: str = "",
-            limit: int | None = None) -> str:
+            limit: int | None = None, pod: PodNames = NO_POD) -> str:
         """Makes a child whose name no other has, and returns its path."""
         taken = self.taken.setdefault(parent, set())
         name = names.path_name(raw, taken)
         taken.add(name)
         return self.model.add(Group(names.joined(parent, name), weight, title=title, place=place,
-                                    quota=units.quota_of_thousandths(limit or 0))).path
+                                    quota=units.quota_of_thousandths(limit or 0), pod=pod)).path
 
     def classes(self) -> None:
         """Makes kubepods and its two classes."""
@@ -161,7 +162,7 @@ class PodBuilder:
         folder, wish = folder_of(pod, self.wish.driver), self.wish
         path = self.add(CLASSES[pod.quality], f"{pod.namespace}:{pod.name}",
                         self.weight(amounts.request, wish.kubelet), folder, pod.title,
-                        amounts.limit)
+                        amounts.limit, (pod.namespace, pod.name, ""))
         pause = self.add(path, "pause", 1, NOWHERE, f"{pod.title}/pause")
         self.measured[pause] = Measured(request=Fraction(0), tasks=0)
         for number, each in enumerate(pod.parts):
@@ -169,7 +170,7 @@ class PodBuilder:
                 given = pod.given(each)
                 made = self.add(path, each.name, self.weight(given.request, wish.runtime),
                                 scope_of(folder, each, wish.driver), f"{pod.title}/{each.name}",
-                                given.limit)
+                                given.limit, (pod.namespace, pod.name, each.name))
                 self.places[made] = (place, number)
                 self.measured[made] = replace(self.source.known.get((place, number), Measured()),
                                               request=Fraction(each.amounts.request or 0))
@@ -178,7 +179,7 @@ class PodBuilder:
         """Sets the demands. Pause containers and classes without a pod ask for nothing."""
         want, idle = self.wish.want, self.measured.keys() - self.places.keys()
         if want in demands.OF_USE:
-            if self.places and not self.source.known:
+            if self.places and not (self.source.known or self.source.elsewhere):
                 raise HostFault(f"--want {want}: what these pods used is not told (--used);"
                                 " they have request, limit and busy", 2)
             for path in idle:
@@ -282,7 +283,24 @@ class PodSource(Measurable):
 
     def owner(self, path: str) -> str:
         pod, number, _ = self.part(path)
-        return f"{pod.owner}/{pod.parts[number].name}" if pod.owner else path
+        return f"{pod.owner}/{pod.parts[number].name}" if pod.owner else self.title(path)
+
+    @functools.cached_property
+    def makers(self) -> dict[tuple[str, str], dict[str, re.Pattern[str]]]:
+        """The owners of containers, and the names of the pods that each makes, by the namespace and
+        the container."""
+        found: dict[tuple[str, str], dict[str, re.Pattern[str]]] = {}
+        for _, pod, container in self.every:
+            if pod.owner:
+                found.setdefault((pod.namespace, container.name), {}).setdefault(
+                    pod.owner, names_by(pod.owner))
+        return found
+
+    def makers_of(self, entry: Used) -> set[str]:
+        """The containers of owners that make pods of such a name."""
+        makers = self.makers.get((entry.namespace, entry.container), {})
+        return {f"{owner}/{entry.container}" for owner, shape in makers.items()
+                if shape.fullmatch(entry.pod)}
 
     def part(self, path: str) -> tuple[Pod, int, Amounts]:
         """The pod of a container, its number there, and its request and limit."""
@@ -383,6 +401,22 @@ class PodSource(Measurable):
                 told=(Fraction(each.amounts.request or 0),))
                 for (place, number), _, each in other.every}
         return replace(self, pods=(*self.pods, *other.pods), known=known)
+
+
+def names_at(files: Sequence[File]) -> dict[str, PodNames]:
+    """The names of the pods of some files, and of their containers, by their folders below the top
+    of a tree, whichever driver kubelet has."""
+    found: dict[str, PodNames] = {}
+    for item in (item for name, data in files for item in items_of(loads(data, name), name)):
+        if is_pod(item) and not has_ended(item):
+            pod = pod_of(item, [])
+            for driver in DRIVERS:
+                folder = folder_of(pod, driver)
+                found[folder] = (pod.namespace, pod.name, "")
+                found |= {scope_of(folder, each, driver): (pod.namespace, pod.name, each.name)
+                          for each in pod.parts}
+    found.pop(NOWHERE, None)
+    return found
 
 
 def requested_by(pods: Sequence[Pod]) -> int:

@@ -13,9 +13,12 @@ from arbiter_host.faults import HostFault
 from arbiter_host.model import Model
 from arbiter_host.owned import Owned
 from arbiter_host.sources.usage import Used, some
-from arbiter_host.sources.wish import Wish
+from arbiter_host.sources.wish import DRIVERS, Wish
 
 S = TypeVar("S", bound="Measurable")
+# What entries are of that name no container here.
+REPLICAS = "by the names of their pods replicas of these"
+OTHERS = "used by containers that are not here"
 
 
 @dataclass(frozen=True)
@@ -45,7 +48,7 @@ class Measurable(Owned):
 
     def folders(self) -> dict[Place, tuple[str, ...]]:
         """Where each container may be below the top of a tree. The wish's driver comes first."""
-        drivers = sorted(("systemd", "cgroupfs"), key=lambda each: each != self.wish.driver)
+        drivers = sorted(DRIVERS, key=lambda each: each != self.wish.driver)
         one, two = map(self.folders_by, drivers)
         return {place: (folder, two[place]) for place, folder in one.items()}
 
@@ -59,24 +62,46 @@ class Measurable(Owned):
     def on_host(self: S, host: Host) -> S:
         return replace(self, host=host)
 
+    def makers_of(self, _: Used) -> set[str]:
+        """What may have made a container that an entry names and that is not here."""
+        return set()
+
     def with_usage(self: S, entries: Sequence[Used], name: str) -> S:
         """The same with what others measured. What it has no container of is told."""
-        known, missing = dict[Place, Measured](), []
-        for entry in entries:
-            places = self.places_of(entry)
-            if len(places) != 1:
-                missing.append(entry.title + (f" ({len(places)} containers)" if places else ""))
-            elif places[0] in known:
-                raise HostFault(f"{name}: {entry.title}: two numbers for what one container used")
-            else:
-                known[places[0]] = Measured(told=entry.amounts, span=entry.span)
-        told = f"{name}: used by containers that are not here, {some(missing)}"
-        if not known:
-            raise HostFault(told)
-        return replace(self, known=known, notes=(*self.notes, *([told] if missing else [])))
+        (source,), notes = measured([self], entries, name)
+        return replace(source, notes=(*self.notes, *notes))
 
     def seen(self) -> dict[str, Use]:
         model, places = self.built
         uses = {path: use_of(model.groups[path], self.known.get(place, Measured()), model.host,
                              self.seconds) for path, place in places.items()}
         return {path: use for path, use in uses.items() if use is not None}
+
+
+def measured(sources: Sequence[S], entries: Sequence[Used],
+             name: str) -> tuple[list[S], list[str]]:
+    """Sources with what others measured of them, also of replicas that are gone or elsewhere, and
+    what is told of these and of all other entries."""
+    known: list[dict[Place, Measured]] = [{} for _ in sources]
+    replicas = list[tuple[str, Use]]()
+    told: dict[str, list[str]] = {REPLICAS: [], OTHERS: []}
+    for entry in entries:
+        places = [(at, place) for at, each in enumerate(sources)
+                  for place in each.places_of(entry)]
+        makers = set().union(*(each.makers_of(entry) for each in sources if not places))
+        if len(places) == 1:
+            at, place = places[0]
+            if place in known[at]:
+                raise HostFault(f"{name}: {entry.title}: two numbers for what one container used")
+            known[at][place] = Measured(told=entry.amounts, times=entry.times)
+        elif len(makers) == 1:
+            replicas.append((makers.pop(), Use(entry.amounts, times=entry.times)))
+            told[REPLICAS].append(entry.title)
+        else:
+            told[OTHERS].append(entry.title + (f" ({len(places)} containers)" if places else ""))
+    notes = [f"{name}: {what}, {some(titles)}" for what, titles in told.items() if titles]
+    if not any(known) and not replicas:
+        raise HostFault(notes[-1])
+    # (who proposes takes those elsewhere of all sources together)
+    return [replace(each, known=of_source, elsewhere=() if at else tuple(replicas))
+            for at, (each, of_source) in enumerate(zip(sources, known))], notes

@@ -25,6 +25,10 @@ TEMPLATED = ("Deployment", "StatefulSet", "DaemonSet", "ReplicaSet", "Replicatio
 CLASSES = {"Guaranteed": TOP, "Burstable": f"{TOP}/burstable", "BestEffort": f"{TOP}/besteffort"}
 # Names of kubelet's groups, by either of its drivers.
 KUBELET = re.compile(r"kubepods([-.].*)?")
+# What Kubernetes puts behind the name of an owner in that of a pod: a hash of the template, letters
+# at random, or a number.
+MADE = "[bcdfghjklmnpqrstvwxz2456789]"
+BEHIND = {"Deployment": f"-{MADE}{{1,10}}-{MADE}{{5}}", "StatefulSet": "-[0-9]{1,9}"}
 # The annotation by which the API server's copy of a static pod has kubelet's own identifier of it.
 MIRROR = "kubernetes.io/config.mirror"
 # What the runtimes put before an identifier in the name of a group.
@@ -88,6 +92,8 @@ class Pod:
     labels: tuple[tuple[str, str], ...] = ()
     # What makes it of a template: kind, namespace and name; empty for nothing.
     owner: str = ""
+    # Whether a file on its node says it, and the API server has a copy alone.
+    is_static: bool = False
 
     @property
     def title(self) -> str:
@@ -199,6 +205,18 @@ def amounts_of(resources: dict[str, Any], where: str, notes: list[str]) -> Amoun
     return Amounts(limit if request is None else request, limit)
 
 
+def asked_amounts(container: dict[str, Any], status: dict[str, Any], where: str,
+                  notes: list[str]) -> Amounts:
+    """Request and limit of a container. What its status says is set otherwise is told."""
+    asked, now = (amounts_of(table(each, "resources"), where, notes)
+                  for each in (container, status))
+    if now not in (asked, Amounts()):
+        words = ", ".join(f"{key} {value}m" for key, value in (
+            ("request", now.request), ("limit", now.limit)) if value is not None)
+        notes.append(f"{where}: its resize is not done: what is set now is {words}")
+    return asked
+
+
 def containers_of(pod: dict[str, Any], where: str, notes: list[str]) -> tuple[Container, ...]:
     """All containers of a pod: init containers first, in order. One that has ended is not begun
     again by the policy `Never`, nor by `OnFailure` after a success."""
@@ -217,9 +235,13 @@ def containers_of(pod: dict[str, Any], where: str, notes: list[str]) -> tuple[Co
                 policy == "Never" or policy == "OnFailure" and not has_failed)
             has_group = is_sidecar or not is_over and (not is_init or "running" in state)
             containers.append(Container(
-                name, amounts_of(table(each, "resources"), f"{where}/{name}", notes),
+                name, asked_amounts(each, known, f"{where}/{name}", notes),
                 identifier and SCOPES.get(runtime, "") + identifier, is_init, is_sidecar,
                 has_group))
+    passing = sum("running" in table(each, "state")
+                  for each in tables(pod, "status", "ephemeralContainerStatuses"))
+    if passing:
+        notes.append(f"{where}: ephemeral containers, left out: {passing}")
     return tuple(containers)
 
 
@@ -253,14 +275,23 @@ def is_limited(containers: Sequence[Container]) -> bool:
     return bool(containers)
 
 
-def memory_of(container: dict[str, Any], where: str) -> tuple[Fraction, Fraction]:
-    """The request and the limit of memory, as kubelet compares them. 0 is none; a limit without a
-    request is the request too."""
+def memory_of(container: dict[str, Any], where: str) -> Amounts:
+    """The request and the limit of memory in bytes. A limit without a request is the request too.
+    """
     with naming(where):
-        request, limit = (None if value is None else number_of(value, "memory") for value in (
-            below(container, "resources", key, "memory") for key in KEYS))
-    limit = limit or Fraction(0)
-    return limit if request is None else request, limit
+        request, limit = (None if value is None else math.ceil(number_of(value, "memory"))
+                          for value in (below(container, "resources", key, "memory")
+                                        for key in KEYS))
+    return Amounts(limit if request is None else request, limit)
+
+
+def whole_amounts(own: Amounts, is_requested: bool, parts: Sequence[Container]) -> Amounts:
+    """Amounts of a pod itself. A limit without a request is the request too, unless a container
+    requests some: then that is what its containers request."""
+    asks = any(each.amounts.request is not None for each in parts)
+    if is_requested or own.limit is None or not asks:
+        return own
+    return Amounts(requested(parts, "request"), own.limit)
 
 
 def names_of(pod: dict[str, Any]) -> tuple[str, str]:
@@ -274,16 +305,38 @@ def pairs_of(labels: dict[str, Any]) -> tuple[tuple[str, str], ...]:
     return tuple(sorted((key, text(labels, key)) for key in labels))
 
 
-def owner_of(metadata: dict[str, Any], namespace: str) -> str:
-    """What makes a pod of a template; empty for nothing. A ReplicaSet with the pod's hash behind
-    its name is its Deployment's."""
-    owner = next((each for each in tables(metadata, "ownerReferences")
+def controller_of(item: dict[str, Any]) -> tuple[str, str]:
+    """Kind and name of what controls an object; both empty where nothing does."""
+    owner = next((each for each in tables(item, "metadata", "ownerReferences")
                   if each.get("controller") is True), None)
-    kind, name = text(owner, "kind"), text(owner, "name")
-    mark = text(metadata, "labels", "pod-template-hash")
-    if kind == "ReplicaSet" and mark and name.endswith(f"-{mark}"):
+    return text(owner, "kind"), text(owner, "name")
+
+
+def owner_of(pod: dict[str, Any], items: Sequence[dict[str, Any]] = ()) -> tuple[str, str, str]:
+    """Kind, namespace and name of what makes a pod of a template, as far up as that may be changed;
+    empty for nothing. The Deployment of a ReplicaSet is told by its object among some, else by the
+    pod's hash behind its name."""
+    (kind, name), (namespace, _) = controller_of(pod), names_of(pod)
+    sets = [controller_of(each) for each in items if each.get("kind") == "ReplicaSet"
+            and names_of(each) == (namespace, name)]
+    mark = text(pod, "metadata", "labels", "pod-template-hash")
+    if kind == "ReplicaSet" and sets and sets[0][0] == "Deployment":
+        kind, name = sets[0]
+    elif kind == "ReplicaSet" and not sets and mark and name.endswith(f"-{mark}"):
         kind, name = "Deployment", name.removesuffix(f"-{mark}")
-    return f"{kind} {namespace}/{name}" if kind in TEMPLATED and name else ""
+    return (kind, namespace, name) if kind in TEMPLATED else ("", "", "")
+
+
+def owner_words(owner: tuple[str, str, str]) -> str:
+    """An owner for people; empty for none, or for one without a name."""
+    kind, namespace, name = owner
+    return f"{kind} {namespace}/{name}" if name else ""
+
+
+def names_by(owner: str) -> re.Pattern[str]:
+    """The names of the pods that an owner makes."""
+    kind, _, name = owner.partition(" ")
+    return re.compile(re.escape(name.partition("/")[2]) + BEHIND.get(kind, f"-{MADE}{{5}}"))
 
 
 def pod_of(pod: dict[str, Any], notes: list[str]) -> Pod:
@@ -291,23 +344,29 @@ def pod_of(pod: dict[str, Any], notes: list[str]) -> Pod:
     metadata, spec, (namespace, name) = table(pod, "metadata"), table(pod, "spec"), names_of(pod)
     where, told = f"{namespace}/{name}", text(pod, "status", "qosClass")
     is_whole = any({"cpu", "memory"} & table(spec, "resources", key).keys() for key in KEYS)
-    raw = [spec] if is_whole else tables(spec, "initContainers") + tables(spec, "containers")
-    memory = [memory_of(each, where) for each in raw]
+    parts, asked = containers_of(pod, where, notes), table(spec, "resources", "requests")
+    memory = [memory_of(each, where) for key in ("initContainers", "containers")
+              for each in tables(spec, key)]
+    own = whole_amounts(amounts_of(table(spec, "resources"), where, notes), "cpu" in asked, parts)
+    if is_whole:
+        memory = [whole_amounts(memory_of(spec, where), "memory" in asked, [
+            replace(part, amounts=each) for part, each in zip(parts, memory)])]
     return Pod(
         namespace, name,
         # The mirror of a static pod has an identifier that is not the one of its group.
         uid=text(metadata, "annotations", MIRROR) or text(metadata, "uid"),
-        parts=containers_of(pod, where, notes),
+        parts=parts,
         overhead=thousandths(below(spec, "overhead", "cpu"), where, notes) or 0,
-        own=amounts_of(table(spec, "resources"), where, notes), is_whole=is_whole,
+        own=own, is_whole=is_whole,
         told=told if told in CLASSES else "",
-        asks_memory=any(map(any, memory)),
-        is_memory_equal=all(limit and request == limit for request, limit in memory),
+        asks_memory=any(each.request or each.limit for each in memory),
+        is_memory_equal=all(each.limit and each.request == each.limit for each in memory),
         selector=pairs_of(table(spec, "nodeSelector")),
         tolerations=tuple(Toleration(
             text(each, "key"), None if text(each, "operator") == "Exists" else text(each, "value"),
             text(each, "effect")) for each in tables(spec, "tolerations")),
-        labels=pairs_of(table(metadata, "labels")), owner=owner_of(metadata, namespace))
+        labels=pairs_of(table(metadata, "labels")), owner=owner_words(owner_of(pod)),
+        is_static=bool(text(metadata, "annotations", MIRROR)))
 
 
 def node_facts(node: dict[str, Any] | None) -> NodeFacts:

@@ -18,6 +18,7 @@ from typing import Any, NamedTuple, TypeVar
 from arbiter_host import units
 from arbiter_host.faults import HostFault, UsageFault, naming
 from arbiter_host.names import cut, shown
+from arbiter_host.sources.data import check_memory
 from arbiter_host.sources.samples import EMPTY, TABLE, History, Sample, time_name
 
 Found = TypeVar("Found")
@@ -32,6 +33,8 @@ LEAVES = ('container!="",container!="POD"', 'container="",name!=""',
           'container="",name="",id=~".*[.](service|scope)"')
 # Seconds of the rate at least: the time of some readings of cAdvisor.
 LEAST_RATE = 120
+# Samples of a series where no step is said. A server gives 11,000 at most.
+MOST_SAMPLES = 5000
 # Labels that tell the parts of one container's use apart.
 PARTS = frozenset({"cpu", "image", "name", "uid", "container_id"})
 # Labels that change where a container is made anew, maybe on another node.
@@ -67,7 +70,9 @@ def exchanged(url: str) -> Any:
     try:
         with urllib.request.build_opener(Redirects).open(url, timeout=SECONDS) as answer, (
                 naming(shown(answer.url))):
-            return json.loads(body_of(answer))
+            body = body_of(answer)
+            check_memory(body, "its answer")
+            return json.loads(body)
     except (OSError, http.client.HTTPException, ValueError, RecursionError) as error:
         cause = error.reason if isinstance(error, urllib.error.URLError) else error
         told = str(cause)[:400] or type(error).__name__
@@ -125,14 +130,17 @@ def moment(text: str) -> str:
     return text
 
 
-def range_of(word: str | None, step: str | None) -> QueryRange:
-    """The range of `--range` and `--step`: a time up to now (default 1d), or START/END."""
+def range_of(word: str | None, step: str | None, default: str = "1d") -> QueryRange:
+    """The range of `--range` and `--step`: a time up to now, or START/END. The step is a minute
+    where that is not said, or as many as leave so many samples of a time."""
     try:
         seconds = units.parse_time(step or "1m") / 10**6
-        start, mark, end = (word or "1d").partition("/")
+        start, mark, end = (word or default).partition("/")
         if mark:
             return QueryRange(moment(start), moment(end), seconds)
         back = units.parse_time(start) / 10**6
+        if not step:
+            seconds *= math.ceil(back / (seconds * MOST_SAMPLES))
     except UsageFault:
         raise
     except HostFault as fault:

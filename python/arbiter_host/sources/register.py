@@ -72,15 +72,18 @@ READERS = {
         " AllocCPUS, Elapsed, TotalCPU, NodeList.", part_of_jobs),
     "docker": SourceKind(
         "containers", lambda _, data: is_json(data) and b'"HostConfig"' in data,
-        "What `docker inspect` or `podman inspect` prints.", is_measured=True, is_here=True),
+        "What `docker inspect` or `podman inspect` prints. docker:// and podman:// ask what runs"
+        " here.", is_measured=True, is_here=True),
     "kubernetes": SourceKind(
         "kubernetes", lambda _, data: is_json(data) and bool(OBJECTS.search(data)),
-        "What `kubectl get pods -o json` prints, and a node's JSON beside it.",
+        "What `kubectl get pods -o json` prints, and a node's JSON beside it. k8s://[CONTEXT] asks"
+        " the API server by `kubectl get --raw`, with --node for one node alone.",
         lambda data: "node" if set(PARTS.findall(data)) == {b"Node"} else "pods", True),
     "json": SourceKind("hostfile", lambda _, data: is_json(data), "The same in JSON."),
     "systemd": SourceKind(
         "systemd", lambda _, data: bool(UNITS.search(data)),
-        "What `systemctl show '*.slice' '*.service' '*.scope'` prints.", is_here=True),
+        "What `systemctl show '*.slice' '*.service' '*.scope'` prints. systemd:// asks this"
+        " machine, twice where use is asked for (--read).", is_here=True),
     "cgroup": SourceKind("cgroups", lambda _, __: False,
                          "A tree of cgroup v2, such as /sys/fs/cgroup, or a copy of its files.",
                          is_here=True),

@@ -27,6 +27,8 @@ TABLE = {"time": TIMES, "host": ("host", "node", "instance"),
 # Epochs above this are milliseconds.
 MILLISECONDS = 10**11
 NUMBER = re.compile(r"[+-]?[0-9.]")
+# A number in which a comma may be of thousands or of decimals.
+GROUPED = re.compile(r"[+-]?[0-9]+,[0-9]+\s*\w*")
 
 
 class Sample(NamedTuple):
@@ -131,6 +133,10 @@ def rows_of(data: bytes, name: str) -> tuple[list[str], list[tuple[str, list[str
         raise HostFault(f"{name}:{reader.line_num + begin}: {error}") from error
     for where, row in rows[1:]:
         cells_of(row, rows[0][1], where)
+        grouped = next(filter(GROUPED.fullmatch, row if delimiter == "," else ()), None)
+        if grouped:
+            raise HostFault(f"{where}: {shown(cut(grouped, 40))!r}: a comma in a number of a file"
+                            " whose cells a comma separates")
     return (rows[0][1], rows[1:]) if rows else ([], [])
 
 

@@ -31,7 +31,8 @@ from arbiter_host.sources.wish import File, Wish
 JOB = re.compile(r"job_[0-9]+")
 # The folder of all jobs with cgroup v2.
 TOP = "system.slice/slurmstepd.scope"
-RUNNING = ("RUNNING", "COMPLETING", "SUSPENDED")
+# The states of jobs that have tasks: those that run, and those whose tasks cannot.
+ACTIVE, FROZEN = ("RUNNING", "COMPLETING", "SIGNALING"), ("SUSPENDED", "STOPPED")
 # A cell of what sstat says a step has used, such as `cpu=00:00:07,energy=0`.
 CPU_USED = re.compile(r"(?:.*,)?cpu=([0-9:.-]{1,40})(?:,.*)?")
 IDENTIFIER = re.compile(r"([0-9]{1,10}(?:_[0-9]{1,10})?(?:\+[0-9]{1,10})?)"
@@ -169,7 +170,7 @@ def job_of(raw: dict[str, Any], node: str) -> SlurmJob:
     """A job of `squeue --json` or `scontrol show job --json`."""
     job = SlurmJob(str(number(raw, "job_id")), text(raw, "user_name"), text(raw, "name"),
                    nodes=hosts_of(text(raw, "nodes")), alias=alias_of(raw),
-                   is_suspended=not states_of(raw) & set(RUNNING[:2]))
+                   is_suspended=not states_of(raw) & set(ACTIVE))
     told = allotted(raw)
     here = [(cpus, cores) for name, cpus, cores in told if name == node or len(told) == 1]
     job.whole.cpus, job.has_cores = here[0] if here else (
@@ -211,7 +212,8 @@ def take_row(row: dict[str, str], jobs: dict[str, SlurmJob], aliases: Mapping[st
     match = IDENTIFIER.fullmatch(word)
     if not match:
         raise HostFault(f"{shown(word[:40])!r} is no JobID")
-    if row.get("State", "RUNNING").split(" ")[0] not in RUNNING:
+    state = row.get("State", "RUNNING").split(" ")[0]
+    if state not in (*ACTIVE, *FROZEN):
         return False
     name = aliases.get(match[1], match[1])
     job = jobs.setdefault(name, SlurmJob(name, is_raw=name.isdigit()))
@@ -221,21 +223,21 @@ def take_row(row: dict[str, str], jobs: dict[str, SlurmJob], aliases: Mapping[st
     if match[2]:
         job.steps[match[2]] = step
         return True
-    job.is_suspended = job.is_suspended or row.get("State", "").startswith(RUNNING[2])
+    job.is_suspended = job.is_suspended or state in FROZEN
     job.user, job.name = row.get("User") or job.user, row.get("JobName") or job.name
     job.nodes = job.nodes or nodes
     job.whole = JobStep(job.whole.cpus or step.cpus, step.used, step.passed)
     return True
 
 
-def take_used(row: dict[str, str], jobs: Mapping[str, SlurmJob]) -> None:
+def take_used(row: dict[str, str], jobs: Mapping[str, SlurmJob]) -> bool:
     """Takes what a row of sstat says that a step which runs has used: in all, or on average by each
-    of its tasks. Some rows do not say it."""
+    of its tasks. Some rows do not say it. Returns whether the step is here."""
     match = IDENTIFIER.fullmatch(row.get("JobID", ""))
     job = jobs.get(match[1]) if match else None
     step = job.steps.get(match[2] or "") if match and job else None
     if step is None:
-        return
+        return False
     cell, average = CPU_USED.fullmatch(row.get(USED, "")), row.get(AVERAGE)
     tasks = units.whole(row.get("NTasks", ""), 30)
     if cell:
@@ -244,14 +246,16 @@ def take_used(row: dict[str, str], jobs: Mapping[str, SlurmJob]) -> None:
         raise HostFault(f"{AVERAGE} is of one task: print NTasks beside it, or {USED}")
     elif average and tasks is not None:
         step.used = time_of(average) * tasks // max(len(step.nodes), 1)
+    return True
 
 
-def jobs_of(files: Mapping[str, list[File]], node: str) -> tuple[dict[str, SlurmJob], int]:
-    """The jobs of files by their parts, and how many jobs and steps do not run."""
+def jobs_of(files: Mapping[str, list[File]], node: str) -> tuple[dict[str, SlurmJob], int, int]:
+    """The jobs of files by their parts, how many jobs and steps do not run, and how many rows of
+    sstat are of no step here."""
     raw = [each for name, data in files["jobs"] for each in tables(loads(data, name), "jobs")]
-    jobs, left = {}, 0
+    jobs, left, others = {}, 0, 0
     for each in raw:
-        if states_of(each) & set(RUNNING):
+        if states_of(each) & {*ACTIVE, *FROZEN}:
             job = job_of(each, node)
             jobs[job.identifier] = job
         else:
@@ -265,8 +269,8 @@ def jobs_of(files: Mapping[str, list[File]], node: str) -> tuple[dict[str, Slurm
     for name, data in files["sstat"]:
         for where, row in rows_of(data, name):
             with naming(where):
-                take_used(row, named)
-    return jobs, left
+                others += not take_used(row, named)
+    return jobs, left, others
 
 
 def node_of(nodes: Sequence[dict[str, Any]], jobs: Iterable[SlurmJob]) -> str:
@@ -312,10 +316,11 @@ def steps_of(job: SlurmJob, model: Model) -> Iterator[tuple[Group, JobStep]]:
                replace(step, cpus=step.cpus or job.whole.cpus))
 
 
-def tell(model: Model, jobs: Sequence[SlurmJob], left: int) -> None:
+def tell(model: Model, jobs: Sequence[SlurmJob], left: int, others: int) -> None:
     """Tells what is left out, and which jobs were allotted cores of their own."""
-    if left:
-        model.notes.append(f"jobs and steps that do not run, left out: {left}")
+    for what, many in (("jobs and steps that do not run", left),
+                       ("rows of sstat of no step here", others)):
+        model.notes += [f"{what}, left out: {many}"] if many else []
     for titles, what, why in (
             ([each.title for each in jobs if each.has_cores], "allotted cores of their own",
              "where Slurm binds tasks to them (TaskPlugin), what others leave idle does not reach a"
@@ -361,7 +366,7 @@ def read(files: Sequence[File], _: Library, wish: Wish) -> Model:
     check_parts(files[0][0], parts)
     nodes = [each for name, data in parts["nodes"] for each in tables(loads(data, name), "nodes")]
     node = wish.node or (text(nodes[0], "name") if len(nodes) == 1 else "")
-    jobs, left = jobs_of(parts, node)
+    jobs, left, others = jobs_of(parts, node)
     name = node or node_of(nodes, jobs.values())
     told = Host() if wish.cpus is not None else host_of(nodes, name)
     want = wish.want or ("usage" if parts["sacct"] else "request")
@@ -376,7 +381,7 @@ def read(files: Sequence[File], _: Library, wish: Wish) -> Model:
         made = [(model.add(group).path, step) for group, step in steps_of(job, model)]
         measured |= {path: step.measured for path, step in made}
         suspended += [path for path, _ in made[1:] or made] if job.is_suspended else []
-    tell(model, here, left)
+    tell(model, here, left, others)
     if want not in ("usage", "request", "busy"):
         raise HostFault(f"--want {want} needs readings: jobs have usage, request and busy", 2)
     demands.set_demands(model, measured, want, Fraction(1))

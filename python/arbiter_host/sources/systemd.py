@@ -13,7 +13,7 @@ from fractions import Fraction
 
 from arbiter import Host, Library
 from arbiter_host import demands, names, units
-from arbiter_host.demands import Measured, Reading, Use
+from arbiter_host.demands import Measured, Reading, Use, use_of
 from arbiter_host.faults import HostFault
 from arbiter_host.model import MAX_DEPTH, Group, Model, bound_notes, check_settings, checked
 from arbiter_host.names import shown
@@ -154,19 +154,21 @@ class Units(Owned):
     """Units of systemd, as it prints them or in a tree of cgroups. `CPUWeight=` and `CPUQuota=` of
     them can be changed."""
 
-    # What the demands were taken from.
-    want: str = field(default="usage", kw_only=True)
-
     noun, keys = "unit", ("CPUWeight", "CPUQuota")
+    # Seconds from one reading to the next.
+    seconds: Fraction = field(default=Fraction(1), kw_only=True)
+
+    def counters(self) -> Mapping[str, Measured]:
+        """What was read of each group."""
+        raise NotImplementedError
 
     def seen(self) -> dict[str, Use]:
-        """The demand of each unit without groups below it, where that is what it used."""
-        if self.want not in demands.OF_USE:
-            return {}
-        model = self.model()
+        """The use of each unit without groups below it that used something."""
+        model = self.plain
         below = model.children()
-        return {path: Use((group.demand,)) for path, group in model.groups.items()
-                if group.demand and not below[path] and self.has(path)}
+        uses = {path: use_of(model.groups[path], each, model.host, self.seconds)
+                for path, each in self.counters().items() if self.has(path) and not below[path]}
+        return {path: use for path, use in uses.items() if use and any(use.values)}
 
     def ranges(self, path: str) -> list[Range]:
         group, most = self.plain.groups[path], 10000 * self.plain.host.processors
@@ -193,28 +195,32 @@ class UnitSource(Units):
     """Units as they were printed."""
 
     host: Host
-    seconds: Fraction
+    # What the demands are taken from.
+    want: str
     # The properties of each unit by its path, and those of each reading.
     properties: Mapping[str, Properties]
     readings: tuple[Mapping[str, Properties], ...]
     has_left_out: bool = False
 
+    def counters(self) -> dict[str, Measured]:
+        found = {}
+        for path, unit in self.properties.items():
+            used = [whole(each.get(path, {}).get("CPUUsageNSec", "")) for each in self.readings]
+            found[path] = Measured([Reading(None if each is None else each // 1000)
+                                    for each in used], tasks=whole(unit.get("TasksCurrent", "")))
+        return found
+
     @functools.cached_property
     def plain(self) -> Model:
-        model, measured = Model(checked(self.host)), {}
+        model = Model(checked(self.host))
         # Each stands after those above it, siblings by name.
         for path in sorted(self.properties, key=lambda path: path.split("/")):
-            unit = self.properties[path]
-            add(model, unit, path)
-            used = [whole(each.get(path, {}).get("CPUUsageNSec", "")) for each in self.readings]
-            measured[path] = Measured([Reading(None if each is None else each // 1000)
-                                       for each in used],
-                                      tasks=whole(unit.get("TasksCurrent", "")))
+            add(model, self.properties[path], path)
         if self.has_left_out:
             model.notes.append("units without a group are left out")
         model.notes += bound_notes([path for path in model.groups
                                     if self.properties.get(path, {}).get("AllowedCPUs")])
-        demands.set_demands(model, measured, self.want, self.seconds)
+        demands.set_demands(model, self.counters(), self.want, self.seconds)
         return model
 
     def has(self, path: str) -> bool:
@@ -242,7 +248,11 @@ class TreeSource(Units):
     are units is said by their paths, as systemd places units."""
 
     tree: Model
+    measured: Mapping[str, Measured]
     settings_since: tuple[Setting, ...] = ()
+
+    def counters(self) -> Mapping[str, Measured]:
+        return self.measured
 
     @functools.cached_property
     def plain(self) -> Model:
@@ -283,5 +293,5 @@ def read(files: Sequence[File], _: Library, wish: Wish) -> Model:
     properties = {path: unit for path, unit in readings[0].items()
                   if path not in ("", ".") and path.count("/") < MAX_DEPTH}
     wish = replace(wish, want=wish.want or ("usage" if len(files) > 1 else "busy"))
-    return UnitSource(wish.machine(), wish.seconds, properties, tuple(readings), "" in readings[0],
-                      want=wish.want).model()
+    return UnitSource(wish.machine(), wish.want, properties, tuple(readings), "" in readings[0],
+                      seconds=wish.seconds).model()

@@ -17,9 +17,11 @@ from fractions import Fraction
 from typing import Any, NamedTuple
 
 from arbiter_host import units
+from arbiter_host.demands import Times
 from arbiter_host.faults import HostFault, naming
 from arbiter_host.names import cut, few, shown
-from arbiter_host.sources.data import MAX_TEXT, below, cells_of, check_size, loads, tables, text
+from arbiter_host.sources.data import (MAX_TEXT, below, cells_of, check_memory, check_size, loads,
+                                       tables, text)
 from arbiter_host.sources.pods import quantity
 from arbiter_host.sources.register import BLANK
 
@@ -46,8 +48,8 @@ class Used(NamedTuple):
     pod: str = ""
     container: str = ""
     identifier: str = ""
-    # Seconds from the first amount to the last; None where that is not told.
-    span: Fraction | None = None
+    # When the first and the last amount was used; None where that is not told.
+    times: Times | None = None
 
     @property
     def word(self) -> str:
@@ -152,6 +154,7 @@ def of_lines(data: bytes, name: str) -> Iterator[Any]:
 
 def of_json(data: bytes, name: str) -> Iterator[Used]:
     """The entries of JSON."""
+    check_memory(data, name)
     values = list(of_lines(data, name)) if b'"CPUPerc"' in data else [loads(data, name)]
     first = values[0] if len(values) == 1 else None
     if text(first, "kind") == "PodMetricsList" or isinstance(below(first, "items"), list):

@@ -11,7 +11,7 @@ import os
 from collections.abc import Callable, Sequence
 from contextlib import suppress
 from dataclasses import replace
-from datetime import datetime
+from datetime import datetime, timezone
 from fractions import Fraction
 
 from arbiter_host import demands, looks, options as table, plain_files, units
@@ -64,14 +64,18 @@ def check_input(options: argparse.Namespace) -> None:
 
 
 def bytes_of(options: argparse.Namespace, word: str) -> bytes:
-    """The bytes of a file of `--used`."""
+    """The bytes of a file of `--used`, or what a service tells."""
     check_input(options)
+    if table.SERVICE.match(word):
+        from arbiter_host.sources.services import RunningService
+        return RunningService(word).used()
     return plain_files.standard_input() if word == "-" else plain_files.file_bytes(word)
 
 
 def asked_range(options: argparse.Namespace) -> prometheus.QueryRange:
-    """The range that is asked of a server."""
-    return prometheus.range_of(options.range, options.step)
+    """The range that is asked of a server: of what is proposed by as much as most have."""
+    return prometheus.range_of(options.range, options.step,
+                               "14d" if options.asked == "recommend" else "1d")
 
 
 def metrics_of(options: argparse.Namespace, word: str) -> list[prometheus.Metric]:
@@ -142,15 +146,17 @@ def entries(options: argparse.Namespace) -> list[Used]:
         namespace, pod, container = (column.split("/") if column.count("/") == 2
                                      else ("", "", column))
         found.append(Used(tuple(demand for _, demand in each), namespace, pod, container,
-                          span=span(each[0][0], each[-1][0])))
+                          times=times_of([name for name, _ in each])))
     return found
 
 
-def span(first: str, last: str) -> Fraction | None:
-    """Seconds from one sample to another, by their names; None where these are no times."""
-    with suppress(ValueError, TypeError):
-        since = datetime.fromisoformat(last) - datetime.fromisoformat(first)
-        return Fraction(abs(since.total_seconds()))
+def times_of(samples: Sequence[str]) -> demands.Times | None:
+    """The first and the last second of samples, by their names; None where these are no times."""
+    with suppress(ValueError, OverflowError):
+        times = [datetime.fromisoformat(each) for each in (samples[0], samples[-1])]
+        one, two = (Fraction(each.replace(tzinfo=each.tzinfo or timezone.utc).timestamp())
+                    for each in times)
+        return min(one, two), max(one, two)
     return None
 
 

@@ -16,6 +16,8 @@ if TYPE_CHECKING:
     from arbiter_host.owned import Owned
     from arbiter_host.sources.measurable import Measurable
 
+# How kubelet and runtimes name groups.
+DRIVERS = ("systemd", "cgroupfs")
 # A file: its name as it is shown, and its bytes.
 File = tuple[str, bytes]
 
@@ -55,9 +57,10 @@ class Wish:
                             told.slice_us if self.slice is None else self.slice))
         return self.of_use(host) if self.want in demands.OF_USE else host
 
-    def of_use(self, host: Host) -> Host:
-        """A host for measured use: with slices as fine as can be, unless others are asked for."""
-        return fine(host) if self.period is self.slice is None else host
+    def of_use(self, host: Host, sample: int = 0) -> Host:
+        """A host for use in samples of so many microseconds (0: of any time): with slices as fine
+        as can be, unless others are asked for."""
+        return fine(host, sample) if self.period is self.slice is None else host
 
     def machine(self) -> Host:
         """This machine with slices of 1 ms, with what is asked for in its place."""

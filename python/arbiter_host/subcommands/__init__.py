@@ -1,47 +1,65 @@
 """The subcommands of arbiterctl, each in a module that is imported when it is asked for.
 
-A new one is a module, its texts in templates and a line here.
+A new one is a module with `run`, its texts in templates and a line here.
 """
 from __future__ import annotations
 
+import argparse
 import importlib
-from typing import TYPE_CHECKING, NamedTuple
+import tomllib
+from collections.abc import Callable
+from pathlib import Path
+from typing import Any, NamedTuple
 
-if TYPE_CHECKING:
-    from arbiter_host.subcommands.base import Subcommand
+from arbiter_host import options as table
 
-
-class Listing(NamedTuple):
-    """Where a subcommand is: its module here, its name there, and one line for the list of all."""
-
-    module: str
-    name: str
-    summary: str
-
-
-PLACES = {
-    "explain": Listing("explain", "EXPLAIN", "why each group gets what it gets"),
-    "diff": Listing("diff", "DIFF", "what a change does, or what differs between two plans"),
-    "tune": Listing("tune", "TUNE", "settings with which groups get their goals at once"),
-    "recommend": Listing("recommend", "RECOMMEND", "propose requests and limits by what was used"),
-    "replay": Listing("replay", "REPLAY", "plan many samples of what was used"),
-    "top": Listing("top", "TOP", "plan a host again and again: live, alerts, metrics"),
-    "export": Listing("export", "EXPORT", "write what a source holds as a script or a host file"),
-    "audit": Listing("audit", "AUDIT", "the plan beside what groups used: how far off, and why"),
-    "place": Listing("place", "PLACE", "where a pod would go among many hosts"),
-    "apply": Listing("apply", "APPLY", "set weights and limits on a host; prints without --yes"),
-    "undo": Listing("apply", "UNDO", "bring the settings before `apply` back"),
-    "hold": Listing("hold", "HOLD", "hold the plan on a host by limits of each round"),
+# One line for the list of all.
+SUMMARIES = {
+    "explain": "why each group gets what it gets",
+    "diff": "what a change does, or what differs between two plans",
+    "tune": "settings with which groups get their goals at once",
+    "recommend": "propose requests and limits by what was used",
+    "replay": "plan many samples of what was used",
+    "top": "plan a host again and again: live, alerts, metrics",
+    "export": "write what a source holds as a script or a host file",
+    "audit": "the plan beside what groups used: how far off, and why",
+    "place": "where a pod would go among many hosts",
+    "apply": "set weights and limits on a host; prints without --yes",
+    "undo": "bring the settings before `apply` back",
+    "hold": "hold the plan on a host by limits of each round",
 }
+TEXTS = Path(__file__).parent.parent / "templates"
+
+
+class Subcommand(NamedTuple):
+    """One subcommand: what it does with its words, and the texts of templates/NAME.toml."""
+
+    name: str
+    run: Callable[[argparse.Namespace], None]
+    description: str
+    # More paragraphs of its help and its man page.
+    details: list[str]
+    # Description of an example, and its command.
+    examples: dict[str, str]
+    argument: dict[str, Any]
+
+    @property
+    def summary(self) -> str:
+        return SUMMARIES[self.name]
+
+    def add_words(self, parser: argparse.ArgumentParser) -> None:
+        argument = dict(self.argument)
+        parser.add_argument(argument.pop("name"), **argument)
+        table.add(parser, self.name)
 
 
 def find(name: str) -> Subcommand:
-    """The subcommand of a name."""
-    place = PLACES[name]
-    found: Subcommand = getattr(importlib.import_module(f"{__name__}.{place.module}"), place.name)
-    return found
+    """The subcommand of a name. `undo` stands beside `apply`."""
+    module, function = ("apply", "undo") if name == "undo" else (name, "run")
+    run = getattr(importlib.import_module(f"{__name__}.{module}"), function)
+    texts = tomllib.loads((TEXTS / f"{name}.toml").read_text(encoding="utf-8"))
+    return Subcommand(name, run, **texts)
 
 
 def every() -> tuple[Subcommand, ...]:
-    """All subcommands in order."""
-    return tuple(map(find, PLACES))
+    return tuple(map(find, SUMMARIES))

@@ -15,11 +15,9 @@ from arbiter_host.faults import HostFault, UsageFault
 from arbiter_host.options import Output
 from arbiter_host.output import emit
 from arbiter_host.plan import engine_of
-from arbiter_host.subcommands.base import Subcommand
 
 
 def print_steps(root: safe_files.Root, steps: Sequence[apply.Step]) -> None:
-    """Prints steps, one line each."""
     emit("".join(f"{names.shown(step.words(root))}\n" for step in steps) or "# no change\n")
 
 
@@ -45,7 +43,6 @@ def warn(notes: Iterable[str]) -> None:
 
 
 def write_form(to: Output, draft: exports.Draft) -> None:
-    """Writes the change as files for review."""
     documents = exports.documents(to.form, draft)
     warn(draft.told)
     if not documents:
@@ -55,7 +52,7 @@ def write_form(to: Output, draft: exports.Draft) -> None:
     warn(apply.only_in_one(draft.before, draft.after, draft.moved))
 
 
-def run_apply(options: argparse.Namespace) -> None:
+def run(options: argparse.Namespace) -> None:
     """Prints the steps from one source to another; with --yes makes them."""
     outputs = table.outputs(options)
     forms = [each for each in outputs if each.form != "text"]
@@ -75,22 +72,27 @@ def run_apply(options: argparse.Namespace) -> None:
     after = change.warned(models[-1], change.changed(models[-1], options.set))
     root, way = safe_files.Root(options.root), apply.By(options.by)
     for each in forms:
-        write_form(each, exports.Draft(models[0], after, sources[0], root, way, by.library,
-                                       load.wish_of(options).runtime,
-                                       lambda opened: load.model_of(options, opened, by)))
+        write_form(each, exports.Draft(models[0], after, root, by.library,
+                                       load.wish_of(options).runtime))
     if len(forms) < len(outputs):
         set_host(options, apply.changes(models[0], after, root), root, way)
 
 
 def check_no_loop(root: safe_files.Root, folders: Iterable[str]) -> None:
     """A fault where a loop of `hold` has limits in a group: they would be taken for the operator's
-    own, and an undo would bring them back for good."""
-    top = record.holder(record.FOLDER)
-    for folder in folders:
-        path = os.path.join(root.path, folder)
-        if top is not None and f"{path}/".startswith(f"{top.rstrip('/')}/"):
-            raise HostFault(f"{path}: arbiterctl hold runs on {top}: what stands there is its own;"
-                            " nothing is changed. End it first, as by systemctl stop arbiter-hold")
+    own, and an undo would bring them back for good. A group may have another path there."""
+    loop = record.holder(record.FOLDER)
+    if loop is None:
+        return
+    with safe_files.faults(loop.top):
+        held = set(safe_files.identities(loop.top))
+    for path in (os.path.join(root.path, folder) for folder in folders):
+        # (a group that is gone is told later)
+        with suppress(FileNotFoundError):
+            if safe_files.identity_of(path) in held:
+                raise HostFault(f"{path}: arbiterctl hold runs on {loop.top}: what stands there is"
+                                " its own; nothing is changed. End it first, as by systemctl stop"
+                                " arbiter-hold")
 
 
 def set_host(options: argparse.Namespace, asked: tuple[list[apply.Change], list[str]],
@@ -114,7 +116,7 @@ def set_host(options: argparse.Namespace, asked: tuple[list[apply.Change], list[
         output.say(f"done and read back; {back}")
 
 
-def run_undo(options: argparse.Namespace) -> None:
+def undo(options: argparse.Namespace) -> None:
     """Prints the steps back; with --yes makes them."""
     name = names.shown(options.file)
     content = plain_files.file_bytes(options.file, is_trusted=True)
@@ -128,7 +130,3 @@ def run_undo(options: argparse.Namespace) -> None:
             print_steps(back.root, apply.planned_steps(back.changes, back.by))
     finally:
         warn(back.left)
-
-
-APPLY = Subcommand.of_texts("apply", run_apply)
-UNDO = Subcommand.of_texts("undo", run_undo)

@@ -13,8 +13,9 @@ from arbiter_host.looks import Look, Times
 from arbiter_host.model import Model
 from arbiter_host.names import shown
 from arbiter_host.output import json_text, write_forms
+from arbiter_host.plan import engine_of
 from arbiter_host.sources import by_options, prometheus, used
-from arbiter_host.subcommands.base import Subcommand, found_engine, source_name
+from arbiter_host.subcommands.base import source_name
 
 
 def of_range(asked: argparse.Namespace) -> tuple[list[Look], list[str], set[int]]:
@@ -25,7 +26,7 @@ def of_range(asked: argparse.Namespace) -> tuple[list[Look], list[str], set[int]
                                prometheus.range_of(asked.range, asked.step))
     files = load.opened(asked, asked.source)
     kind = asked.kind or load.kind_of(*files[0])
-    model = load.model_of(used.without(asked, kind), files, found_engine(asked))
+    model = load.model_of(used.without(asked, kind), files, engine_of(asked.library))
     load.warn(model, source_name(asked.source))
     looks_, notes = ranges.looks(server, model.with_host(
         by_options.of_host(asked).of_use(model.host)))
@@ -60,8 +61,7 @@ def of_trees(asked: argparse.Namespace) -> list[Look]:
 
 
 def audited(asked: argparse.Namespace) -> Ranked:
-    """The audit that the options ask for."""
-    by, away = found_engine(asked), set[int]()
+    by, away = engine_of(asked.library), set[int]()
     if asked.used:
         seen, notes, away = of_range(asked)
     else:
@@ -82,20 +82,12 @@ def lines_of(ranked: Ranked) -> list[tuple[str, str]]:
             *((line, "") for line in answer.foot(ranked))]
 
 
-
-
 def run(asked: argparse.Namespace) -> None:
     """Measures how far off the plan is, and writes the answers."""
     outputs, name = options.outputs(asked), source_name(asked.source or [looks.HOST_TREE])
     ranked = audited(asked)
     load.warn(Model(notes=ranked.audit.notes), name)
 
-    def page_of() -> str:
-        from arbiter_host.audit import page
-        return page.page(ranked, f"Audit of {name}")
-
-    write_forms(outputs, {"text": lambda: lines_of(ranked), "html": page_of,
-                          "json": lambda: json_text(answer.as_data(ranked))})
-
-
-AUDIT = Subcommand.of_texts("audit", run)
+    write_forms(outputs, {"text": lambda: lines_of(ranked),
+                          "json": lambda: json_text(answer.as_data(ranked)),
+                          "html": lambda: answer.page(ranked, f"Audit of {name}")})

@@ -1,57 +1,14 @@
-"""The class of a subcommand, with the words and steps that several share."""
+"""The steps that several subcommands share."""
 from __future__ import annotations
 
 import argparse
-import tomllib
-from collections.abc import Callable, Sequence
-from pathlib import Path
-from typing import NamedTuple
+from collections.abc import Sequence
 
-from arbiter_host import explain, load, names, options as table, text
+from arbiter_host import explain, load, names, text
 from arbiter_host.explain import View
 from arbiter_host.faults import UsageFault
 from arbiter_host.model import MAX_DEPTH, Model
-from arbiter_host.plan import Engine, engine_of
-from arbiter_host.subcommands import PLACES
-
-TEXTS = Path(__file__).parent.parent / "templates"
-
-
-class Subcommand(NamedTuple):
-    """One subcommand: its name, its help, its words, and what it does with them."""
-
-    name: str
-    # Its description, in sentences.
-    description: str
-    add_words: Callable[[argparse.ArgumentParser], None]
-    run: Callable[[argparse.Namespace], None]
-    # More paragraphs of its help and its man page.
-    details: tuple[str, ...] = ()
-    # Description of an example, and its command.
-    examples: tuple[tuple[str, str], ...] = ()
-
-    @property
-    def summary(self) -> str:
-        """One line for the list of all."""
-        return PLACES[self.name].summary
-
-    @classmethod
-    def of_texts(cls, name: str, run: Callable[[argparse.Namespace], None]) -> Subcommand:
-        """A subcommand whose texts and argument are in templates/NAME.toml."""
-        texts = tomllib.loads((TEXTS / f"{name}.toml").read_text(encoding="utf-8"))
-
-        def add_words(parser: argparse.ArgumentParser) -> None:
-            argument = dict(texts["argument"])
-            parser.add_argument(argument.pop("name"), **argument)
-            table.add(parser, name)
-
-        return cls(name, texts["description"], add_words, run, tuple(texts["details"]),
-                   tuple(texts["examples"].items()))
-
-
-def found_engine(options: argparse.Namespace) -> Engine:
-    """The engine that the options name, else the first that is found."""
-    return engine_of(options.library)
+from arbiter_host.plan import Engine
 
 
 def source_name(paths: Sequence[str]) -> str:

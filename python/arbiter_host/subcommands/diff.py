@@ -11,8 +11,8 @@ from arbiter_host.fleet import questions
 from arbiter_host.model import Model
 from arbiter_host.names import shown
 from arbiter_host.output import json_text, write_forms
-from arbiter_host.plan import Engine, plan
-from arbiter_host.subcommands.base import Subcommand, found_engine, source_name, view_of
+from arbiter_host.plan import Engine, engine_of, plan
+from arbiter_host.subcommands.base import source_name, view_of
 
 
 def on_host(options: argparse.Namespace, host: Host) -> argparse.Namespace:
@@ -69,7 +69,7 @@ def chosen(options: argparse.Namespace, models: Sequence[Model]) -> frozenset[st
 
 
 def run(options: argparse.Namespace) -> None:
-    outputs, by = table.outputs(options), found_engine(options)
+    outputs, by = table.outputs(options), engine_of(options.library)
     if questions.answered(options):
         return
     before, after = compared(options, by)
@@ -80,6 +80,3 @@ def run(options: argparse.Namespace) -> None:
                           "html": lambda: report.page(
                               two, view, f"Change of {source_name(options.source)}", one,
                               [shown(word) for word in options.set])})
-
-
-DIFF = Subcommand.of_texts("diff", run)

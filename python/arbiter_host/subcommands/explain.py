@@ -8,8 +8,8 @@ from arbiter_host import choosing, explain, options as table, picture, placement
 from arbiter_host.explain import View
 from arbiter_host.fleet import questions
 from arbiter_host.output import json_text, write_forms
-from arbiter_host.plan import Plan, guarantees, plan
-from arbiter_host.subcommands.base import Subcommand, found_engine, loaded, source_name, view_of
+from arbiter_host.plan import Plan, engine_of, guarantees, plan
+from arbiter_host.subcommands.base import loaded, source_name, view_of
 
 
 def shown_view(options: argparse.Namespace, plan: Plan) -> View:
@@ -26,7 +26,7 @@ def run(options: argparse.Namespace) -> None:
     outputs = table.outputs(options)
     if questions.answered(options):
         return
-    by = found_engine(options)
+    by = engine_of(options.library)
     plan_ = plan(by, loaded(options, by))
     view, outlook = shown_view(options, plan_), cache(lambda: placement.outlook(plan_.model))
     write_forms(outputs, {
@@ -37,6 +37,3 @@ def run(options: argparse.Namespace) -> None:
         "csv": lambda: explain.as_csv(plan_, view),
         "html": lambda: report.page(plan_, view, f"Plan of {source_name(options.source)}"),
         "svg": lambda: picture.picture(plan_, view)})
-
-
-EXPLAIN = Subcommand.of_texts("explain", run)

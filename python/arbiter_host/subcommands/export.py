@@ -9,8 +9,9 @@ from arbiter import Library
 from arbiter_host import change, load, options as table
 from arbiter_host.model import Model
 from arbiter_host.output import say, write_file
+from arbiter_host.plan import engine_of
 from arbiter_host.sources import hostfile, script
-from arbiter_host.subcommands.base import Subcommand, found_engine, source_name
+from arbiter_host.subcommands.base import source_name
 
 WRITERS: Mapping[str, Callable[[Model, Library], str]] = {
     "script": script.write, "toml": lambda model, _: hostfile.write_toml(model),
@@ -19,7 +20,7 @@ WRITERS: Mapping[str, Callable[[Model, Library], str]] = {
 
 
 def run(options: argparse.Namespace) -> None:
-    outputs, by = table.outputs(options), found_engine(options)
+    outputs, by = table.outputs(options), engine_of(options.library)
     model = load.load(options, options.source, by)
     if options.set:
         model = change.warned(model, change.changed(model, options.set))
@@ -30,6 +31,3 @@ def run(options: argparse.Namespace) -> None:
         write_file(path, WRITERS[form](model, by.library))
     warned = f"; warnings: {len(model.notes)} (lines '# !')" if model.notes and has_notes else ""
     say(f"groups: {len(model.groups)}{warned}")
-
-
-EXPORT = Subcommand.of_texts("export", run)

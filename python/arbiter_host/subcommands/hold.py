@@ -21,7 +21,6 @@ from arbiter_host.faults import HostFault, UsageFault
 from arbiter_host.model import MAX_CAPACITY, MAX_DEPTH
 from arbiter_host.plan import engine_of
 from arbiter_host.sources import by_options
-from arbiter_host.subcommands.base import Subcommand
 
 if TYPE_CHECKING:
     from arbiter_host.metrics import File
@@ -148,9 +147,9 @@ def times_of(asked: argparse.Namespace, period: int) -> looks.Times:
 
 def locked(root: safe_files.Root, asked: argparse.Namespace, stack: ExitStack) -> record.Record:
     """The undo file, after no second loop was found."""
-    undo = asked.undo or f"{record.FOLDER}/hold-undo.json"
-    where = record.FOLDER if is_real(root) else os.path.dirname(os.path.abspath(undo))
-    for descriptor in record.lock(where, os.path.realpath(asked.source)):
+    undo = os.path.abspath(asked.undo or f"{record.FOLDER}/hold-undo.json")
+    where = record.FOLDER if is_real(root) else os.path.dirname(undo)
+    for descriptor in record.lock(where, os.path.realpath(asked.source), undo):
         stack.callback(os.close, descriptor)
     kept = record.Record(undo)
     stack.callback(kept.close)
@@ -212,6 +211,3 @@ def run(asked: argparse.Namespace) -> None:
         loop = hold.Loop(engine, root, asked.source, host, kept, ways, service.clock)
         hold.run(loop, times, service.wait, functools.partial(service.show, host),
                  lambda: service.notifier.send("READY=1"))
-
-
-HOLD = Subcommand.of_texts("hold", run)

@@ -6,7 +6,6 @@ import argparse
 from arbiter_host import load
 from arbiter_host.faults import UsageFault
 from arbiter_host.fleet import hosts, questions
-from arbiter_host.subcommands.base import Subcommand
 
 
 def run(options: argparse.Namespace) -> None:
@@ -14,6 +13,3 @@ def run(options: argparse.Namespace) -> None:
         raise UsageFault("--pod: the file of a pod")
     fleet = questions.fleet_in(options)
     questions.answer(options, fleet or hosts.of_one(load.opened(options, options.source)))
-
-
-PLACE = Subcommand.of_texts("place", run)

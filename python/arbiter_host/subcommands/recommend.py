@@ -2,27 +2,64 @@
 from __future__ import annotations
 
 import argparse
-from itertools import compress
+from collections.abc import Sequence, Set
 
-from arbiter_host import change, choosing, load, options as table, output, recommend, text
+from arbiter_host import change, choosing, load, options as table, output, recommend, text, units
 from arbiter_host.demands import Use
+from arbiter_host.faults import NothingFound, UsageFault
+from arbiter_host.fleet import hosts as cluster
+from arbiter_host.fleet.hosts import Fleet
 from arbiter_host.model import Model
 from arbiter_host.names import cut, few, short, shown
 from arbiter_host.output import Styled
-from arbiter_host.plan import Engine
-from arbiter_host.recommend import Advised, Recommendation
-from arbiter_host.sources import by_options, used
+from arbiter_host.plan import Engine, engine_of
+from arbiter_host.recommend import Advised, Recommendation, SeenHost
+from arbiter_host.sources import by_options, kubernetes, used
+from arbiter_host.sources.data import loads
+from arbiter_host.sources.measurable import Measurable, measured
 from arbiter_host.sources.register import READERS
-from arbiter_host.subcommands.base import Subcommand, found_engine, source_name
+from arbiter_host.subcommands.base import source_name
 
 
-def loaded(options: argparse.Namespace, by: Engine) -> Model:
-    """The source. What was used of pods and containers is part of it."""
-    files = load.opened(options, options.source)
+def cluster_of(options: argparse.Namespace, files: Sequence[load.Opened]) -> Fleet | None:
+    """The nodes of a cluster with their pods; None where there is one node or another source."""
+    if (options.kind or load.kind_of(*files[0])) != "kubernetes":
+        return None
+    items = [item for path, data in files
+             for item in kubernetes.items_of(loads(data or b"", shown(path)), shown(path))]
+    many = sum(each.get("kind") == "Node" for each in items) > 1
+    return cluster.of_cluster(files[0][0], items) if many else None
+
+
+def of_cluster(options: argparse.Namespace, fleet: Fleet, by: Engine) -> list[Model]:
+    """The model of each node. What was used is read once."""
+    whole = argparse.Namespace(**{**vars(options), "node": ""})
+    models = [load.model_of(used.without(whole, "kubernetes"), [(each.path, each.data)], by)
+              for each in fleet.hosts]
+    if not options.used:
+        return models
+    if used.is_tree(options):
+        raise UsageFault("--used: a tree of cgroups is of one node: give this node's pods alone")
+    sources = [each.owned for each in models if isinstance(each.owned, Measurable)]
+    found, notes = measured(sources, used.entries(options), used.name(options))
+    for note in (*fleet.notes, *notes):
+        output.warn(note)
+    return [each.model() for each in found]
+
+
+def models_of(options: argparse.Namespace, by: Engine) -> list[tuple[str, Model]]:
+    """The models of the source, of a cluster that of each node, with its name. What was used of
+    pods and containers is part of it."""
+    # (replicas on other nodes are of the same owner)
+    files = load.opened(argparse.Namespace(**{**vars(options), "node": ""}), options.source)
+    fleet, name = cluster_of(options, files), source_name(options.source)
+    if fleet is not None:
+        if options.node and options.node not in [each.name for each in fleet.hosts]:
+            raise NothingFound(f"no node {shown(options.node)}")
+        return list(zip((each.name for each in fleet.hosts), of_cluster(options, fleet, by)))
     kind = options.kind or load.kind_of(*files[0])
-    if not READERS[kind].is_measured:
-        return load.model_of(used.without(options, kind), files, by)
-    return load.model_of(options, files, by)
+    is_part = READERS[kind].is_measured
+    return [(name, load.model_of(options if is_part else used.without(options, kind), files, by))]
 
 
 def uses_of(options: argparse.Namespace, model: Model) -> dict[str, Use]:
@@ -30,31 +67,57 @@ def uses_of(options: argparse.Namespace, model: Model) -> dict[str, Use]:
     owned = recommend.owned_of(model)
     seen = owned.seen()
     if options.used and owned.noun == "unit":
-        uses, told = recommend.of_history(model, used.history(options), options.unit,
-                                          used.mapped(options.map))
+        uses, told = recommend.of_entries(owned, used.entries(options))
         model.notes += told
         return seen | uses
     return seen
 
 
+def chosen_of(options: argparse.Namespace, models: Sequence[tuple[str, Model]]
+              ) -> list[Set[str] | None]:
+    """The groups that are chosen of each model. A fault where that is none of any."""
+    chosen, faults = list[Set[str] | None](), list[NothingFound]()
+    for name, model in models:
+        try:
+            is_other = len(models) > 1 and options.node not in ("", name)
+            chosen.append(frozenset() if is_other else choosing.chosen(model, options))
+        except NothingFound as fault:
+            faults.append(fault)
+            chosen.append(frozenset())
+    if len(faults) == len(models):
+        raise faults[0]
+    return chosen
+
+
 def run(options: argparse.Namespace) -> None:
     rule = recommend.rule_of(options.target, options.headroom)
-    by, outputs = found_engine(options), table.outputs(options)
-    model = loaded(options, by)
-    uses = uses_of(options, model)
-    load.warn(model, source_name(options.source))
-    model = change.on_host(model, by_options.of_host(options).of_use(model.host))
-    advice = recommend.recommended(by, model, uses, rule, choosing.chosen(model, options))
-    change.warned(model, advice.after.model)
+    by, outputs = engine_of(options.library), table.outputs(options)
+    models, wish = models_of(options, by), by_options.of_host(options)
+    uses = [uses_of(options, model) for _, model in models]
+    for name, model in models:
+        load.warn(model, name)
+    advice = recommend.recommended(by, [
+        SeenHost(change.on_host(model, wish.of_use(model.host)), *each) for (_, model), each in zip(
+            models, zip(uses, chosen_of(options, models)))], rule)
+    for before, after in advice.plans:
+        change.warned(before.model, after.model)
     output.write_forms(outputs, {"text": lambda: lines_of(advice),
                                  "json": lambda: output.json_text(recommend.as_data(advice))})
+
+
+def hosts_words(advice: Recommendation) -> str:
+    """The host, or how many there are."""
+    if len(advice.plans) == 1:
+        return text.host_words(advice.plans[0][1])
+    cpus = sum(after.model.host.processors for _, after in advice.plans)
+    return f"hosts: {len(advice.plans)}, with {text.cpus(cpus)}"
 
 
 def heading(advice: Recommendation, short_: list[str]) -> Styled:
     """The lines above the table. They are red where the node has less than all pods request, and
     where groups are short."""
     headroom = float(advice.rule.headroom * 100)
-    lines = [(text.host_words(advice.after), ""),
+    lines = [(hosts_words(advice), ""),
              (f"{advice.percentile}; {headroom:g}% on top; the proved check accepted the plan", "")]
     kept = sum(each.proposal.then.limit is None and each.proposal.now.limit is not None
                for each in advice.rows)
@@ -72,29 +135,27 @@ def heading(advice: Recommendation, short_: list[str]) -> Styled:
 
 
 def row(advice: Recommendation, each: Advised) -> list[str]:
-    """The cells of a container: what weighs and what limits it are as people write them."""
-    one = each.proposal
-    then = {setting.key: setting.value for setting in one.settings}
+    """The cells of an owner: what weighs and what limits its groups are as people write them."""
+    one, least = each.proposal, each.least
     settings = [word for key, now in zip(advice.keys, one.words)
-                for word in (now, then.get(key, "-"))]
-    return [f"{float(one.used):.0f}m",
+                for word in (cut(now, 20), one.values.get(key, "-"))]
+    of = f" ({len(one.groups)})" if len(one.groups) > 1 else ""
+    return [str(len(one.use.values)), f"{float(one.used):.0f}m",
             f"{float(one.most):.0f}m{'*' if one.is_throttled else ''}", *settings,
-            *(text.amount(advice.after, slices, "m") + "m"
-              for slices in (each.after.gets, each.guaranteed)),
-            cut(short(shown(one.title)), 100)]
+            *(f"{units.decimal(amount, 1)}m" for amount in (least.gets, least.guaranteed)),
+            cut(short(shown(one.title)), 100) + of]
 
 
 def lines_of(advice: Recommendation) -> Styled:
     """The lines of `recommend`. A container that is short then is red."""
-    rows = [["used", "most", advice.keys[0], "then", advice.keys[1], "then", "gets", "guaranteed",
-             advice.noun], *(row(advice, each) for each in advice.rows)]
-    is_short = [each.after.gets < each.after.want for each in advice.rows]
-    short_ = [shown(each.proposal.title) for each in compress(advice.rows, is_short)]
-    note = [("* throttled at its limit: it wanted more than it used", "")]
+    rows = [["samples", "used", "most", advice.keys[0], "then", advice.keys[1], "then", "gets",
+             "guaranteed", advice.noun], *(row(advice, each) for each in advice.rows)]
+    short_ = [shown(each.proposal.title) for each in advice.rows if each.is_short]
+    notes = [(words, "") for words, is_told in (
+        ("* throttled at its limit: it wanted more than it used",
+         any(each.proposal.is_throttled for each in advice.rows)),
+        (f"(N) N {advice.noun}s: `gets` and `guaranteed` are of the one that has least",
+         any(len(each.proposal.groups) > 1 for each in advice.rows))) if is_told]
     return [*heading(advice, short_),
             *zip(text.table(rows, (len(rows[0]) - 1,)),
-                 ["bold", *("red" if each else "" for each in is_short)]),
-            *(note if any(each.proposal.is_throttled for each in advice.rows) else [])]
-
-
-RECOMMEND = Subcommand.of_texts("recommend", run)
+                 ["bold", *("red" if each.is_short else "" for each in advice.rows)]), *notes]

@@ -7,20 +7,18 @@ from arbiter_host import choosing, load, options as table, output, progress, ser
 from arbiter_host.faults import HostFault, UsageFault
 from arbiter_host.fleet import questions
 from arbiter_host.model import Model
-from arbiter_host.plan import Engine
+from arbiter_host.plan import Engine, engine_of
 from arbiter_host.series import Series
 from arbiter_host.sources import by_options, used
 from arbiter_host.sources.usage import some
-from arbiter_host.subcommands.base import Subcommand, found_engine, source_name
+from arbiter_host.subcommands.base import source_name
 
 
-def periods_of(options: argparse.Namespace, model: Model) -> int:
-    """The periods of one sample: 1, those of `--step`, or of a server's."""
-    if not options.step and not used.is_served(options):
-        return 1
-    usec = (by_options.time_option(options.step, "--step") if options.step
-            else round(used.asked_range(options).step * 10**6))
-    return series.sample_periods(usec, model.host.period_us)
+def sample_of(options: argparse.Namespace) -> int:
+    """The microseconds of one sample, by `--step` or of a server; 0 stands for one period."""
+    if options.step:
+        return by_options.time_option(options.step, "--step")
+    return round(used.asked_range(options).step * 10**6) if used.is_served(options) else 0
 
 
 def shown_groups(options: argparse.Namespace, model: Model) -> list[str]:
@@ -35,6 +33,8 @@ def replayed(options: argparse.Namespace, by: Engine) -> Series:
     files = load.opened(options, options.source)
     kind = options.kind or load.kind_of(*files[0])
     model = load.model_of(used.without(options, kind), files, by)
+    sample = sample_of(options)
+    model = by_options.of_samples(options, kind, model, options.unit, sample)
     load.warn(model, source_name(options.source))
     history = used.history(options)
     missing: list[str] = []
@@ -47,7 +47,7 @@ def replayed(options: argparse.Namespace, by: Engine) -> Series:
     chosen = shown_groups(options, model)
     with progress.bar("samples", len(history.samples)) as tick:
         return series.run(by, model, history, options.unit, chosen, path_of,
-                          periods_of(options, model), tick)
+                          series.sample_periods(sample, model.host.period_us), tick)
 
 
 def run(options: argparse.Namespace) -> None:
@@ -58,11 +58,8 @@ def run(options: argparse.Namespace) -> None:
         return
     if any(form == "html" for form, _ in outputs):
         raise UsageFault("-o html: of one host there is text, json, csv and svg")
-    series_ = replayed(options, found_engine(options))
+    series_ = replayed(options, engine_of(options.library))
     output.write_forms(outputs, {"text": lambda: series.as_text(series_, options.unit),
                                  "csv": lambda: series.as_csv(series_, options.unit),
                                  "json": lambda: series.as_json(series_, options.unit),
                                  "svg": lambda: series.picture(series_)})
-
-
-REPLAY = Subcommand.of_texts("replay", run)

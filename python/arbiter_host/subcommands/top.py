@@ -16,10 +16,11 @@ from typing import TYPE_CHECKING
 from arbiter_host import choosing, live, load, looks, options, output, progress, top
 from arbiter_host.explain import View
 from arbiter_host.faults import Alerted, HostFault, UsageFault, strerror
+from arbiter_host.model import PodNames
 from arbiter_host.names import shown
-from arbiter_host.plan import Plan, plan
-from arbiter_host.sources import by_options
-from arbiter_host.subcommands.base import Subcommand, found_engine, view_of
+from arbiter_host.plan import Plan, engine_of, plan
+from arbiter_host.sources import by_options, kubernetes
+from arbiter_host.subcommands.base import view_of
 
 if TYPE_CHECKING:
     from arbiter_host.metrics import Figured, File
@@ -31,26 +32,34 @@ THROTTLED = re.compile(r": throttled in [0-9]+ of [0-9]+ periods: ")
 MEASURED = ("throttled", "off")
 
 
-def reader(asked: argparse.Namespace,
-           wanted: Sequence[top.Condition]) -> tuple[Callable[[], top.PlannedRound], int]:
+def reader(asked: argparse.Namespace, wanted: Sequence[top.Condition],
+           warn: Callable[[str], None]) -> tuple[Callable[[], top.PlannedRound], int]:
     """Reader of a round, and the readings that it takes before the first one."""
-    by, paths = found_engine(asked), asked.source or [looks.HOST_TREE]
+    by, paths = engine_of(asked.library), asked.source or [looks.HOST_TREE]
     if len(paths) == 1 and os.path.isdir(paths[0]) and asked.kind in (None, "cgroup"):
         options.check(asked, "cgroup")
         want = asked.want or "psi"
         tree = looks.Tree(paths[0], by_options.machine(asked, want), time.monotonic)
-        return top.Watched(by, tree, want).round, 1
+        ask = functools.partial(pod_names, asked) if asked.pods else None
+        return top.Watched(by, tree, want, ask, warn).round, 1
     if "-" in paths:
         raise UsageFault("standard input is read once: top takes files or a folder")
     measured = [each.words for each in wanted if each.key in MEASURED]
-    if measured:
-        raise UsageFault(f"--alert {shown(measured[0])}: trees of cgroups alone are measured")
-    return lambda: top.PlannedRound(plan(by, load.load(asked, paths, by))), 0
+    if measured and not asked.used:
+        raise UsageFault(f"--alert {shown(measured[0])}: what is measured is a tree of cgroups, or"
+                         " told by --used")
+    return lambda: top.with_use(plan(by, load.load(asked, paths, by))), 0
+
+
+def pod_names(asked: argparse.Namespace) -> dict[str, PodNames]:
+    """The names of pods by the folders of their groups."""
+    return kubernetes.names_at([(shown(path), data or b"{}") for path, data in load.opened(
+        argparse.Namespace(**vars(asked), kept=([], [])), asked.pods)])
 
 
 def run_command(words: Sequence[str], raised: Sequence[top.Alert]) -> None:
     """Runs the command of an alert, with the alerts as JSON on its standard input."""
-    given = json.dumps([each._asdict() for each in raised]) + "\n"
+    given = json.dumps([each.data("condition") for each in raised]) + "\n"
     try:
         ended = subprocess.run(words, input=given.encode(), timeout=SECONDS, check=False)
         why = f"status {ended.returncode}" if ended.returncode else ""
@@ -121,7 +130,6 @@ class Watch:
 
 
 def shown_view(asked: argparse.Namespace, plan: Plan) -> View:
-    """A plan as it is shown."""
     return view_of(asked, choosing.chosen(plan.model, asked))
 
 
@@ -152,7 +160,7 @@ def run(asked: argparse.Namespace) -> None:
         watch = Watch(asked, form, file)
     except ValueError as error:
         raise UsageFault(f"--command: {error}") from error
-    read, first = reader(asked, watch.state.wanted)
+    read, first = reader(asked, watch.state.wanted, watch.warn)
     if times.number is not None and times.number <= first:
         raise UsageFault("--read: a tree is measured from one reading to the next: 2 or more")
     watch.listen()
@@ -165,6 +173,3 @@ def run(asked: argparse.Namespace) -> None:
             watch.take(each)
     if watch.is_raised:
         raise Alerted(watch.state.held)
-
-
-TOP = Subcommand.of_texts("top", run)

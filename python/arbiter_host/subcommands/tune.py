@@ -12,8 +12,8 @@ from arbiter_host.knobs import Knob
 from arbiter_host.model import MAX_PROCESSORS
 from arbiter_host.names import short, shown
 from arbiter_host.output import json_text, write_forms
-from arbiter_host.plan import plan
-from arbiter_host.subcommands.base import Subcommand, found_engine, loaded
+from arbiter_host.plan import engine_of, plan
+from arbiter_host.subcommands.base import loaded
 from arbiter_host.tune import Tuned
 
 # Demands under which goals are met.
@@ -28,7 +28,7 @@ Lines = list[tuple[str, str]]
 def run(options: argparse.Namespace) -> None:
     if not options.goal:
         raise UsageFault("tune: the following arguments are required: --goal")
-    outputs, by = table.outputs(options), found_engine(options)
+    outputs, by = table.outputs(options), engine_of(options.library)
     model = loaded(options, by)
     before = plan(by, change.warned(model, change.changed(model, options.set)))
     answer = tune.tune(before, options.goal, options.guaranteed,
@@ -53,11 +53,9 @@ class Told:
         self.where = f"{MEASURES[answer.asked.is_guaranteed]}, in {text.UNIT_WORDS[unit]}"
 
     def amount(self, slices: int) -> str:
-        """Slices in the unit."""
         return text.amount(self.before, slices, self.unit)
 
     def lines(self) -> Lines:
-        """All lines."""
         answer = self.answer
         lines: Lines = [(text.host_words(self.before), ""), *self.rounded()]
         if answer.best is not None:
@@ -151,6 +149,3 @@ def unreached(setting: str, processors: int) -> str:
         return f"no {setting} reaches it"
     more = "" if processors <= MAX_PROCESSORS else "; more are not tried"
     return f"{MAX_PROCESSORS} CPUs do not reach it{more}"
-
-
-TUNE = Subcommand.of_texts("tune", run)

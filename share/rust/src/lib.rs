@@ -375,6 +375,58 @@ pub fn hold(host: Host, rows: &[Row], hungry: &[bool]) -> Result<Round, Fault> {
     })
 }
 
+/// What is counted of a group in a round, which is the time between two readings.
+#[derive(Clone, Copy, Debug, PartialEq, Eq)]
+pub struct RoundTimes {
+    /// Nanoseconds that passed.
+    pub passed_ns: u64,
+    /// Microseconds that it used.
+    pub used_us: u64,
+    /// Microseconds in which some task of it waited for a processor.
+    pub waited_us: u64,
+    /// Its tasks at the end.
+    pub tasks: u32,
+    /// Whether it was throttled at a limit of its own.
+    pub is_throttled: bool,
+}
+
+/// What a group used in a round and asks for, in slices of one period, rounded up.
+#[derive(Clone, Copy, Debug, PartialEq, Eq)]
+pub struct Reading {
+    /// What it used.
+    pub used: u64,
+    /// What it asks for, 1000000 for everything.
+    pub asked: u64,
+    /// Whether it would have used more.
+    pub is_hungry: bool,
+}
+
+/// What a group used in a round, whether it would have used more, and what it asks for.
+///
+/// `ran` and `waited` have the nanoseconds of each task that was there at both readings.
+///
+/// # Errors
+/// 50 where these differ in length or have more entries than the group has tasks; the host is refused (1 to 3), or no time
+/// passed (15).
+pub fn reading(host: Host, times: RoundTimes, ran: &[u64], waited: &[u64]) -> Result<Reading, Fault> {
+    let (number, found) = raw::reading(host, times, ran, waited);
+    answered(number, None)?;
+    Ok(found)
+}
+
+/// The quota and the weight that are written for a leaf's limit of a round, as share/arbiter.h has them.
+///
+/// `own` is its own limit, and `stands_us` the quota that stands in it, of the host's period. No quota: its own limit is written.
+///
+/// # Errors
+/// The host is refused (1 to 3), or the limit is too large (14).
+pub fn written(host: Host, limit: u64, own: Option<u64>, stands_us: u64, tasks: u32) -> Result<(Option<u64>, u64), Fault> {
+    let (own, mut quota, mut weight) = (own.unwrap_or(raw::NO_LIMIT), 0, 0);
+    let number = raw::written(host, limit, own, stands_us, tasks, &mut quota, &mut weight);
+    answered(number, None)?;
+    Ok((Some(quota).filter(|quota| *quota != raw::NO_LIMIT), weight))
+}
+
 /// A group, by its row, and the slices of one period that it is to get at least.
 #[derive(Clone, Copy, Debug, PartialEq, Eq)]
 pub struct Goal {

@@ -1,6 +1,8 @@
 //! The calls of `arbiter.h`, on slices. Each call has what the header asks: lengths that are those of the slices, pointers that
 //! are not null (a slice has none), and no memory that is written and read at once (a `&mut` overlaps nothing).
-use crate::{Certificate, Fault, Group, Host, Level, Reason, RefusedLine, Row, Script, Stat};
+use crate::{Certificate, Fault, Group, Host, Level, Reading, Reason, RefusedLine, RoundTimes, Row, Script, Stat};
+use std::collections::hash_map::RandomState;
+use std::hash::{BuildHasher, Hasher};
 
 const NO_PARENT: u32 = u32::MAX;
 pub(crate) const NO_LIMIT: u64 = u64::MAX;
@@ -27,7 +29,7 @@ extern "C" {
                      nums: *const u64, nums_length: usize, dens: *const u64, dens_length: usize,
                      places: *const u32, places_length: usize, row: *mut u32) -> u32;
     fn arbiter_check_text(text: *const u8, text_length: usize, row: *mut u32) -> u32;
-    fn arbiter_script(processors: u64, period_us: u64, slice_us: u64, text: *const u8, text_length: usize,
+    fn arbiter_script(processors: u64, period_us: u64, slice_us: u64, hash_key: u64, text: *const u8, text_length: usize,
                       parents: *mut u32, parents_length: usize, weights: *mut u64, weights_length: usize,
                       limits: *mut u64, limits_length: usize, demands: *mut u64, demands_length: usize,
                       quotas: *mut u64, quotas_length: usize, periods: *mut u64, periods_length: usize,
@@ -90,6 +92,12 @@ extern "C" {
                     demands: *mut u64, demands_length: usize, amounts: *mut u64, amounts_length: usize,
                     flags: *mut u8, flags_length: usize, nums: *mut u64, nums_length: usize,
                     dens: *mut u64, dens_length: usize, places: *mut u32, places_length: usize) -> u32;
+    fn arbiter_reading(processors: u64, period_us: u64, slice_us: u64,
+                       passed_ns: u64, used_us: u64, waited_us: u64, tasks: u32, throttled: u32,
+                       ran: *const u64, ran_length: usize, waited: *const u64, waited_length: usize,
+                       used: *mut u64, asked: *mut u64, hungry: *mut u32) -> u32;
+    fn arbiter_written(processors: u64, period_us: u64, slice_us: u64,
+                       limit: u64, own: u64, stands_us: u64, tasks: u32, quota: *mut u64, weight: *mut u64) -> u32;
     fn arbiter_refused_row(parents: *const u32, parents_length: usize, weights: *const u64, weights_length: usize,
                            limits: *const u64, limits_length: usize, demands: *const u64, demands_length: usize,
                            row: *mut u32) -> u32;
@@ -487,9 +495,11 @@ impl Told {
 
     #[rustfmt::skip]
     pub(crate) fn read(&mut self, host: Host, text: &[u8]) -> u32 {
+        // Random keys of the standard library, by which whoever wrote the text cannot choose names.
+        let hash_key = RandomState::new().build_hasher().finish();
         // SAFETY: as above
         unsafe {
-            arbiter_script(host.processors, host.period_us, host.slice_us, text.as_ptr(), text.len(),
+            arbiter_script(host.processors, host.period_us, host.slice_us, hash_key, text.as_ptr(), text.len(),
                            self.parents.as_mut_ptr(), self.parents.len(), self.weights.as_mut_ptr(), self.weights.len(),
                            self.limits.as_mut_ptr(), self.limits.len(), self.demands.as_mut_ptr(), self.demands.len(),
                            self.quotas.as_mut_ptr(), self.quotas.len(), self.periods.as_mut_ptr(), self.periods.len(),
@@ -562,6 +572,26 @@ pub(crate) fn name(number: u32, room: &mut [u8]) -> u32 {
 pub(crate) fn version(room: &mut [u8]) -> u32 {
     // SAFETY: as above
     unsafe { arbiter_version(room.as_mut_ptr(), room.len()) }
+}
+
+#[rustfmt::skip]
+pub(crate) fn reading(host: Host, times: RoundTimes, ran: &[u64], waited: &[u64]) -> (u32, Reading) {
+    let (mut used, mut asked, mut hungry) = (0, 0, 0);
+    // SAFETY: as above
+    let number = unsafe {
+        arbiter_reading(host.processors, host.period_us, host.slice_us,
+                        times.passed_ns, times.used_us, times.waited_us, times.tasks, u32::from(times.is_throttled),
+                        ran.as_ptr(), ran.len(), waited.as_ptr(), waited.len(), &mut used, &mut asked, &mut hungry)
+    };
+    (number, Reading { used, asked, is_hungry: hungry != 0 })
+}
+
+#[rustfmt::skip]
+pub(crate) fn written(host: Host, limit: u64, own: u64, stands_us: u64, tasks: u32, quota: &mut u64, weight: &mut u64) -> u32 {
+    // SAFETY: as above
+    unsafe {
+        arbiter_written(host.processors, host.period_us, host.slice_us, limit, own, stands_us, tasks, quota, weight)
+    }
 }
 
 #[rustfmt::skip]

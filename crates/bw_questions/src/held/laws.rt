@@ -1,7 +1,8 @@
 //! Laws of the rule, each the contract of a function that does no work of its own.
+ghost use Rattle.bw_questions.specs.Exact.{ExactReadingsAreTrue};
 ghost use Rattle.bw_questions.specs.HeldLaws.{NoneBelowItsGuarantee, GuaranteeIsAdmitted};
 ghost use Rattle.bw_questions.specs.HeldLaws.{NoneAboveItsLimit, AskedIsAdmittedAsPlanned};
-ghost use Rattle.bw_questions.specs.HeldLaws.{LimitsAdmitThePlan};
+ghost use Rattle.bw_questions.specs.HeldLaws.{LesserIsAdmitted, LimitsAdmitThePlan};
 ghost use Rattle.bw_questions.specs.Rounds.{WantsGiveThePlan, PlanStays, NothingElseStays};
 ghost use Rattle.bw_questions.specs.Rounds.{PlanIsReached};
 
@@ -21,6 +22,14 @@ pub fn guarantee_is_admitted()
     there_is_one_plan();
 }
 
+/// Law: whatever was read, a leaf is admitted at least the lesser of what it wants now and of its
+/// guarantee. So it is while wants move.
+pub fn lesser_is_admitted()
+    ensures { LesserIsAdmitted }
+{
+    there_is_one_plan();
+}
+
 /// Law: no leaf is limited above its own limit, whatever was read.
 pub fn none_above_its_limit()
     ensures { NoneAboveItsLimit }
@@ -32,6 +41,12 @@ pub fn none_above_its_limit()
 /// more.
 pub fn asked_is_admitted_as_planned()
     ensures { AskedIsAdmittedAsPlanned }
+{}
+
+/// Law: a reading is true in which each leaf wants what it asks for, and one that asks for
+/// everything wants more than it used.
+pub fn exact_readings_are_true()
+    ensures { ExactReadingsAreTrue }
 {}
 
 /// Law: after a true reading, what the limits admit is at most the plan of the wants in each group,

@@ -3,6 +3,7 @@ ghost use Rattle.std.specs.Prelude.{◌≡◌, ◌<◌, ◌↔◌, length, IfOk,
 ghost use Rattle.bw_model.specs.Groups.{weight_of};
 ghost use Rattle.bw_questions.specs.Change.{with_weight};
 ghost use Rattle.bw_questions.specs.Least.{IsLeast};
+ghost use Rattle.bw_questions.specs.Plans.{ArePlans};
 ghost use Rattle.bw_questions.specs.Tune.{IsMet, judged};
 
 use super::goal::Goal;
@@ -12,6 +13,7 @@ use crate::least::{least_weight, reaches, still};
 use bw_change_laws::{
     others_weights_give_nothing, raised_limits_serve_no_less, raised_weight_alone_gains,
 };
+use bw_machine::Count;
 use bw_model::Instance;
 use bw_model::limits::{MAX_WEIGHT, MIN_WEIGHT};
 use bw_plan::there_is_one_plan;
@@ -32,7 +34,7 @@ fn judged(
     }
 }
 
-/// Whether a goal is met.
+/// Whether a goal is met. It makes one plan.
 ///
 /// # Errors
 /// `AllocError` if memory was refused.
@@ -41,14 +43,16 @@ pub(crate) fn is_met(
     measure: Measure,
     instance: &Instance,
     goal: Goal,
+    plans: &mut Count,
 ) -> Result<bool, AllocError>
     requires { goal.group < length instance.now.rows }
-    ensures { IfOk result (λ met. IsTrue met ↔ IsMet measure instance.now goal) }
+    ensures met { IfOk result (λ met. IsTrue met ↔ IsMet measure instance.now goal) }
+    ensures plans { ArePlans 1 plans.old.steps plans.new.steps }
 {
     let _rows = instance.rows();
     there_is_one_plan();
     let shown = judged(alloc, measure, instance, goal.group)?;
-    reaches(alloc, &shown, goal.group, goal.amount)
+    reaches(alloc, &shown, goal.group, goal.amount, plans)
 }
 
 /// The least weight of a goal's group with which the goal is met, all else as it is. None: no
@@ -63,12 +67,14 @@ pub(crate) fn least_for(
     measure: Measure,
     instance: &Instance,
     goal: Goal,
+    plans: &mut Count,
 ) -> Result<Option<u64>, AllocError>
     requires { goal.group < length instance.now.rows }
     ensures least { IfOk result (IsLeast
         (λ w. IsMet measure (with_weight instance.now goal.group w) goal) MIN_WEIGHT MAX_WEIGHT) }
     ensures more { IfOk result (λ found. IfSome found (λ w. ¬ IsMet measure instance.now goal
         → weight_of instance.now.rows goal.group < w)) }
+    ensures plans { ArePlans 14 plans.old.steps plans.new.steps }
 {
     let _rows = instance.rows();
     there_is_one_plan();
@@ -76,5 +82,5 @@ pub(crate) fn least_for(
     raised_weight_alone_gains();
     others_weights_give_nothing();
     let shown = judged(alloc, measure, instance, goal.group)?;
-    least_weight(alloc, &shown, goal.group, goal.amount)
+    least_weight(alloc, &shown, goal.group, goal.amount, plans)
 }

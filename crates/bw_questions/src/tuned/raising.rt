@@ -1,6 +1,7 @@
 //! Raises of one weight after another, each to the least that meets a goal.
 ghost use Rattle.std.specs.Prelude.{◌≡◌, ◌<◌, length, IfOk, IfSome, IfNone};
 ghost use Rattle.bw_questions.specs.Tune.{goal_at, AreFound, AreGoals, IsMet, AreMet};
+ghost use Rattle.bw_questions.specs.Plans.{ArePlans, plans_of_raises};
 ghost use Rattle.bw_questions.specs.Raising.{IsRaising};
 
 use super::goal::Goal;
@@ -9,6 +10,7 @@ use super::measure::Measure;
 use super::tuning::{Conflict, Tuning};
 use crate::least::{reweighted, still};
 use bw_change_laws::others_weights_give_nothing;
+use bw_machine::Count;
 use bw_model::Instance;
 use bw_plan::there_is_one_plan;
 use std::alloc::{AllocError, Global};
@@ -19,14 +21,16 @@ fn unmet(
     measure: Measure,
     instance: &Instance,
     goals: &[Goal],
+    plans: &mut Count,
 ) -> Result<Option<usize>, AllocError>
     requires { AreFound instance.now.rows goals.now }
     ensures some { IfOk result (λ found. IfSome found (λ place.
         (place < length goals.now) × ¬ IsMet measure instance.now (goal_at goals.now place))) }
     ensures none { IfOk result (λ found. IfNone found (AreMet measure instance.now goals.now)) }
+    ensures plans { ArePlans (length goals.now) plans.old.steps plans.new.steps }
 {
     for (place, goal) in goals.iter().enumerate() {
-        if !is_met(alloc, measure, instance, *goal)? {
+        if !is_met(alloc, measure, instance, *goal, plans)? {
             return Ok(Some(place));
         }
     }
@@ -46,19 +50,22 @@ pub(crate) fn raised(
     measure: Measure,
     start: &Instance,
     goals: &[Goal],
+    plans: &mut Count,
 ) -> Result<Tuning, AllocError>
     requires { AreGoals start.now.rows goals.now }
-    ensures { IfOk result (IsRaising measure start.now goals.now) }
+    ensures raising { IfOk result (IsRaising measure start.now goals.now) }
+    ensures plans { ArePlans (plans_of_raises (length goals.now)) plans.old.steps
+        plans.new.steps }
 {
     let _rows = start.rows();
     there_is_one_plan();
     others_weights_give_nothing();
     let mut current = still(alloc, start)?;
     let mut together = vec![in alloc; false; goals.len()]?;
-    while let Some(place) = unmet(alloc, measure, &current, goals)? {
+    while let Some(place) = unmet(alloc, measure, &current, goals, plans)? {
         let goal = goals[place];
         together[place] = true;
-        let Some(weight) = least_for(alloc, measure, &current, goal)? else {
+        let Some(weight) = least_for(alloc, measure, &current, goal, plans)? else {
             return Ok(Tuning::Unmet(Conflict {
                 goal: place,
                 together,

@@ -1,5 +1,5 @@
 -- What stands at each turn of the loop in `check`.
-use Rattle.std.proofs.Common.{ℕ, ◌+◌, ◌<◌, length}
+use Rattle.std.proofs.Common.{ℕ, ◌+◌, ◌*◌, ◌<◌, ◌≤◌, length}
 use Rattle.bw_check.specs.declared.fault.CheckFault.{CheckFault}
 use Rattle.bw_model.specs.Certificate.{certified_of}
 use Rattle.bw_check.specs.Faults.{check_fault_number}
@@ -7,6 +7,10 @@ use Rattle.bw_check.specs.Verdict.{IsFree}
 use Rattle.bw_check.proofs.checking.check.Given as goal
 
 abbrev pub invariant-loop-fault : goal.invariant-loop-fault
-invariant-loop-fault l = (f : CheckFault) (g : ℕ) → check_fault_number f < 51 + l.fault-index
-    → g < length l.instance.rows →
-    IsFree l.instance l.amounts (certified_of l.certificate) l.tables.bounds.items f g
+invariant-loop-fault l = record {
+  free : (f : CheckFault) (g : ℕ) → check_fault_number f < 51 + l.fault-index
+      → g < length l.instance.rows →
+      IsFree l.instance l.amounts (certified_of l.certificate) l.tables.bounds.items f g;
+  twice : l.fn.visits.steps + 2 * length l.instance.rows ≤ l.visits.steps;
+  most : l.visits.steps ≤ l.fn.visits.steps + (5 + l.fault-index) * length l.instance.rows;
+}

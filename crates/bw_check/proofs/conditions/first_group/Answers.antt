@@ -2,10 +2,10 @@
 use Rattle.std.proofs.Common.{◌≡◌, true, false, sym, ◌∙◌, arith}
 use Rattle.bw_check.proofs.conditions.first_group.Goals as goal
 
-pub returns-then-not-is_free : goal.returns-then-not-is_free
-returns-then-not-is_free c = (
+pub returns-then-not-is_free-clause-first : goal.returns-then-not-is_free-clause-first
+returns-then-not-is_free-clause-first c = (
   omega (arith, c.loop-g-test.true, c.group_count-g-end.ensures.count),
   λ free. let yes : c.is_free.result ≡ true =
       c.is_free.ensures.1 free in let clash : true ≡ false = sym yes ∙ c.if-not-is_free.true in cc,
-  c.loop-g.invariant,
+  c.loop-g.invariant.free,
 )

@@ -25,6 +25,7 @@ loop-g-init c =
           c.in_ok-amounts_below.amounts_below.items amounts_are;
       free = free_none groups c.args.amounts.now (certified_of c.args.certificate.now)
           c.in_ok-bounds_below.bounds_below.items bounds_are;
+      visited = omega (arith, c.in_ok-siblings.ensures.whole);
     }
 
 pub free_bound-requires-clause-amounts_below : goal.free_bound-requires-clause-amounts_below
@@ -75,6 +76,7 @@ loop-g-preserved-else-not-is_added-2 c =
           (free_child groups c.args.amounts.now certificate c.requires.valid.tree c.loop-g.g g
           c.in-Some.bound table next within c.loop-g.invariant.free bound_is
           c.in-Some.ensures.free parent up there);
+      visited = omega (arith, c.one_more.ensures, c.loop-g.invariant.visited, c.loop-g-test.true);
     }
 
 pub loop-g-preserved : goal.loop-g-preserved
@@ -96,10 +98,11 @@ loop-g-preserved c =
       free = free_top groups c.args.amounts.now certificate c.requires.valid.tree c.loop-g.g g
           c.in-Some.bound table next within c.loop-g.invariant.free bound_is
           c.in-Some.ensures.free none;
+      visited = omega (arith, c.one_more.ensures, c.loop-g.invariant.visited, c.loop-g-test.true);
     }
 
-pub returns : goal.returns
-returns c _ =
+pub returns-clause-shown : goal.returns-clause-shown
+returns-clause-shown c _ =
     let groups : Groups = record { shape = c.args.shape; rows = c.args.rows.now } in
     let certificate = certified_of c.args.certificate.now in
     let tree = c.requires.valid.tree in

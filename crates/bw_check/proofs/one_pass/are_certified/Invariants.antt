@@ -1,5 +1,5 @@
 -- What stands at each turn of the loop in `are_certified`.
-use Rattle.std.proofs.Common.{length}
+use Rattle.std.proofs.Common.{◌≡◌, ◌+◌, ◌*◌, length}
 use Rattle.std.specs.Prelude.{slice_index}
 use Rattle.bw_model.specs.Certificate.{certified_of}
 use Rattle.bw_check.specs.Counts.{AreGathered, from_row}
@@ -12,4 +12,5 @@ invariant-loop-g l = record {
       l.amounts_below.items;
   free : AreFreeFrom (record { shape = l.shape; rows = l.rows }) l.amounts
       (certified_of l.certificate) l.g l.bounds_below.items;
+  visited : l.visits.steps + l.g ≡ l.fn.visits.steps + 2 * length l.rows;
 }

@@ -1,5 +1,5 @@
 -- The goals of `bounds` that are answered by hand.
-use Rattle.std.proofs.Common.{◌≡◌, ℕ, suc, ◌+◌, ◌-◌, ◌<◌, length, get_or, replicate, ap, subst, sym}
+use Rattle.std.proofs.Common.{◌≡◌, ℕ, suc, ◌+◌, ◌-◌, ◌<◌, length, get_or, replicate, ap, subst, sym, refl}
 use Rattle.std.proofs.Common.{◌∙◌, arith, rules}
 use Rattle.std.proofs.lemmas.Grind.{get_or_default_zero}
 use Rattle.bw_model.specs.Certificate.{certified_of}
@@ -25,6 +25,7 @@ loop-g-init c =
           c.in_ok-below.below.items c.in_ok-bounds.bounds.items below_all bounds_all;
       small = none_small c.args.instance.now (certified_of c.args.certificate.now)
           c.group_count-count.ensures.valid.tree c.in_ok-below.below.items below_all;
+      visited = refl;
     })
 
 within_of : (c : After-bound_of-bound) → c.loop-g.g - 1 < length c.args.instance.now.rows
@@ -94,6 +95,7 @@ loop-g-preserved-in-Some c =
           below next c.loop-g.invariant.small
           (omega (arith, c.bound_of-bound.ensures.small, here)) c.in-Some.parent sum before
           (omega (arith, within, c.loop-g.invariant.made.summed.one_each, before)) sum_is;
+      visited = omega (arith, c.one_more.ensures, c.loop-g.invariant.visited, c.loop-g-test.true);
     }
 
 pub loop-g-preserved : goal.loop-g-preserved
@@ -112,10 +114,11 @@ loop-g-preserved c =
       small = small_top c.args.instance.now c.loop-g.g (c.loop-g.g - 1) c.bound_of-bound.result
           below next c.loop-g.invariant.small
           (omega (arith, c.bound_of-bound.ensures.small, here));
+      visited = omega (arith, c.one_more.ensures, c.loop-g.invariant.visited, c.loop-g-test.true);
     }
 
-pub returns : goal.returns
-returns c =
+pub returns-clause-bounds : goal.returns-clause-bounds
+returns-clause-bounds c =
     let done : c.loop-g.g ≡ 0 = omega (arith, c.loop-g-test.false) in
     all_made c.args.instance.now (certified_of c.args.certificate.now)
     c.group_count-count.ensures.valid.tree c.loop-g.below.items c.loop-g.bounds.items

@@ -46,6 +46,7 @@ loop-c-preserved c = elim c.match-parent.branch [
         counted = gathered_child rows (λ _. 1) c.loop-c.c w.in-Some.parent
             (w.index-place.result.now + 1) children up found.0
             (omega (arith, found.1)) c.loop-c.invariant.counted;
+        visited = omega (arith, c.one_more.ensures, c.loop-c.invariant.visited);
       })
   | in_default w ↦
       let places_are = ap (λ (v : Vec ℕ Global). v.items) w.places-is in
@@ -56,5 +57,6 @@ loop-c-preserved c = elim c.match-parent.branch [
             c.loop-c.invariant.placed none;
         counted = gathered_top c.args.rows.now (λ _. 1) c.loop-c.c c.loop-c.children.items
             none c.loop-c.invariant.counted;
+        visited = omega (arith, c.one_more.ensures, c.loop-c.invariant.visited);
       })
 ]

@@ -13,8 +13,8 @@ index-requires c =
       c.in_ok-plan.plan.amounts.ok.0,
     )
 
-pub returns : goal.returns
-returns c =
+pub returns-clause-reached : goal.returns-clause-reached
+returns-clause-reached c =
     reached_by c.args.instance.now c.args.group c.args.amount c.index.result.now
     c.in_ok-plan.plan.amounts.items c.rows-rows.ensures.valid.tree c.in_ok-plan.ensures
     (get_or_read c.in_ok-plan.plan.amounts.items c.args.group c.index.result.now

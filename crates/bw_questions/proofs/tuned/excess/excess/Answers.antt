@@ -40,6 +40,19 @@ returns-then-goal-left-clause-first c = λ amounts n plan n_in fits above.
     (omega (arith, value, c.loop-place.invariant.spent)) c.if-goal-left.true amounts n plan fits
     above
 
+pub returns-then-goal-left-clause-much : goal.returns-then-goal-left-clause-much
+returns-then-goal-left-clause-much c =
+    let value : c.index-left.result.now ≡ get_or c.in_ok-planned.planned.amounts.items 0 0 =
+    get_or_read c.in_ok-planned.planned.amounts.items 0 c.index-left.result.now
+    (inside_plan c.args.instance.now c.rows-rows.ensures.valid
+    c.in_ok-planned.planned.amounts.items c.in_ok-planned.ensures 0
+    c.rows-rows.ensures.valid.tree.has_root)
+    c.index-left.ensures 0 in (
+      c.in_ok-planned.planned.amounts.items,
+      c.in_ok-planned.ensures,
+      omega (arith, value, c.loop-place.invariant.spent, c.if-goal-left.true),
+    )
+
 pub returns-clause-none : goal.returns-clause-none
 returns-clause-none c =
     let value : c.index-left.result.now ≡ get_or c.in_ok-planned.planned.amounts.items 0 0 =

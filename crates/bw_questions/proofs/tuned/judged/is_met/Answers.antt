@@ -13,8 +13,8 @@ reaches-requires c =
     rw c.in_ok-shown.ensures
     (judged_inside c.args.measure c.args.instance.now c.args.goal.group c.requires)
 
-pub returns : goal.returns
-returns c =
+pub returns-clause-met : goal.returns-clause-met
+returns-clause-met c =
     let tells = met_by_judged c.there_is_one_plan.ensures c.args.measure c.args.instance.now
     c.rows-rows.ensures.valid c.args.goal c.requires in
     IfOk-weaker c.reaches.result _ _
@@ -27,4 +27,4 @@ returns c =
       λ yes_met. tells.0 (known.0 yes_met),
       λ is. known.1 (tells.1 is),
     ))
-    c.reaches.ensures
+    c.reaches.ensures.reached

@@ -31,7 +31,7 @@ returns-clause-least c =
     (λ w. Reaches (with_weight groups c.args.goal.group w) c.args.goal.group c.args.goal.amount)
     MIN_WEIGHT MAX_WEIGHT found)
     c.in_ok-shown.ensures h))
-    c.least_weight.ensures
+    c.least_weight.ensures.least
 
 pub returns-clause-more : goal.returns-clause-more
 returns-clause-more c =
@@ -45,4 +45,4 @@ returns-clause-more c =
     (λ w. Reaches (with_weight groups c.args.goal.group w) c.args.goal.group c.args.goal.amount)
     MIN_WEIGHT MAX_WEIGHT found)
     c.in_ok-shown.ensures h))
-    c.least_weight.ensures
+    c.least_weight.ensures.least

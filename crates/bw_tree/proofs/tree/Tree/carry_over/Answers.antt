@@ -11,13 +11,13 @@ invariant_of-self c =
     let t : TreeState =
     record { groups = c.self.inside.groups.items; next = c.self.inside.next_id } in
     subst (λ es. IsIndexedTree (record { groups = es; next = c.self.inside.next_id })
-    c.self.inside.seed c.self.inside.children c.self.inside.nodes.items)
+    c.self.inside.index.seed c.self.inside.index.children c.self.inside.nodes.items)
     (sym c.write_carries.ensures)
     (record {
       tree = carried_IsTree t _ c.self.invariant.tree;
       fronts = c.self.invariant.fronts;
-      index = index_carried t.groups _ (child_key c.self.inside.seed c.self.invariant.fronts)
-          c.self.inside.children c.self.invariant.index;
+      index = index_carried t.groups _ (child_key c.self.inside.index.seed c.self.invariant.fronts)
+          c.self.inside.index.children c.self.invariant.index;
       nodes = nodes_carried t.groups _ c.self.invariant.fronts c.self.inside.nodes.items
           c.self.invariant.nodes;
     })

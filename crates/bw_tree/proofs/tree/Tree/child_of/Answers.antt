@@ -28,13 +28,13 @@ returns-in_default c =
 pub returns : goal.returns
 returns c =
     let gs = c.self.inside.groups.items in
-    let seed = c.self.inside.seed in
+    let seed = c.self.inside.index.seed in
     let own = node_read (IsNodeOf gs c.self.invariant.fronts) gs c.self.inside.nodes.items
     c.args.parent c.in-Some.above
     (stands_at gs c.args.parent c.in-Some.above (sym c.place_of.ensures.place ∙ c.in-Some.is))
     c.self.invariant.nodes in
     c.get.ensures
-    ∙ ap (λ k. child_at gs c.self.inside.children k c.args.parent c.args.name.now)
+    ∙ ap (λ k. child_at gs c.self.inside.index.children k c.args.parent c.args.name.now)
     (c.number-key.ensures ∙ ap (number seed) (c.path_below-path.ensures
     ∙ ap (λ h. with_bytes seed h c.args.name.now) own.front))
     ∙ c.self.invariant.index.children c.args.parent c.args.name.now

@@ -8,22 +8,22 @@ use Rattle.bw_tree.proofs.IndexLemmas.{tree_named, same_entries}
 use Rattle.bw_tree.proofs.NodeLemmas.{as_many}
 use Rattle.bw_tree.proofs.tree.Tree.copy.Goals as goal
 
-pub index_of-requires-clause-rising : goal.index_of-requires-clause-rising
-index_of-requires-clause-rising c =
+pub copy_to-requires-clause-rising : goal.copy_to-requires-clause-rising
+copy_to-requires-clause-rising c =
     let same = same_entries c.self.inside.groups.items c.in_ok-groups.groups.items
     c.in_ok-groups.ensures.cases.0 in
     subst AreRising (sym same) c.self.invariant.tree.rising
 
-pub index_of-requires-clause-named : goal.index_of-requires-clause-named
-index_of-requires-clause-named c =
+pub copy_to-requires-clause-named : goal.copy_to-requires-clause-named
+copy_to-requires-clause-named c =
     let t : TreeState =
     record { groups = c.self.inside.groups.items; next = c.self.inside.next_id } in
     let same = same_entries c.self.inside.groups.items c.in_ok-groups.groups.items
     c.in_ok-groups.ensures.cases.0 in
     subst (λ es. AreNamed es es) (sym same) (tree_named t c.self.invariant.tree)
 
-pub index_of-requires-clause-long : goal.index_of-requires-clause-long
-index_of-requires-clause-long c =
+pub copy_to-requires-clause-long : goal.copy_to-requires-clause-long
+copy_to-requires-clause-long c =
     let same = same_entries c.self.inside.groups.items c.in_ok-groups.groups.items
     c.in_ok-groups.ensures.cases.0 in
     let beside = each_same c.self.inside.nodes.items c.in_ok-nodes.nodes.items
@@ -46,7 +46,7 @@ invariant_of-result c =
       tree = subst (λ es. IsTree (record { groups = es; next = c.self.inside.next_id })) (sym same)
           c.self.invariant.tree;
       fronts = c.self.invariant.fronts;
-      index = c.in_ok-children.ensures.index c.self.invariant.fronts nodes;
+      index = c.in_ok-index.ensures.index c.self.invariant.fronts nodes;
       nodes = nodes;
     }
 

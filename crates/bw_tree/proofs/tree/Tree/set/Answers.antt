@@ -19,10 +19,10 @@ invariant_of-self c =
       inner = c.if-id-eq0.false;
     } in
     let kept = index_set (changed_by s) t.groups
-    (child_key c.self.inside.seed c.self.invariant.fronts) c.args.id c.self.inside.children
+    (child_key c.self.inside.index.seed c.self.invariant.fronts) c.args.id c.self.inside.index.children
     (same_parent_by s) (same_name_by s) c.self.invariant.index in
     subst (λ es. IsIndexedTree (record { groups = es; next = c.self.inside.next_id })
-    c.self.inside.seed c.self.inside.children c.self.inside.nodes.items)
+    c.self.inside.index.seed c.self.inside.index.children c.self.inside.nodes.items)
     (sym c.write_setting.ensures)
     (record {
       tree = setting_IsTree t c.args.id c.self.invariant.tree s can c.requires;

@@ -1,0 +1,122 @@
+"""Sources that a running service tells: `k8s://[CONTEXT]`, `docker://`, `podman://`, `systemd://`.
+
+Each is asked by the tool that its users have, which prints and changes nothing. The others than a
+cluster are of this machine. An answer has bounds.
+"""
+from __future__ import annotations
+
+import json
+import os
+import signal
+import subprocess
+import tempfile
+import threading
+from collections.abc import Iterator, Sequence
+from contextlib import suppress
+from typing import Any
+from urllib.parse import urlencode
+
+from arbiter_host.faults import HostFault, UsageFault, strerror
+from arbiter_host.names import cut, shown
+from arbiter_host.sources.data import MAX_BYTES, below, loads
+from arbiter_host.sources.kubernetes import items_of
+
+# The words before all others by which each tool asks its service.
+TOOLS = {"k8s": ["kubectl"], "docker": ["docker", "--host=unix:///var/run/docker.sock"],
+         "podman": ["podman", "--remote=false"], "systemd": ["systemctl"]}
+UNITS = ("show", "*.slice", "*.service", "*.scope")
+# The lists of the API server.
+NODES, PODS, METRICS = "/api/v1/nodes", "/api/v1/pods", "/apis/metrics.k8s.io/v1beta1/pods"
+# Seconds of one answer, objects of a page, and pages.
+SECONDS, PAGE, MOST_PAGES = 120, 500, 2000
+
+
+def end(process: subprocess.Popen[bytes]) -> None:
+    """Ends a command with all that it began."""
+    with suppress(ProcessLookupError):
+        os.killpg(process.pid, signal.SIGKILL)
+
+
+def printed(words: Sequence[str]) -> bytes:
+    """What a command prints. A fault where it fails, prints too much or takes too long."""
+    try:
+        with tempfile.TemporaryFile() as said, subprocess.Popen(
+                words, stdin=subprocess.DEVNULL, stdout=subprocess.PIPE, stderr=said,
+                env={**os.environ, "LC_ALL": "C"}, start_new_session=True) as process:
+            timer = threading.Timer(SECONDS, end, [process])
+            timer.start()
+            try:
+                data = process.stdout.read(MAX_BYTES + 1) if process.stdout else b""
+                is_long = len(data) > MAX_BYTES
+                status = None if is_long else process.wait()
+            finally:
+                timer.cancel()
+                end(process)
+            said.seek(0)
+            last = said.read(4000).decode(errors="replace").strip().split("\n")[-1]
+    except OSError as error:
+        raise HostFault(f"{words[0]}: {strerror(error)}") from error
+    if status:
+        why = f"no whole answer in {SECONDS} seconds" if status == -signal.SIGKILL else (
+            shown(cut(last, 300)) or f"status {status}")
+        raise HostFault(f"{words[0]}: {why}")
+    if is_long:
+        raise HostFault(f"{words[0]}: an answer of more than {MAX_BYTES >> 20} MiB")
+    return data
+
+
+class RunningService:
+    """The service of a word such as `k8s://prod`."""
+
+    def __init__(self, word: str) -> None:
+        self.kind, _, context = word.partition("://")
+        if context and self.kind != "k8s":
+            raise UsageFault(f"{shown(word)}: {self.kind}:// is of this machine alone")
+        self.tool = [*TOOLS[self.kind], *([f"--context={context}"] if context else [])]
+
+    def told(self, *words: str) -> bytes:
+        """What its tool prints."""
+        return printed([*self.tool, *words])
+
+    def objects(self, path: str, kind: str, **asked: str) -> Iterator[dict[str, Any]]:
+        """The objects of a list of the API server, page by page, each with its kind."""
+        size, mark = 0, ""
+        for _ in range(MOST_PAGES):
+            words = urlencode({"limit": PAGE, **asked, **({"continue": mark} if mark else {})})
+            data = self.told("get", "--raw", f"{path}?{words}")
+            size, page = size + len(data), loads(data, path)
+            if size > MAX_BYTES:
+                break
+            if not isinstance(below(page, "items"), list):
+                raise HostFault(f"{path}: no list of objects")
+            yield from ({**each, "kind": kind} for each in items_of(page, path))
+            mark = str(below(page, "metadata", "continue") or "")
+            if not mark:
+                return
+        raise HostFault(f"{path}: more than {MAX_BYTES >> 20} MiB, or {MOST_PAGES} pages")
+
+    def cluster(self, node: str) -> bytes:
+        """The nodes of a cluster and all pods, or one node and its pods."""
+        one = {"fieldSelector": f"metadata.name={node}"} if node else {}
+        its = {"fieldSelector": f"spec.nodeName={node}"} if node else {}
+        items = [*self.objects(NODES, "Node", **one), *self.objects(PODS, "Pod", **its)]
+        return json.dumps({"kind": "List", "items": items}).encode()
+
+    def source(self, node: str = "") -> bytes:
+        """What it tells of its groups, as its tool prints it."""
+        if self.kind == "k8s":
+            return self.cluster(node)
+        if self.kind == "systemd":
+            return self.told(*UNITS)
+        known = self.told("ps", "-q", "--no-trunc").decode("ascii", "replace").split()
+        return self.told("inspect", "--type", "container", *known) if known else b"[]"
+
+    def used(self) -> bytes:
+        """What its containers used at one time, as its tool prints it."""
+        if self.kind == "systemd":
+            raise UsageFault("--used: systemd:// tells what units used where it is the source")
+        if self.kind == "k8s":
+            items = list(self.objects(METRICS, "PodMetrics"))
+            return json.dumps({"kind": "PodMetricsList", "items": items}).encode()
+        form = "{{json .}}" if self.kind == "docker" else "json"
+        return self.told("stats", "--no-stream", "--format", form)

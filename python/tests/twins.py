@@ -1,0 +1,211 @@
+"""Small models of what sets weights and limits of groups and tells their use, each from the words
+of its makers: Kubernetes ("Resource Management", "Pod Quality of Service Classes", kubelet's
+`ResourceConfigForPod`), runc's conversion of shares, docker run(1), systemd.resource-control(5),
+sacct(1) and sstat(1), and Prometheus ("Functions", cAdvisor's metrics).
+
+Nothing here is of the package under test. Amounts are exact fractions of a CPU.
+"""
+from decimal import Decimal, getcontext
+from fractions import Fraction
+
+getcontext().prec = 60
+LEAST, MOST = 2, 262144
+SUFFIX = {"n": -9, "u": -6, "m": -3, "": 0, "k": 3, "M": 6, "G": 9}
+BINARY = {"Ki": 10, "Mi": 20, "Gi": 30}
+
+
+# Kubernetes
+
+def quantity(value):
+    """A quantity of Kubernetes: a decimal number with a suffix or an exponent."""
+    word = str(value)
+    for suffix, power in BINARY.items():
+        if word.endswith(suffix):
+            return Fraction(word[:-2]) * 2 ** power
+    if word[-1] in SUFFIX and word[-1]:
+        return Fraction(word[:-1]) * Fraction(10) ** SUFFIX[word[-1]]
+    return Fraction(word)
+
+
+def milli(value):
+    """MilliValue: whole thousandths, rounded up. None stays."""
+    return None if value is None else -int(-quantity(value) * 1000 // 1)
+
+
+def defaulted(resources):
+    """CPU and memory in thousandths, each as request and limit, as the API server keeps them: it
+    rounds up to thousandths, and a limit alone is the request too."""
+    found = {}
+    for kind in ("cpu", "memory"):
+        request, limit = (milli(resources.get(key, {}).get(kind)) for key in ("requests", "limits"))
+        found[kind] = (limit if request is None else request, limit)
+    return found
+
+
+def own_of(spec):
+    """CPU and memory of a pod itself. A limit without a request is the request where no container
+    requests any; else that is what its containers request."""
+    found = defaulted(spec.get("resources", {}))
+    for kind, (_, limit) in found.items():
+        if limit is not None and kind not in spec["resources"].get("requests", {}):
+            parts = spec["containers"] + spec.get("initContainers", [])
+            if any(defaulted(part.get("resources", {}))[kind][0] is not None for part in parts):
+                found[kind] = (of_containers(spec, kind, 0)[0], limit)
+    return found
+
+
+def quality(pod):
+    """The class: guaranteed where each container has limits of CPU and memory that are its
+    requests, best effort where none asks for anything. Zero asks for nothing. Amounts of the pod
+    itself stand for those of its containers."""
+    spec = pod["spec"]
+    own = own_of(spec)
+    if any(value is not None for pair in own.values() for value in pair):
+        each = [own]
+    else:
+        each = [defaulted(part.get("resources", {})) for part in (
+            spec.get("initContainers", []) + spec["containers"])]
+    pairs = [pair for found in each for pair in found.values()]
+    pairs = [tuple(value or 0 for value in pair) for pair in pairs]
+    if not any(value for pair in pairs for value in pair):
+        return "BestEffort"
+    return "Guaranteed" if all(limit and request == limit for request, limit in pairs) else (
+        "Burstable")
+
+
+def of_containers(spec, kind, at):
+    """What the containers of a pod request (at 0) or may use (1) in all, and whether each has some:
+    an init container counts with the sidecars begun before it."""
+    declared, total, sidecars, most = True, 0, 0, 0
+    for part in spec["containers"]:
+        value = defaulted(part.get("resources", {}))[kind][at] or 0
+        declared, total = declared and value > 0, total + value
+    for part in spec.get("initContainers", []):
+        value = defaulted(part.get("resources", {}))[kind][at] or 0
+        if part.get("restartPolicy") == "Always":
+            sidecars, total = sidecars + value, total + value
+            now = sidecars
+        else:
+            now = sidecars + value
+        declared, most = declared and now > 0, max(most, now)
+    return max(total, most), declared
+
+
+def whole_pod(pod, at):
+    """PodRequests or PodLimits of CPU, and whether each container has some."""
+    spec = pod["spec"]
+    total, declared = of_containers(spec, "cpu", at)
+    own = own_of(spec)["cpu"][at]
+    if own is not None:
+        total, declared = own, own > 0
+    return total + (milli(spec.get("overhead", {}).get("cpu")) or 0), declared
+
+
+def shares(thousandths):
+    """MilliCPUToShares."""
+    return max(LEAST, min(MOST, int(thousandths * 1024 / 1000)))
+
+
+def quota(thousandths):
+    """MilliCPUToQuota of a period of 100 ms; None for no limit."""
+    return max(1000, thousandths * 100000 // 1000) if thousandths else None
+
+
+def linear(shares_):
+    """The weight of shares that kubelet and older runtimes write."""
+    return 1 + ((shares_ - 2) * 9999) // 262142
+
+
+def logarithmic(shares_):
+    """The weight of shares by runc 1.3.2 and crun 1.23: quadratic in the logarithm."""
+    if shares_ <= LEAST:
+        return 1
+    if shares_ >= MOST:
+        return 10000
+    log = Decimal(shares_).ln() / Decimal(2).ln()
+    exponent = (log * log + 125 * log) / 612 - Decimal(7) / 34
+    power = (exponent * Decimal(10).ln()).exp()
+    near = power.to_integral_value()
+    return int(near if abs(power - near) < Decimal(10) ** -40 else power.to_integral_value(
+        rounding="ROUND_CEILING"))
+
+
+def groups_of_pods(pods, node, conversion):
+    """Weight and quota of each group of the pods of a node, by title: a pod's and its containers'.
+    The first says kubepods, its two classes by their names."""
+    found = {"kubepods": (linear(shares(milli(node))), None)}
+    burstable = sum(whole_pod(pod, 0)[0] for pod in pods if quality(pod) == "Burstable")
+    found["burstable"], found["besteffort"] = (linear(shares(burstable)), None), (1, None)
+    for pod in pods:
+        title = "/".join(pod["metadata"][key] for key in ("namespace", "name"))
+        (request, _), (limit, declared), class_ = whole_pod(pod, 0), whole_pod(pod, 1), quality(pod)
+        found[title] = ((1, None) if class_ == "BestEffort" else
+                        (linear(shares(request)), quota(limit) if declared else None))
+        own = own_of(pod["spec"])["cpu"][1]
+        for part in pod["spec"].get("initContainers", []) + pod["spec"]["containers"]:
+            asked, most = defaulted(part.get("resources", {}))["cpu"]
+            most = most or own
+            asked = most if asked is None else asked
+            found[f"{title}/{part['name']}"] = conversion(shares(asked or 0)), quota(most or 0)
+    return found
+
+
+# docker
+
+def docker(config):
+    """Weight, quota and period: shares by runc, 0 for the default; CPUs in billionths, else a quota
+    of a period of 100 ms unless it is said."""
+    shares_, nano = config.get("CpuShares") or 0, config.get("NanoCpus") or 0
+    weight = linear(max(LEAST, min(MOST, shares_))) if shares_ else 100
+    if nano:
+        return weight, max(1000, nano * 100000 // 10**9), 100000
+    given, period = config.get("CpuQuota") or 0, config.get("CpuPeriod") or 100000
+    return (weight, given, period) if given > 0 else (weight, None, None)
+
+
+# systemd
+
+def unit(weight, shares_, per_second, period):
+    """The weight and cpu.max of a unit: CPUWeight, else CPUShares of 1024 as 100; CPUQuota as
+    microseconds of a second, in a period of 1 ms to 1 s in which it is at least 1 ms."""
+    if weight == "idle":
+        value = 1
+    elif weight is not None:
+        value = weight
+    elif shares_ is not None:
+        value = max(1, min(10000, shares_ * 100 // 1024))
+    else:
+        value = 100
+    if per_second is None:
+        return value, None, None
+    long = max(period or 100000, 1000 * 10**6 // per_second)
+    long = max(1000, min(10**6, long))
+    return value, max(1000, per_second * long // 10**6), long
+
+
+# Slurm
+
+def clock(seconds):
+    """Seconds as sacct prints them: [DAYS-]HOURS:MINUTES:SECONDS."""
+    days, rest = divmod(seconds, 86400)
+    return (f"{days}-" if days else "") + f"{rest // 3600:02}:{rest % 3600 // 60:02}:{rest % 60:02}"
+
+
+def step_use(total, average, tasks, elapsed, nodes):
+    """CPUs that a step uses on each of its nodes: what sstat says of all tasks, as the average of
+    one by their number, else what sacct has accounted."""
+    seconds = average * tasks if average is not None else total
+    return Fraction(seconds, elapsed) / nodes
+
+
+# Prometheus
+
+def container_use(series):
+    """Use of each container at each time: the sum over all series of the container."""
+    found = {}
+    for labels, values in series:
+        key = tuple(labels[name] for name in ("namespace", "pod", "container"))
+        for at, value in values.items():
+            found.setdefault(key, {}).setdefault(at, Fraction(0))
+            found[key][at] += Fraction(value)
+    return found
