@@ -252,6 +252,8 @@ class Loop:
         # The number of tasks of each leaf at the last reading.
         self.tasks: dict[str, int] = {}
         self.tell = output.Remarks().tell
+        # What stood in each group and what it may hold by this loop, as the undo file has it.
+        self.undo: list[Change] = []
         # Whether it was told that limits are rounded up.
         self.has_rounded = False
         # Whether no group was kubelet's when the loop began.
@@ -496,9 +498,12 @@ class Loop:
         if self.record is None:
             return 0
         try:
-            text = self.undo_text()
-            if changed or self.record.text not in ("", text):
-                self.record.put(text)
+            undo = [Change(kept.folder, kept.old, kept.target, earlier=(kept.stands,))
+                    for kept in self.groups.values()
+                    if not kept.old == kept.stands == kept.target]
+            if changed or self.record.text and undo != self.undo:
+                self.record.put(apply.undo_text(self.root, undo, By.FILES))
+                self.undo = undo
             for kept in changed:
                 self.set(kept)
         except HostFault as fault:
@@ -529,13 +534,6 @@ class Loop:
         except OSError:
             return True
         return safe_files.is_of_others(status, 0o022)
-
-    def undo_text(self) -> str:
-        """What stood in each group, and what it may hold by this loop."""
-        return apply.undo_text(self.root, (
-            Change(kept.folder, kept.old, kept.target, earlier=(kept.stands,))
-            for kept in self.groups.values() if not kept.old == kept.stands == kept.target),
-            By.FILES)
 
     def put_back(self, groups: Iterable[Kept]) -> None:
         """Puts back what stood; what somebody else set stays, and is told. A fault of one group is
