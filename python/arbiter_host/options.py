@@ -192,8 +192,10 @@ TABLE = (
            helps={"undo": "also over what somebody set since `apply`"}),
     Option(("--weights",), "weights", "doing", ("hold",), "also write weights from the limits,"
            " which tell Linux how near each task is to a whole CPU", is_flag=True),
-    Option(("--pod",), "pod", "many hosts", ("place",), "a pod that is put into each host; may be"
-           " said again", "FILE", is_many=True),
+    Option(("--pod", "--pods"), "pod", "pods", ("place", "top"), "a pod that is put into each host;"
+           " may be said again", "FILE", is_many=True, kinds_of={"top": ("cgroup",)},
+           helps={"top": "the pods whose groups a tree has, so that these have their names: what"
+                         " `kubectl get pods -A -o json` prints, or k8s://; may be said again"}),
     Option(("--rank",), "rank", "many hosts", ("place", "explain"), "the rule by which hosts are"
            " ordered for a pod (default least-loss)", choices=RANKS, default="least-loss",
            kinds=(HOSTS,)),
@@ -232,9 +234,6 @@ TABLE = (
                                " -A --containers` prints it, a tree of cgroups, or the address of a"
                                " Prometheus",
                   "audit": "the address of the Prometheus that knows what the groups used"}),
-    Option(("--pods",), "pods", "source", ("top",), "the pods whose groups a tree has, so that"
-           " these have their names: what `kubectl get pods -A -o json` prints, or k8s://",
-           "FILE", is_many=True, kinds=("cgroup",)),
     Option(("--range",), "range", "source", DEMAND, "the time that is asked of a Prometheus: 7d up"
            " to now, or START/END as epochs or RFC 3339 (default 1d, of recommend 14d)", "TIME",
            kinds=(), used=("url",)),

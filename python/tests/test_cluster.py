@@ -215,8 +215,8 @@ def test_replay_of_a_cluster(ctl, folder):
     out, _ = ctl.run("replay", CLUSTER, "--used", folder / "h.csv", *NEEDS, "-o", "json")
     found = json.loads(out)["hosts"]
     assert [[(each["group"], each["wanted"]) for each in host["groups_of_columns"]]
-            for host in found] == [[("kubepods/prod:db-0/postgres", 300)],
-                                   [("kubepods/burstable/prod:api-0/main", 80)]]
+            for host in found] == [[("kubepods/prod:db-0/postgres", 3000)],
+                                   [("kubepods/burstable/prod:api-0/main", 800)]]
 
 
 def test_pods_of_one_shape_are_asked_once(folder):

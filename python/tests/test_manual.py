@@ -97,6 +97,10 @@ def examples(ctl, folder):
     fixtures = PACKAGE / "tests/fixtures"
     for name in ("pods.json", "node.json", "cluster.json"):
         shutil.copy(fixtures / name, folder)
+    items = json.loads((fixtures / "cluster.json").read_text())["items"]
+    for name, kind in (("nodes", "Node"), ("pods", "Pod")):
+        (folder / name).write_text(json.dumps({"items": [
+            each for each in items if each["kind"] == kind]}))
     (folder / "pods.csv").write_text("time,prod/db-0\n10:00,0.5\n10:30,0.7\n")
     host = ("[host]\ncpus = 16\nslice = \"1ms\"\n[groups.web]\nweight = 200\nmax = \"2cpu\"\n"
             "demand = \"3cpu\"\n[groups.batch]\ndemand = \"20cpu\"\n")
@@ -120,8 +124,9 @@ def examples(ctl, folder):
         trees.group2(folder / f"copy-{at}/web.service", usage=at * 10**6)
     (folder / "bin").mkdir()
     for name, text in (("arbiterctl", f'exec {sys.executable} {PACKAGE}/arbiterctl "$@"'),
-                       ("kubectl", f"case $1 in top) cat {fixtures}/top.txt;"
-                        f" echo prod api-0 main 70m 9Mi;; *) cat {fixtures}/cluster.json;; esac"),
+                       ("kubectl", f"case $* in top*) cat {fixtures}/top.txt;"
+                        f" echo prod api-0 main 70m 9Mi;; *--raw*nodes*) cat {folder}/nodes;;"
+                        f" *--raw*) cat {folder}/pods;; *) cat {fixtures}/cluster.json;; esac"),
                        ("systemctl",
                         "case \"$*\" in 'show --property=ControlGroup '*) echo /web.service;;"
                         f" show*) cat {fixtures}/units.show;;"

@@ -178,12 +178,12 @@ _arbiterctl() {
                 --alert) ;;
                 --command) ;;
                 --listen) ;;
+                --pod|--pods) ;;
                 --from) mapfile -t COMPREPLY < <(compgen -W "script toml json cgroup kubernetes systemd docker slurm" -- "$word") ;;
                 --want) mapfile -t COMPREPLY < <(compgen -W "usage peak p95 psi limit request busy" -- "$word") ;;
                 --scale) ;;
                 --read) ;;
                 --used) ;;
-                --pods) ;;
                 --range) ;;
                 --step) ;;
                 --query) ;;
@@ -194,7 +194,7 @@ _arbiterctl() {
                 --slice) ;;
                 --library) ;;
                 *)
-                    [[ $word == -* ]] && mapfile -t COMPREPLY < <(compgen -W "-g --group -n --namespace -l --selector -o --output --state --sort --depth --unit --all -v --verbose --alert --command --listen --from --want --scale --read --used --pods --range --step --query --node --node-weights --strict --cpus --period --slice --library -h --help" -- "$word")
+                    [[ $word == -* ]] && mapfile -t COMPREPLY < <(compgen -W "-g --group -n --namespace -l --selector -o --output --state --sort --depth --unit --all -v --verbose --alert --command --listen --pod --pods --from --want --scale --read --used --range --step --query --node --node-weights --strict --cpus --period --slice --library -h --help" -- "$word")
                     ;;
             esac
             ;;
@@ -245,7 +245,7 @@ _arbiterctl() {
         place)
             case $given in
                 -o|--output) mapfile -t COMPREPLY < <(compgen -W "text json html" -- "$word") ;;
-                --pod) ;;
+                --pod|--pods) ;;
                 --rank) mapfile -t COMPREPLY < <(compgen -W "least-loss most-left" -- "$word") ;;
                 --workers) ;;
                 --scheduler) ;;
@@ -264,7 +264,7 @@ _arbiterctl() {
                 --slice) ;;
                 --library) ;;
                 *)
-                    [[ $word == -* ]] && mapfile -t COMPREPLY < <(compgen -W "-o --output --all -v --verbose --pod --rank --workers --scheduler --from --want --scale --read --used --range --step --query --node --node-weights --strict --cpus --period --slice --library -h --help" -- "$word")
+                    [[ $word == -* ]] && mapfile -t COMPREPLY < <(compgen -W "-o --output --all -v --verbose --pod --pods --rank --workers --scheduler --from --want --scale --read --used --range --step --query --node --node-weights --strict --cpus --period --slice --library -h --help" -- "$word")
                     ;;
             esac
             ;;

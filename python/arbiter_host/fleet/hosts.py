@@ -15,7 +15,7 @@ from arbiter_host.faults import HostFault, UsageFault, strerror
 from arbiter_host.fleet.work import HostFile
 from arbiter_host.sources import kubernetes, pods
 from arbiter_host.sources.data import below as found_below, loads, table, text
-from arbiter_host.sources.usage import Used, some
+from arbiter_host.sources.usage import Used, of_metrics, some
 
 NODE = re.compile(rb'"kind"\s*:\s*"Node"')
 # Files that a tree of cgroups has, and the folder of a fleet does not.
@@ -141,7 +141,8 @@ def of_cluster(word: str, items: Sequence[dict[str, Any]], used: Sequence[Used] 
             of_node[place].append(pod)
         elif not kubernetes.has_ended(pod):
             (lost if place else pending).append(pod)
-    metrics = metrics_of(used, want or "usage")
+    own = list(of_metrics([each for each in items if each.get("kind") == "PodMetrics"], "usage"))
+    metrics = metrics_of(used or own, want or "usage")
     hosts_ = [host_of(word, node, of_node[name_of(node)], metrics)
               for node in sorted(nodes, key=name_of)]
     here = {title(pod) for each in of_node.values() for pod in each}

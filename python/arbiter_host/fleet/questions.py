@@ -19,6 +19,7 @@ from arbiter_host.output import json_text, warn, write_forms
 from arbiter_host.plan import engine_of
 from arbiter_host.sources import by_options, used
 from arbiter_host.sources.samples import History
+from arbiter_host.sources.usage import some
 
 # What a worker reads of the options. What was used goes to each host with its pods.
 READING = ("kind", "want", "scale", "node", "node_weights", "strict", "cpus", "period", "slice",
@@ -80,7 +81,10 @@ def samples_of(options: argparse.Namespace, fleet: Fleet) -> Samples:
     if not fleet.is_cluster:
         by_host = used.by_host(options)
         return lambda host: by_host(host.name)
-    whole = used.history(options)
+    whole, pods = used.history(options), frozenset().union(*(each.pods for each in fleet.hosts))
+    missing = [each for each in whole.columns if pods.isdisjoint((each, each.rpartition("/")[0]))]
+    if missing:
+        warn(f"{used.name(options)}: samples of no pod here, {some(list(map(names.shown, missing)))}")
     # A column names a pod, or a container of one.
     return lambda host: whole.of_columns(
         lambda column: not host.pods.isdisjoint((column, column.rpartition("/")[0])))

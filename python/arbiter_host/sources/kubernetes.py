@@ -53,7 +53,8 @@ def items_of(data: Any, name: str) -> list[dict[str, Any]]:
         for at, each in enumerate(items, 1):
             if not isinstance(each, dict):
                 raise HostFault(f"{name}: item {at} is no object")
-        return items
+        kind = text(data, "kind").removesuffix("List") or "Pod"
+        return items if kind not in ("Pod", "Node") else [{"kind": kind, **each} for each in items]
     if below(data, "kind") in ("Pod", "Node"):
         return [data]
     if below(data, "kind") in MAKERS:
@@ -64,11 +65,21 @@ def items_of(data: Any, name: str) -> list[dict[str, Any]]:
 def is_pod(item: dict[str, Any]) -> bool:
     """Whether an object is a pod; items of a list need not say so. A fault where one that does has
     not what each pod has."""
+    if item.get("kind", "Pod") != "Pod":
+        return False
     missing = [key for key in ("metadata", "spec") if not isinstance(item.get(key), dict)]
-    if missing and item.get("kind") == "Pod":
+    if missing:
         name = "/".join(names_of(item))
         raise HostFault(f"{shown(name)}: a pod without {missing[0]}: it cannot be read")
-    return item.get("kind", "Pod") == "Pod" and isinstance(item.get("spec"), dict)
+    return True
+
+
+def other_kinds(items: Sequence[dict[str, Any]]) -> list[str]:
+    """A note of objects that are neither pods nor nodes nor what was used, if there are any."""
+    others = [text(each, "kind") for each in items
+              if each.get("kind", "Pod") not in ("Pod", "Node", "PodMetrics")]
+    return [f"objects of other kinds, left out: {len(others)}:"
+            f" {names.few(sorted(set(map(shown, others))))}"] if others else []
 
 
 def has_ended(item: dict[str, Any]) -> bool:
@@ -429,13 +440,14 @@ def read(files: Sequence[File], library: Library, wish: Wish) -> Model:
     wish = wish.for_containers("request", TOP)
     items = [item for name, data in files for item in items_of(loads(data, name), name)]
     node = node_of(items, wish)
-    notes: list[str] = []
+    notes = other_kinds(items)
     capacity, allocatable = (thousandths(below(node, "status", key, "cpu"), "node", notes)
                              for key in ("capacity", "allocatable"))
     if not capacity and wish.cpus is None:
         raise NoHost("number of CPUs unknown: pass the node's JSON or --cpus")
     host = wish.host(Host(max((capacity or 0) // 1000, 1), units.DEFAULT_PERIOD, 1000))
     pods = pods_on(items, text(node, "metadata", "name") if node else wish.node, notes)
+    notes += [] if pods else ["no pod is in these files that has not ended"]
     if node is None:
         notes.append("no node's JSON: kubepods has weight 100")
     source = PodSource(library, wish, host, tuple(pods), allocatable, capacity is not None,

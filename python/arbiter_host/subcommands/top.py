@@ -40,7 +40,7 @@ def reader(asked: argparse.Namespace, wanted: Sequence[top.Condition],
         options.check(asked, "cgroup")
         want = asked.want or "psi"
         tree = looks.Tree(paths[0], by_options.machine(asked, want), time.monotonic)
-        ask = functools.partial(pod_names, asked) if asked.pods else None
+        ask = functools.partial(pod_names, asked) if asked.pod else None
         return top.Watched(by, tree, want, ask, warn).round, 1
     if "-" in paths:
         raise UsageFault("standard input is read once: top takes files or a folder")
@@ -54,7 +54,7 @@ def reader(asked: argparse.Namespace, wanted: Sequence[top.Condition],
 def pod_names(asked: argparse.Namespace) -> dict[str, PodNames]:
     """The names of pods by the folders of their groups."""
     return kubernetes.names_at([(shown(path), data or b"{}") for path, data in load.opened(
-        argparse.Namespace(**vars(asked), kept=([], [])), asked.pods)])
+        argparse.Namespace(**vars(asked), kept=([], [])), asked.pod)])
 
 
 def run_command(words: Sequence[str], raised: Sequence[top.Alert]) -> None:
