@@ -305,32 +305,16 @@ def pairs_of(labels: dict[str, Any]) -> tuple[tuple[str, str], ...]:
     return tuple(sorted((key, text(labels, key)) for key in labels))
 
 
-def controller_of(item: dict[str, Any]) -> tuple[str, str]:
-    """Kind and name of what controls an object; both empty where nothing does."""
-    owner = next((each for each in tables(item, "metadata", "ownerReferences")
+def owner_of(pod: dict[str, Any]) -> str:
+    """What makes a pod of a template: kind, namespace and name; empty for nothing. A ReplicaSet
+    with the pod's hash behind its name is its Deployment's."""
+    owner = next((each for each in tables(pod, "metadata", "ownerReferences")
                   if each.get("controller") is True), None)
-    return text(owner, "kind"), text(owner, "name")
-
-
-def owner_of(pod: dict[str, Any], items: Sequence[dict[str, Any]] = ()) -> tuple[str, str, str]:
-    """Kind, namespace and name of what makes a pod of a template, as far up as that may be changed;
-    empty for nothing. The Deployment of a ReplicaSet is told by its object among some, else by the
-    pod's hash behind its name."""
-    (kind, name), (namespace, _) = controller_of(pod), names_of(pod)
-    sets = [controller_of(each) for each in items if each.get("kind") == "ReplicaSet"
-            and names_of(each) == (namespace, name)]
+    kind, name, (namespace, _) = text(owner, "kind"), text(owner, "name"), names_of(pod)
     mark = text(pod, "metadata", "labels", "pod-template-hash")
-    if kind == "ReplicaSet" and sets and sets[0][0] == "Deployment":
-        kind, name = sets[0]
-    elif kind == "ReplicaSet" and not sets and mark and name.endswith(f"-{mark}"):
+    if kind == "ReplicaSet" and mark and name.endswith(f"-{mark}"):
         kind, name = "Deployment", name.removesuffix(f"-{mark}")
-    return (kind, namespace, name) if kind in TEMPLATED else ("", "", "")
-
-
-def owner_words(owner: tuple[str, str, str]) -> str:
-    """An owner for people; empty for none, or for one without a name."""
-    kind, namespace, name = owner
-    return f"{kind} {namespace}/{name}" if name else ""
+    return f"{kind} {namespace}/{name}" if kind in TEMPLATED and name else ""
 
 
 def names_by(owner: str) -> re.Pattern[str]:
@@ -365,7 +349,7 @@ def pod_of(pod: dict[str, Any], notes: list[str]) -> Pod:
         tolerations=tuple(Toleration(
             text(each, "key"), None if text(each, "operator") == "Exists" else text(each, "value"),
             text(each, "effect")) for each in tables(spec, "tolerations")),
-        labels=pairs_of(table(metadata, "labels")), owner=owner_words(owner_of(pod)),
+        labels=pairs_of(table(metadata, "labels")), owner=owner_of(pod),
         is_static=bool(text(metadata, "annotations", MIRROR)))
 
 
