@@ -189,12 +189,9 @@ class Library:
         """
         ran, waited = (column(U64, [each[part] for each in tasks], "task") for part in (0, 1))
         used, asked, hungry = c.U64(), c.U64(), c.U32()
-        number = self.calls.arbiter_reading(
-            *self.host(host), *(in_range(each, 64, "time") for each in times[:3]),
-            in_range(times.tasks, 32, "tasks"), int(times.is_throttled), *given(ran, waited),
-            *map(ctypes.byref, (used, asked, hungry)))
-        if number:
-            raise self.refused(number)
+        self.ask_host("reading", host, *(in_range(each, 64, "time") for each in times[:3]),
+                      in_range(times.tasks, 32, "tasks"), int(times.is_throttled),
+                      *given(ran, waited), *map(ctypes.byref, (used, asked, hungry)))
         return Reading(used.value, asked.value, bool(hungry.value))
 
     def written(self, host: Host, limit: int, own: int | None, stands: int, tasks: int
@@ -207,13 +204,10 @@ class Library:
         Refused as a host is, and by 14 QuotaTooLarge.
         """
         quota, weight = c.U64(), c.U64()
-        number = self.calls.arbiter_written(
-            *self.host(host), in_range(limit, 64, "limit"),
-            in_range(number_or_none(own, c.NO_LIMIT, "limit"), 64, "limit"),
-            in_range(stands, 64, "quota"), in_range(tasks, 32, "tasks"), ctypes.byref(quota),
-            ctypes.byref(weight))
-        if number:
-            raise self.refused(number)
+        self.ask_host("written", host, in_range(limit, 64, "limit"),
+                      in_range(number_or_none(own, c.NO_LIMIT, "limit"), 64, "limit"),
+                      in_range(stands, 64, "quota"), in_range(tasks, 32, "tasks"),
+                      ctypes.byref(quota), ctypes.byref(weight))
         return None if quota.value == c.NO_LIMIT else quota.value, weight.value
 
     def tune(self, host: Host, rows: Rows, goals: Sequence[Goal],

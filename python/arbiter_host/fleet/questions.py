@@ -82,12 +82,15 @@ def samples_of(options: argparse.Namespace, fleet: Fleet) -> Samples:
         by_host = used.by_host(options)
         return lambda host: by_host(host.name)
     whole, pods = used.history(options), frozenset().union(*(each.pods for each in fleet.hosts))
-    missing = [each for each in whole.columns if pods.isdisjoint((each, each.rpartition("/")[0]))]
+
+    def are_of(column: str, pods: frozenset[str]) -> bool:
+        """Whether a column names one of some pods, or a container of one."""
+        return not pods.isdisjoint((column, column.rpartition("/")[0]))
+
+    missing = [names.shown(each) for each in whole.columns if not are_of(each, pods)]
     if missing:
-        warn(f"{used.name(options)}: samples of no pod here, {some(list(map(names.shown, missing)))}")
-    # A column names a pod, or a container of one.
-    return lambda host: whole.of_columns(
-        lambda column: not host.pods.isdisjoint((column, column.rpartition("/")[0])))
+        warn(f"{used.name(options)}: samples of no pod here, {some(missing)}")
+    return lambda host: whole.of_columns(lambda column: are_of(column, host.pods))
 
 
 def workers_of(options: argparse.Namespace, fleet: Fleet) -> int:
