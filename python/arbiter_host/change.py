@@ -102,6 +102,7 @@ def made_again(model: Model, words: Sequence[str]) -> Model:
 
 
 def on_host(model: Model, host: Host) -> Model:
+    """The model on another host."""
     if host == model.host:
         return model
     return model.with_host(host) if model.owned is None else model.owned.on_host(host).model()

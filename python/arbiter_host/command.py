@@ -26,6 +26,7 @@ class Parser(argparse.ArgumentParser):
 
 
 def parser_of(each: Subcommand) -> Parser:
+    """The parser of one subcommand."""
     parser = Parser(prog=f"arbiterctl {each.name}", formatter_class=helps.Formatter,
                     description="\n\n".join([each.description, *each.details]),
                     epilog=helps.examples(each.examples) + helps.statuses())

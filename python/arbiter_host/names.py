@@ -177,6 +177,7 @@ def few(words: Sequence[str], most: int = 5) -> str:
 
 
 def joined(parent: str, name: str) -> str:
+    """The path of a child."""
     return name if parent == "." else f"{parent}/{name}"
 
 
@@ -186,6 +187,7 @@ def parent_path(path: str) -> str:
 
 
 def last_name(path: str) -> str:
+    """The last name of a path."""
     return path.rpartition("/")[2]
 
 

@@ -149,6 +149,7 @@ def title_of(plan: Plan, unit: str) -> str:
 
 
 def picture(plan: Plan, view: View = View()) -> str:
+    """A plan as SVG."""
     drawing = Drawing(plan, entries(plan, view), view.unit)
     title = title_of(plan, view.unit)
     parts = [svg.words((EDGE, 20), title, svg.INK, 13, "start", True), *legend(40),

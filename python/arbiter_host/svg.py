@@ -19,6 +19,7 @@ def number(value: float) -> str:
 
 
 def line(begin: Point, end: Point, colour: str, wide: float = 1, dash: str = "") -> str:
+    """A straight line."""
     more = f' stroke-dasharray="{dash}"' if dash else ""
     (x1, y1), (x2, y2) = begin, end
     return (f'<line x1="{number(x1)}" y1="{number(y1)}" x2="{number(x2)}" y2="{number(y2)}"'
@@ -26,6 +27,7 @@ def line(begin: Point, end: Point, colour: str, wide: float = 1, dash: str = "")
 
 
 def box(corner: Point, size: Point, colour: str) -> str:
+    """A filled rectangle."""
     return (f'<rect x="{number(corner[0])}" y="{number(corner[1])}"'
             f' width="{number(max(size[0], 0))}" height="{number(size[1])}" fill="{colour}"/>')
 
@@ -89,6 +91,7 @@ def inside(width_: float, height: float, title: str, parts: Sequence[str]) -> st
 
 
 def document(width_: float, height: float, title: str, parts: Sequence[str]) -> str:
+    """A whole picture."""
     begin = head(width_, height, title, ' xmlns="http://www.w3.org/2000/svg"',
                  f' font-family="{TYPEFACE}"')
     ground = box((0, 0), (width_, height), "#ffffff")

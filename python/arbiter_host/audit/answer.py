@@ -115,6 +115,7 @@ def head(ranked: Ranked) -> Iterator[str]:
 
 
 def cells_of(row: AuditRow) -> list[str]:
+    """The cells of a row, in the order of HEADS."""
     average, most = row.average, row.most
     return [cpus(average.used), cpus(average.planned), points(average.off), percent(average.part),
             points(most.off), percent(most.part), str(row.count), row.cause,
@@ -154,6 +155,7 @@ def row_data(row: AuditRow, intervals: Sequence[Interval]) -> dict[str, Any]:
 
 
 def as_data(ranked: Ranked) -> dict[str, Any]:
+    """An audit as data."""
     audit, host = ranked.audit, ranked.audit.plan.model.host
     return {"host": {"processors": host.processors, "period_usec": host.period_us,
                      "slice_usec": host.slice_us},

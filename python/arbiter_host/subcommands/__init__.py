@@ -62,4 +62,5 @@ def find(name: str) -> Subcommand:
 
 
 def every() -> tuple[Subcommand, ...]:
+    """All subcommands in order."""
     return tuple(map(find, SUMMARIES))
