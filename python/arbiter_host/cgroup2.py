@@ -6,7 +6,7 @@ import re
 import stat
 
 from arbiter_host import units
-from arbiter_host.demands import Reading
+from arbiter_host.demands import CounterReading
 from arbiter_host.faults import HostFault, strerror
 from arbiter_host.model import Group
 from arbiter_host.names import shown
@@ -45,15 +45,15 @@ def keyed(text: str | None) -> dict[str, int]:
             if len(words) == 2 and (number := number_in(words[1])) is not None}
 
 
-def counters(stat_text: str | None, pressure_text: str | None) -> Reading:
+def counters(stat_text: str | None, pressure_text: str | None) -> CounterReading:
     """The counters of the texts of `cpu.stat` and `cpu.pressure`."""
     found = {key: int(number) for key, number in COUNTERS.findall(stat_text or "")}
     waited = WAITED.search(pressure_text or "")
-    return Reading(found.get("usage_usec"), found.get("nr_periods"), found.get("nr_throttled"),
-                   int(waited.group(1)) if waited else None)
+    usage, periods, throttled = map(found.get, ("usage_usec", "nr_periods", "nr_throttled"))
+    return CounterReading(usage, periods, throttled, int(waited.group(1)) if waited else None)
 
 
-def reading(folder: str | int) -> Reading:
+def reading(folder: str | int) -> CounterReading:
     """Reads the counters of a group."""
     return counters(file_text(folder, "cpu.stat"), file_text(folder, "cpu.pressure"))
 

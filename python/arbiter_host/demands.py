@@ -23,7 +23,7 @@ Place = tuple[int, int]
 Times = tuple[Fraction, Fraction]
 
 
-class Reading(NamedTuple):
+class CounterReading(NamedTuple):
     """Counters of one group at one time; None where the file or the key is missing. `usage` and
     `pressure` are microseconds, `pressure` the time in which some task waited."""
 
@@ -37,7 +37,7 @@ class Reading(NamedTuple):
 class Measured:
     """What is known of one group's demand: readings, and thousandths of a CPU requested."""
 
-    readings: list[Reading] = field(default_factory=list)
+    readings: list[CounterReading] = field(default_factory=list)
     request: Fraction | None = None
     # Number of its tasks where it was read.
     tasks: int | None = None
@@ -80,7 +80,7 @@ def rise(before: int | None, after: int | None) -> int | None:
     return after - before
 
 
-def rises(readings: Sequence[Reading], key: str) -> list[int]:
+def rises(readings: Sequence[CounterReading], key: str) -> list[int]:
     """By how much a counter rose from each reading to the next; empty where one is missing."""
     values = [getattr(reading, key) for reading in readings]
     steps = [rise(one, two) for one, two in zip(values, values[1:])]

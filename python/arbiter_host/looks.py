@@ -13,9 +13,9 @@ from dataclasses import dataclass, field
 from fractions import Fraction
 from typing import NamedTuple
 
-from arbiter import Host, Library, Reading as RoundReading, RoundTimes
+from arbiter import Host, Library, Reading, RoundTimes
 from arbiter_host import cgroup2, hunger, names, progress, safe_files, units
-from arbiter_host.demands import Measured, Place, Reading, rise
+from arbiter_host.demands import CounterReading, Measured, Place, rise
 from arbiter_host.faults import HostFault, UsageFault, strerror
 from arbiter_host.model import (MAX_DEPTH, NO_POD, Group, Model, PodNames, checked,
                                 up_to_64_cpus)
@@ -70,7 +70,7 @@ class Counted(NamedTuple):
     """What is counted of a group: its counters, what its tasks did, and the seconds at which that
     was counted. Without such a time it is that of the look."""
 
-    reading: Reading
+    reading: CounterReading
     threads: hunger.Tasks = {}
     at: Fraction | None = None
 
@@ -95,7 +95,7 @@ class Look:
 class Span(NamedTuple):
     """By how much the counters of a group rose in so many seconds, and what its tasks did."""
 
-    risen: Reading
+    risen: CounterReading
     seconds: Fraction
     before: hunger.Tasks
     after: hunger.Tasks
@@ -105,7 +105,7 @@ class Span(NamedTuple):
         """What it used, in thousandths of a CPU."""
         return units.thousandths_of_usage(self.risen.usage or 0, self.seconds)
 
-    def reading(self, library: Library, host: Host, has_limit: bool) -> RoundReading:
+    def reading(self, library: Library, host: Host, has_limit: bool) -> Reading:
         """What it used and asks for, and whether it would have used more, by the library."""
         times = RoundTimes(int(self.seconds * 10**9), self.risen.usage or 0,
                            self.risen.pressure or 0, len(self.after),
@@ -115,7 +115,7 @@ class Span(NamedTuple):
 
     def measured(self, tasks: int | None) -> Measured:
         """The same as two readings."""
-        first = Reading(*(None if each is None else 0 for each in self.risen))
+        first = CounterReading(*(None if each is None else 0 for each in self.risen))
         return Measured([first, self.risen], tasks=tasks)
 
 
@@ -124,7 +124,8 @@ def risen(one: Counted, two: Counted, seconds: Fraction = Fraction(0)) -> Span:
     times of their own."""
     if one.at is not None and two.at is not None:
         seconds = two.at - one.at
-    return Span(Reading(*map(rise, one.reading, two.reading)), seconds, one.threads, two.threads)
+    return Span(CounterReading(*map(rise, one.reading, two.reading)), seconds, one.threads,
+                two.threads)
 
 
 def span_of(one: Counted, two: Counted, seconds: Fraction) -> Span | str:
@@ -142,11 +143,11 @@ def sum_of(spans: Sequence[Span]) -> Span:
     if len(spans) == 1:
         return spans[0]
     seconds, sums = spans[0].seconds, []
-    for key in Reading._fields:
+    for key in CounterReading._fields:
         values = [(getattr(each.risen, key), each.seconds) for each in spans]
         known = [round(value * seconds / passed) for value, passed in values if value is not None]
         sums.append(sum(known) if known else None)
-    return Span(Reading(*sums), seconds, {}, {})
+    return Span(CounterReading(*sums), seconds, {}, {})
 
 
 def between(one: Look, two: Look, path: str) -> Span | str:
@@ -186,7 +187,7 @@ class Tree:
         look.at = self.now() or look.at
         return look
 
-    def count(self, look: Look, group: Group, reading: Reading) -> None:
+    def count(self, look: Look, group: Group, reading: CounterReading) -> None:
         """Takes the counters of a group. In copies its path alone tells whether it is the same."""
         if reading.usage is not None:
             key = None if self.clock is None else group.identity
@@ -318,7 +319,7 @@ class OverTime:
     they were there, and the mean seconds from one look to the next."""
 
     first: Look
-    counters: dict[str, list[Reading]]
+    counters: dict[str, list[CounterReading]]
     seconds: Fraction
     looks: int = 1
 

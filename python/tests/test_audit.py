@@ -15,7 +15,7 @@ from arbiter import Host
 from arbiter_host import hunger, looks, placement
 from arbiter_host.audit import answer, causes, intervals, ranges
 from arbiter_host.audit.intervals import Cell, Interval
-from arbiter_host.demands import Reading
+from arbiter_host.demands import CounterReading
 from arbiter_host.faults import HostFault
 from arbiter_host.model import Group, Model, fine
 from arbiter_host.sources import prometheus
@@ -482,7 +482,7 @@ def test_tasks_of_the_source(engine):
     model = Model(TWO)
     model.add(Group("a", tasks=1))
     seen = [looks.Look(Fraction(at), model, {"a": {"": looks.Counted(
-        Reading(usec(0.5 * at), 0, 0, usec(0.9 * at)))}}) for at in (0, 1)]
+        CounterReading(usec(0.5 * at), 0, 0, usec(0.9 * at)))}}) for at in (0, 1)]
     cells = intervals.audited(engine, seen, None, set(), lambda: None).intervals[0].cells
     assert (cells["a"].demand, cells["a"].tasks, cells["a"].planned) == (5000, 1, 1000)
 
@@ -555,7 +555,7 @@ def kept_look(at, model, runs):
         wants = float(model.groups[path].usable) / 1000
         had = [run["groups"][path][1] for run in runs[:at]]
         waited = sum(max(0, 1 - each / wants) for each in had)
-        counted[path] = {"": looks.Counted(Reading(usec(sum(had) * span), 0, 0,
+        counted[path] = {"": looks.Counted(CounterReading(usec(sum(had) * span), 0, 0,
                                                    usec(waited * span)))}
     tasks = {path: model.groups[path].tasks for path in counted}
     return looks.Look(Fraction(at * span), model, counted, tasks)

@@ -364,7 +364,7 @@ def test_pressure_alone(folder):
 def test_samples():
     """Peak and 95th percentile of readings one second apart."""
     usage = [0, *(sum(range(1, count + 1)) * 1000 for count in range(1, 101))]
-    measured = demands.Measured([demands.Reading(each) for each in usage])
+    measured = demands.Measured([demands.CounterReading(each) for each in usage])
     group = Group("a")
     found = [demands.wanted(want, group, measured, EIGHT, Fraction(1))
              for want in ("usage", "peak", "p95")]

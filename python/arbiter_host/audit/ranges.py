@@ -9,7 +9,7 @@ from fractions import Fraction
 from typing import Any
 
 from arbiter_host import units
-from arbiter_host.demands import Reading
+from arbiter_host.demands import CounterReading
 from arbiter_host.faults import HostFault, UsageFault
 from arbiter_host.looks import Counted, Look
 from arbiter_host.model import Model
@@ -153,8 +153,8 @@ class Found:
     def counted(self, labels: Labels, at: int) -> Counted:
         """The counters of a series at a step."""
         taken = self.count("at", labels, at)
-        return Counted(Reading(*(self.count(key, labels, at) for key in Reading._fields)),
-                       at=None if taken is None else Fraction(taken, 1000))
+        counters = CounterReading(*(self.count(key, labels, at) for key in CounterReading._fields))
+        return Counted(counters, at=None if taken is None else Fraction(taken, 1000))
 
     def limits(self, at: int) -> dict[str, tuple[int, int]]:
         """The quotas and periods at a step, by leaf."""

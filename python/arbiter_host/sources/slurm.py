@@ -19,7 +19,7 @@ from typing import Any
 
 from arbiter import Host, Library
 from arbiter_host import demands, names, units
-from arbiter_host.demands import Measured, Reading
+from arbiter_host.demands import CounterReading, Measured
 from arbiter_host.faults import HostFault, NoHost, naming
 from arbiter_host.model import Group, Model, check_count
 from arbiter_host.names import NOWHERE, listed, shown
@@ -57,7 +57,7 @@ class JobStep:
         """Its use as two readings, with the CPUs as request and as tasks."""
         readings = []
         if self.used is not None and self.passed > 0:
-            readings = [Reading(0), Reading(self.used * 10**6 // self.passed)]
+            readings = [CounterReading(0), CounterReading(self.used * 10**6 // self.passed)]
         return Measured(readings, Fraction(1000 * self.cpus), self.cpus or None)
 
 

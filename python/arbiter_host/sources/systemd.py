@@ -13,7 +13,7 @@ from fractions import Fraction
 
 from arbiter import Host, Library
 from arbiter_host import demands, names, units
-from arbiter_host.demands import Measured, Reading, Use, use_of
+from arbiter_host.demands import CounterReading, Measured, Use, use_of
 from arbiter_host.faults import HostFault
 from arbiter_host.model import MAX_DEPTH, Group, Model, bound_notes, check_settings, checked
 from arbiter_host.names import shown
@@ -206,7 +206,7 @@ class UnitSource(Units):
         found = {}
         for path, unit in self.properties.items():
             used = [whole(each.get(path, {}).get("CPUUsageNSec", "")) for each in self.readings]
-            found[path] = Measured([Reading(None if each is None else each // 1000)
+            found[path] = Measured([CounterReading(None if each is None else each // 1000)
                                     for each in used], tasks=whole(unit.get("TasksCurrent", "")))
         return found
 
