@@ -82,9 +82,10 @@ def samples_of(options: argparse.Namespace, fleet: Fleet) -> Samples:
         by_host = used.by_host(options)
         return lambda host: by_host(host.name)
     whole, pods = used.history(options), frozenset().union(*(each.pods for each in fleet.hosts))
-    missing = [each for each in whole.columns if pods.isdisjoint((each, each.rpartition("/")[0]))]
+    missing = [names.shown(each) for each in whole.columns
+               if pods.isdisjoint((each, each.rpartition("/")[0]))]
     if missing:
-        warn(f"{used.name(options)}: samples of no pod here, {some(list(map(names.shown, missing)))}")
+        warn(f"{used.name(options)}: samples of no pod here, {some(missing)}")
     # A column names a pod, or a container of one.
     return lambda host: whole.of_columns(
         lambda column: not host.pods.isdisjoint((column, column.rpartition("/")[0])))
