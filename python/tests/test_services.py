@@ -141,7 +141,8 @@ def test_services_that_do_not_answer(ctl, folder, word, status, told):
 
 
 def test_an_answer_has_bounds(monkeypatch):
-    """Its bytes, its time, and what it began: none is left."""
+    """Its bytes, its time, and what it began: none is left. SECURITY.md names the bounds."""
+    assert (services.MAX_BYTES, services.SECONDS) == (128 << 20, 120)
     monkeypatch.setattr(services, "MAX_BYTES", 1000)
     with pytest.raises(HostFault, match="more than 0 MiB"):
         services.printed(["sh", "-c", "yes"])
