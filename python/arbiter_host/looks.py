@@ -110,7 +110,8 @@ class Span(NamedTuple):
         times = RoundTimes(int(self.seconds * 10**9), self.risen.usage or 0,
                            self.risen.pressure or 0, len(self.after),
                            has_limit and bool(self.risen.throttled))
-        return library.reading(up_to_64_cpus(host), times, list(hunger.rises(self.before, self.after)))
+        tasks = list(hunger.rises(self.before, self.after))
+        return library.reading(up_to_64_cpus(host), times, tasks)
 
     def measured(self, tasks: int | None) -> Measured:
         """The same as two readings."""

@@ -72,7 +72,8 @@ def planned(host: Host) -> Host:
 
 
 def up_to_64_cpus(host: Host) -> Host:
-    """A host for calls whose answer depends on its period and slice alone, or on 64 CPUs at most."""
+    """A host for calls whose answer depends on its period and slice alone, or on at most 64 CPUs.
+    """
     return replace(host, processors=min(host.processors, MAX_PROCESSORS))
 
 

@@ -1,4 +1,4 @@
-"""The model of placement: against runs of guests that are kept, the rule of queues, and its words."""
+"""The model of placement: against runs of guests that are kept, the rule of queues, its words."""
 import json
 import time
 from fractions import Fraction
