@@ -53,7 +53,7 @@ def told(options: argparse.Namespace, word: str) -> list[Opened]:
     known, unless it is not asked for."""
     from arbiter_host.sources.services import RunningService
     service, times = RunningService(word), by_options.times_of(options)
-    is_once = service.kind != "systemd" or options.asked == "diff" or (
+    is_once = service.kind != "systemd" or options.asked in ("diff", "apply") or (
         (options.want or "usage") not in demands.OF_USE)
     return [(word, service.source(options.node)) for _ in looks.turns(
         times._replace(number=1) if is_once else times)]

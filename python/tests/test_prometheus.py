@@ -199,6 +199,14 @@ def test_owners_of_one_name_in_two_namespaces(ctl, folder):
     assert "not here, 1: c/web-77cc-zzzzz/app" in err
 
 
+def test_a_range_without_samples(ctl, cadvisor):
+    """A server that knows nothing of the time is a fault, and no plan without use."""
+    for words in (["explain"], ["recommend"]):
+        _, err = ctl.run(*words, "-", "--used", cadvisor, "--range", "1000/2000", given=PODS,
+                         status=1)
+        assert f"{cadvisor}: nothing was used by any container" in err
+
+
 def test_a_container_that_was_made_anew(ctl, cadvisor):
     """Its two series are parts of one use: 0.2 CPUs before and after."""
     words = ("--used", cadvisor, "--range", f"{BEGIN + STEP}/{BEGIN + STEP * 5}", "--step", "5m")

@@ -432,3 +432,19 @@ def test_units_of_a_tree(ctl, folder):
                                "4", "-o", "json")[0])["units"]
     assert unit_settings(found) == {"a.service": (("100", "35"), ("50%", None)),
                                     "b.service": (("100", "138"), ("-", None))}
+
+
+def test_units_with_a_history(ctl, folder):
+    """Two days of 100m and 300m: 345m of the greatest are a weight of 35. Others are told."""
+    (folder / "h.csv").write_text("time,ssh.service,nope\n2026-11-01 00:00:00,100m,1\n"
+                                  "2026-11-02 00:00:00,300m,1\n")
+    words = (FIXTURES / "units.show", "--cpus", "4", "--used", folder / "h.csv", "--map", "x=y")
+    out, err = ctl.run("recommend", *words, "-o", "json")
+    (row,) = json.loads(out)["units"]
+    assert (row["unit"], row["samples"], row["span_seconds"]) == (
+        "system.slice/ssh.service", 2, 86400)
+    assert row["set"] == ["system.slice/ssh.service.CPUWeight=35"]
+    assert "used by no unit here, 1: nope" in err
+    (folder / "h.csv").write_text("time,ssh.service,system.slice/ssh.service\n1,100m,1\n")
+    _, err = ctl.run("recommend", *words, status=1)
+    assert "system.slice/ssh.service: another one is of the same unit" in err

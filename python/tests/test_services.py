@@ -122,6 +122,11 @@ def test_units_of_systemd(ctl, tools):
     assert tools() == [["systemctl", "show", "*.slice", "*.service", "*.scope"]] * 2
     ctl.run(*words, "--want", "limit")
     assert len(tools()) == 3
+    for change in ("apply", "diff"):
+        assert "CPUWeight=300" in ctl.run(change, "systemd://", "--cpus", "8", "--set",
+                                          "a.service.CPUWeight=300", *(
+            ["-o", "dropin"] if change == "apply" else ["-o", "html"]))[0]
+    assert len(tools()) == 5
     found = json.loads(ctl.run("recommend", *words[1:])[0])["units"]
     assert [each["used_millicpu"] for each in found] == [3000]
 
@@ -141,7 +146,8 @@ def test_services_that_do_not_answer(ctl, folder, word, status, told):
 
 
 def test_an_answer_has_bounds(monkeypatch):
-    """Its bytes, its time, and what it began: none is left."""
+    """Its bytes, its time, and what it began: none is left. SECURITY.md names the bounds."""
+    assert (services.MAX_BYTES, services.SECONDS) == (128 << 20, 120)
     monkeypatch.setattr(services, "MAX_BYTES", 1000)
     with pytest.raises(HostFault, match="more than 0 MiB"):
         services.printed(["sh", "-c", "yes"])

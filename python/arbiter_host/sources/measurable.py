@@ -101,7 +101,7 @@ def measured(sources: Sequence[S], entries: Sequence[Used],
             told[OTHERS].append(entry.title + (f" ({len(places)} containers)" if places else ""))
     notes = [f"{name}: {what}, {some(titles)}" for what, titles in told.items() if titles]
     if not any(known) and not replicas:
-        raise HostFault(notes[-1])
+        raise HostFault(notes[-1] if notes else f"{name}: nothing was used by any container")
     # (who proposes takes those elsewhere of all sources together)
     return [replace(each, known=of_source, elsewhere=() if at else tuple(replicas))
             for at, (each, of_source) in enumerate(zip(sources, known))], notes
