@@ -18,7 +18,7 @@ from dataclasses import dataclass, replace
 from fractions import Fraction
 from typing import Any, NamedTuple
 
-from arbiter import Columns, Host, Reading, Row
+from arbiter import Columns, Host, Reading, Round, Row
 from arbiter_host import apply, cgroup2, hunger, looks, output, safe_files, units
 from arbiter_host.apply import BURST, MAXIMUM, WEIGHT, Back, By, Change, Settings
 from arbiter_host.demands import rise
@@ -428,13 +428,12 @@ class Loop:
             group.burst, group.saved = 0, 0
         return model.rows(self.engine.library)
 
-    def planned(self, model: Model, used: dict[str, Reading]) -> Written:
-        """The limits and weights of the next round, whose plan the proved check accepted."""
-        rows, host, library = self.rows(model), planned(self.host), self.engine.library
-        places = {path: row for row, path in enumerate(model.groups, 1) if path in used}
+    def held(self, rows: list[Row], used: dict[int, Reading]) -> Round:
+        """The limits of the next round from what the leaf of each row asks for. The proved check
+        accepted their plan."""
+        host, library = planned(self.host), self.engine.library
         asks, for_all = list(rows), [False] * len(rows)
-        for path, row in places.items():
-            each = used[path]
+        for row, each in used.items():
             for_all[row] = each.asked == units.MAX_DEMAND
             asks[row] = rows[row]._replace(demand=each.used if for_all[row] else each.asked)
         with asking("no limits"):
@@ -442,8 +441,13 @@ class Loop:
         asked = [row._replace(demand=demand) for row, demand in zip(rows, held.demands)]
         with asking("the check refused the plan"):
             library.check(host, Columns.of(asked), held.amounts, held.certificate)
-        found = Written({}, {}, {})
-        weights = dict[str, int]()
+        return held
+
+    def planned(self, model: Model, used: dict[str, Reading]) -> Written:
+        """The limits and weights of the next round."""
+        rows, found, weights = self.rows(model), Written({}, {}, {}), dict[str, int]()
+        places = {path: row for row, path in enumerate(model.groups, 1) if path in used}
+        held = self.held(rows, {row: used[path] for path, row in places.items()})
         for path, row in places.items():
             limit, kept, each = held.limits[row], self.groups[path], used[path]
             if limit is None:
@@ -454,7 +458,7 @@ class Loop:
                                 "used": each.used, "limit": limit, "hungry": each.is_hungry,
                                 "unserved": max(lacks, 0)}
             with asking(f"{path}: no limit"):
-                found.quotas[path], weights[path] = library.written(
+                found.quotas[path], weights[path] = self.engine.library.written(
                     up_to_64_cpus(self.host), limit, rows[row].limit, self.standing(kept),
                     self.tasks[path])
         if self.ways.has_weights:
