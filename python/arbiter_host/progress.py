@@ -1,11 +1,13 @@
-"""A progress bar on a terminal, and nothing elsewhere."""
+"""What takes long: a bar on a terminal, and calls that no interrupt waits for."""
 from __future__ import annotations
 
 import sys
+import threading
 from collections.abc import Callable, Iterator
 from contextlib import contextmanager
+from typing import TypeVar
 
-
+T = TypeVar("T")
 # Whether bars may be shown: not while a live view has the terminal.
 is_allowed = True
 
@@ -26,3 +28,19 @@ def bar(what: str, total: int, is_open: bool = False) -> Iterator[Callable[[], N
     with Progress(console=Console(stderr=True), transient=True) as progress:
         task = progress.add_task(what, total=None if is_open else total)
         yield lambda: progress.advance(task)
+
+
+def in_thread(call: Callable[[], T], seconds: float | None = None) -> T:
+    """What a call answers, in a thread that ends with the command: no interrupt waits for it. A
+    TimeoutError after so many seconds."""
+    from concurrent.futures import Future  # (few calls take long)
+    found: Future[T] = Future()
+
+    def run() -> None:
+        try:
+            found.set_result(call())
+        except BaseException as error:
+            found.set_exception(error)
+
+    threading.Thread(target=run, daemon=True).start()
+    return found.result(seconds)

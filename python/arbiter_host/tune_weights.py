@@ -5,12 +5,9 @@ alone change, and they are the least.
 """
 from __future__ import annotations
 
-import threading
 from array import array
-from collections.abc import Callable, Mapping, Sequence
-from concurrent import futures
+from collections.abc import Mapping, Sequence
 from dataclasses import replace
-from typing import TypeVar
 
 from arbiter import Columns, Unmet
 from arbiter.columns import U64
@@ -19,28 +16,12 @@ from arbiter_host.goals import Goals, NewSetting, Way
 from arbiter_host.model import planned
 from arbiter_host.plan import Plan, Planned, asking
 
-Answer = TypeVar("Answer")
-
 # At most so many weights are put back, and ways down the tree are tried.
 MOST_BACK, MOST_CLIMBS = 64, 64
 LEAST = "proved: of all weights that lower none and meet the goals these are the least"
 LOWER = "greater weights alone do not meet the goals; not proved to be the fewest changes"
 CLIMBED = ("weights of the goals' groups alone do not meet the goals, so groups above change too;"
            " not proved to be the least")
-
-
-def interruptible(call: Callable[[], Answer]) -> Answer:
-    """What a long call answers, in a thread: an interrupt does not wait for its end."""
-    found = futures.Future[Answer]()
-
-    def run() -> None:
-        try:
-            found.set_result(call())
-        except Exception as error:
-            found.set_exception(error)
-
-    threading.Thread(target=run, daemon=True).start()
-    return found.result()
 
 
 def tuned(goals: Goals, weights: Sequence[int],
@@ -51,7 +32,7 @@ def tuned(goals: Goals, weights: Sequence[int],
     was, library = goals.before.columns, goals.before.engine.library
     columns = Columns(was.parents, array(U64, weights), was.limits, was.demands)
     with progress.bar("weights for the goals", len(amounts), is_open=True), asking("tune"):
-        return interruptible(lambda: library.tune(
+        return progress.in_thread(lambda: library.tune(
             planned(goals.before.model.host), columns, amounts, goals.is_guaranteed))
 
 

@@ -4,18 +4,17 @@ from __future__ import annotations
 import http.client
 import json
 import math
-import threading
 import time
 import urllib.error
 import urllib.parse
 import urllib.request
 from collections.abc import Callable, Mapping, Sequence
-from concurrent import futures
 from datetime import datetime
 from fractions import Fraction
+from functools import partial
 from typing import Any, NamedTuple, TypeVar
 
-from arbiter_host import units
+from arbiter_host import progress, units
 from arbiter_host.faults import HostFault, UsageFault, naming
 from arbiter_host.names import cut, shown
 from arbiter_host.sources.data import check_memory
@@ -84,18 +83,9 @@ def exchanged(url: str) -> Any:
 def fetched(url: str) -> Any:
     """The JSON of an address. One deadline is over the whole exchange, names and greetings too:
     what still waits for a server then is a thread, which ends with the command."""
-    answer: futures.Future[Any] = futures.Future()
-
-    def run() -> None:
-        try:
-            answer.set_result(exchanged(url))
-        except BaseException as error:
-            answer.set_exception(error)
-
-    threading.Thread(target=run, daemon=True).start()
     try:
-        return answer.result(MOST_SECONDS)
-    except futures.TimeoutError as error:
+        return progress.in_thread(partial(exchanged, url), MOST_SECONDS)
+    except TimeoutError as error:
         raise HostFault(f"{shown(url)}: no whole answer in {MOST_SECONDS} seconds") from error
 
 
