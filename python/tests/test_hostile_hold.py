@@ -183,20 +183,21 @@ def test_a_tenant_shuts_its_files(engine, capsys):
         place.chmod(0o755)
         os.seteuid(NOBODY)
         try:
-            loop = world.loop(engine)
+            lines, loop = [], world.loop(engine)
 
             def shut(mode, *files):
                 os.seteuid(0)
                 for file in files:
                     (world.tree / "b" / file).chmod(mode)
                 os.seteuid(NOBODY)
-            lines = world.run(loop, lambda: None, lambda: shut(0, "cpu.max"), lambda: None,
-                              lambda: shut(0, "cpu.stat"), lambda: None, lambda: shut(0, "."),
-                              lambda: None, lambda: shut(0o755, ".", "cpu.stat", "cpu.max"),
-                              lambda: None)
+            world.after = [lambda: None, lambda: shut(0, "cpu.max"), lambda: None,
+                           lambda: shut(0, "cpu.stat"), lambda: None, lambda: shut(0, "."),
+                           lambda: None, lambda: shut(0o755, ".", "cpu.stat", "cpu.max"),
+                           lambda: None]
+            hold.run(loop, looks.Times(number=None), world.wait, lines.append)
         finally:
             os.seteuid(0)
-    assert [sorted(line["groups"]) for line, _ in lines] == [
+    assert [sorted(line["groups"]) for line in lines] == [
         ["a", "b", "c"]] + [["a", "c"]] * 6 + [["a", "b", "c"]] * 2
     told = capsys.readouterr().err
     assert "b/cpu.max: Permission denied: its limit is left as it is" in told, told
