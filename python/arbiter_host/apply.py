@@ -29,6 +29,8 @@ from arbiter_host.sources.systemd import UNIT
 
 SECONDS = 60
 VERSION = 1
+# Settings that are kept to be found again.
+MOST_KNOWN = 1 << 16
 WEIGHT, MAXIMUM, BURST = "cpu.weight", "cpu.max", "cpu.max.burst"
 # The settings that each file holds.
 FIELDS = {WEIGHT: ("weight",), MAXIMUM: ("quota", "period"), BURST: ("burst",)}
@@ -156,11 +158,17 @@ def number(text: str) -> int:
     return int(text)
 
 
-@functools.cache
+@functools.lru_cache(MOST_KNOWN)
+def known(weight: int, quota: int | None, period: int, burst: int) -> Settings:
+    """Settings. The same ones are one object: a round of a loop compares those of many groups."""
+    return Settings(weight, quota, period, burst)
+
+
+@functools.lru_cache(MOST_KNOWN)
 def settings_in(weight: str, quota: str, period: str, burst: str) -> Settings:
     """The settings of the words of the files of a group."""
-    return Settings(number(weight), None if quota == "max" else number(quota), number(period),
-                    number(burst))
+    return known(number(weight), None if quota == "max" else number(quota), number(period),
+                 number(burst))
 
 
 def current(root: Root, folder: str) -> Settings:
@@ -307,17 +315,18 @@ def all_done(root: Root, steps: Sequence[Step],
             yield step, fault
 
 
-def undo_text(root: Root, changes_: Iterable[Change], by: By) -> str:
-    """The old settings of all groups that change, and the new ones, a line for each. No weight in
-    it is 0."""
-    def entry(settings: Settings) -> dict[str, Any]:
-        return {**vars(settings), "weight": settings.weight or 1}
+@functools.lru_cache(MOST_KNOWN)
+def entry(settings: Settings) -> str:
+    """Settings as JSON without its brackets. No weight is 0."""
+    return json.dumps({**vars(settings), "weight": settings.weight or 1})[1:-1]
 
+
+def undo_text(root: Root, changes_: Iterable[Change], by: By) -> str:
+    """The old settings of all groups that change, and the new ones, a line for each."""
     def line(change: Change) -> str:
-        earlier = [entry(each) for each in change.earlier]
-        return json.dumps({"folder": change.folder, **entry(change.before),
-                           "after": entry(change.after),
-                           **({"earlier": earlier} if earlier else {})})
+        earlier = ", ".join(f"{{{entry(each)}}}" for each in change.earlier)
+        return (f'{{"folder": {json.dumps(change.folder)}, {entry(change.before)}, "after":'
+                f' {{{entry(change.after)}}}' + f', "earlier": [{earlier}]' * bool(earlier) + "}")
 
     head = json.dumps({"arbiter_undo": VERSION, "root": root.path, "systemd": by is not By.FILES,
                        "persistent": by is By.PERSISTENT, "groups": []})

@@ -9,12 +9,13 @@ there. Weights are no part of the plan: what a group may use is its limit.
 """
 from __future__ import annotations
 
+import functools
 import os
 import re
 import time
 from collections import Counter
 from collections.abc import Callable, Iterable, Mapping
-from dataclasses import dataclass, replace
+from dataclasses import dataclass
 from fractions import Fraction
 from typing import Any, NamedTuple
 
@@ -249,11 +250,15 @@ class Loop:
         # The groups that are open, by their paths.
         self.groups: dict[str, Kept] = {}
         self.tree = HeldTree(self, top)
+        # What is written for a limit. Many groups have the same one, or one that stays.
+        self.written = functools.lru_cache(apply.MOST_KNOWN)(functools.partial(
+            engine.library.written, up_to_64_cpus(host)))
         # The number of tasks of each leaf at the last reading.
         self.tasks: dict[str, int] = {}
         self.tell = output.Remarks().tell
-        # What stood in each group and what it may hold by this loop, as the undo file has it.
-        self.undo: list[Change] = []
+        # The folder of each group with what stood in it, is written and may stand, as the undo
+        # file has it.
+        self.undo: list[tuple[str, Settings, Settings, Settings]] = []
         # Whether it was told that limits are rounded up.
         self.has_rounded = False
         # Whether no group was kubelet's when the loop began.
@@ -457,10 +462,8 @@ class Loop:
             found.told[path] = {"want": held.demands[row], "plan": held.amounts[row],
                                 "used": each.used, "limit": limit, "hungry": each.is_hungry,
                                 "unserved": max(lacks, 0)}
-            with asking(f"{path}: no limit"):
-                found.quotas[path], weights[path] = self.engine.library.written(
-                    up_to_64_cpus(self.host), limit, rows[row].limit, self.standing(kept),
-                    self.tasks[path])
+            found.quotas[path], weights[path] = self.written(
+                limit, rows[row].limit, self.standing(kept), self.tasks[path])
         if self.ways.has_weights:
             found.weights.update(tree_weights(model, weights))
             for path, line in found.told.items():
@@ -481,7 +484,7 @@ class Loop:
             self.tell([f"{path}: a limit below 1 ms is rounded up to it, and so is each other"])
         if quota is None:
             return kept.old
-        return replace(kept.old, quota=quota, period=self.host.period_us, burst=0)
+        return apply.known(kept.old.weight, quota, self.host.period_us, 0)
 
     def target_of(self, path: str, kept: Kept, found: Written) -> Settings:
         """What a group is to hold. A leaf without a limit of the rule holds what it holds."""
@@ -492,27 +495,30 @@ class Loop:
         target = self.limited(path, kept, found) if kept.is_leaf else kept.old
         # An idle group has no weight to be set.
         weight = found.weights.get(path, target.weight) if kept.stands.weight else target.weight
-        return replace(target, weight=weight)
+        return apply.known(weight, target.quota, target.period, target.burst)
 
     def write(self, found: Written) -> int:
         """Writes a round, after what stood is on the disk. Returns how many groups changed."""
         for path, kept in self.groups.items():
             kept.target = self.target_of(path, kept, found)
-        changed = [kept for kept in self.groups.values() if kept.target != kept.stands]
+        changes = [kept for kept in self.groups.values() if kept.target is not kept.stands
+                   and kept.target != kept.stands]
         if self.record is None:
             return 0
         try:
-            undo = [Change(kept.folder, kept.old, kept.target, earlier=(kept.stands,))
+            undo = [(kept.folder, kept.old, kept.target, kept.stands)
                     for kept in self.groups.values()
-                    if not kept.old == kept.stands == kept.target]
-            if changed or self.record.text and undo != self.undo:
-                self.record.put(apply.undo_text(self.root, undo, By.FILES))
+                    if (kept.stands, kept.target) != (kept.old, kept.old)]
+            if changes or self.record.text and undo != self.undo:
+                self.record.put(apply.undo_text(self.root, (
+                    Change(folder, old, target, earlier=(stands,))
+                    for folder, old, target, stands in undo), By.FILES))
                 self.undo = undo
-            for kept in changed:
+            for kept in changes:
                 self.set(kept)
         except HostFault as fault:
             raise WriteFault(fault.message) from fault
-        return len(changed)
+        return len(changes)
 
     def set(self, kept: Kept) -> None:
         """Writes the target of a group. One that is gone is dropped by the next reading. One that

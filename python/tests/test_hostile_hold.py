@@ -8,6 +8,8 @@ import shutil
 import signal
 import subprocess
 import sys
+import tempfile
+from pathlib import Path
 
 import pytest
 import trees
@@ -19,15 +21,15 @@ from arbiter_host.subcommands import hold as holding
 from held import FREE, SECOND, World, begun, content, limit, said, started
 from places import PACKAGE
 
-NOBODY = 65534
+NOBODY, TENANT = 65534, 65533
 OLD = Settings(100, None, 100000, 0)
 as_root = pytest.mark.skipif(os.geteuid() != 0, reason="gives files to another user")
 
 
-def give(path):
+def give(path, user=NOBODY):
     """Gives a group and its files to another user."""
     for each in (path, *path.iterdir()):
-        os.chown(each, NOBODY, NOBODY)
+        os.chown(each, user, user)
 
 
 class Kernel(safe_files.Root):
@@ -166,6 +168,39 @@ def test_an_idle_group_costs_one_file(world, engine, folder, monkeypatch):
     assert reads == [(name, "cpu.stat") for name in "abc"] * 2 + [
         ("a", "cpu.stat"), ("b", "cpu.stat"), ("b", "cpu.pressure"), ("b", "cgroup.threads"),
         ("c", "cpu.stat")]
+
+
+@as_root
+def test_a_tenant_shuts_its_files(engine, capsys):
+    """The loop of an ordinary user goes on. What cannot be read is left as it is, and told; groups
+    that can be are held, and put back."""
+    with tempfile.TemporaryDirectory() as name:
+        place = Path(name)
+        world = World(place, [("a", 100, FREE), ("b", 100, FREE), ("c", 200, FREE)])
+        for each in (place, *place.rglob("*")):
+            os.chown(each, NOBODY, NOBODY)
+        give(world.tree / "b", TENANT)
+        place.chmod(0o755)
+        os.seteuid(NOBODY)
+        try:
+            lines, loop = [], world.loop(engine)
+
+            def shut(mode, *files):
+                os.seteuid(0)
+                for file in files:
+                    (world.tree / "b" / file).chmod(mode)
+                os.seteuid(NOBODY)
+            world.after = [lambda: None, lambda: shut(0, "cpu.max"), lambda: None,
+                           lambda: shut(0, "cpu.stat"), lambda: None, lambda: shut(0, "."),
+                           lambda: None, lambda: shut(0o755, ".", "cpu.stat", "cpu.max"),
+                           lambda: None]
+            hold.run(loop, looks.Times(number=None), world.wait, lines.append)
+        finally:
+            os.seteuid(0)
+    assert [sorted(line["groups"]) for line in lines] == [
+        ["a", "b", "c"]] + [["a", "c"]] * 6 + [["a", "b", "c"]] * 2
+    told = capsys.readouterr().err
+    assert "b/cpu.max: Permission denied: its limit is left as it is" in told, told
 
 
 # Names

@@ -4,6 +4,7 @@ Whether the scheduler may put a pod on a node: cordons, taints and labels of the
 """
 from __future__ import annotations
 
+import functools
 import json
 import math
 import re
@@ -382,6 +383,7 @@ def scope_of(folder: str, container: Container, driver: str) -> str:
     return f"{folder}/{container.identifier}.scope"
 
 
+@functools.lru_cache(1 << 15)
 def kubelets(path: str) -> str:
     """The part of a path down to a group that has a name as kubelet's, which writes the settings of
     its groups itself; empty without one."""
