@@ -97,11 +97,11 @@ class Proposal:
         """The values that change, by their keys."""
         return {each.key: each.value for _, each in self.settings}
 
-    @property
-    def words_of_set(self) -> list[str]:
-        """The changes as `--set` takes them."""
+    def words_of_set(self, hosts: Set[int]) -> list[str]:
+        """The changes on some hosts as `--set` takes them."""
         titles = dict(zip(self.groups, self.titles))
-        return [f"{titles[at, each.path]}.{each.key}={each.value}" for at, each in self.settings]
+        return [f"{titles[at, each.path]}.{each.key}={each.value}" for at, each in self.settings
+                if at in hosts]
 
     @property
     def data(self) -> dict[str, Any]:
@@ -155,6 +155,8 @@ class Recommendation:
     # What is proposed to, and the settings that weigh it and that limit it.
     noun: str
     keys: tuple[str, str]
+    # The hosts on which something was chosen.
+    chosen: frozenset[int]
 
     @property
     def percentile(self) -> str:
@@ -325,7 +327,8 @@ def recommended(engine: Engine, hosts: Sequence[SeenHost], rule: Rule) -> Recomm
         rule, tuple(Advised(one, [found[at][path] for at, path in one.groups])
                     for one in proposals), tuple(plans.values()),
         (sum(now for (now, _), _ in known), sum(then for _, (then, _) in known))
-        if known else None, sum(room) if len(room) == len(plans) else None, kind.noun, kind.keys)
+        if known else None, sum(room) if len(room) == len(plans) else None, kind.noun, kind.keys,
+        frozenset(at for at, host in enumerate(hosts) if host.chosen != frozenset()))
 
 
 def as_data(advice: Recommendation) -> dict[str, Any]:
@@ -336,7 +339,7 @@ def as_data(advice: Recommendation) -> dict[str, Any]:
         amounts: dict[str, Any] = {f"{key}_millicpu": float(least[key]) for key in least}
         rows.append({
             advice.noun: one.title, **one.data, "groups": list(one.titles), **amounts,
-            "set": one.words_of_set,
+            "set": one.words_of_set(advice.chosen),
             "settings": {key: {"now": now, "then": one.values.get(key)}
                          for key, now in zip(advice.keys, one.words)}})
     return {"percent": advice.rule.percent, "headroom": float(advice.rule.headroom),

@@ -224,7 +224,11 @@ def test_an_owner_over_nodes_and_pods_that_are_gone(ctl, folder):
     # The owners of one node, by all that was seen of them.
     one, _, _ = recommended(ctl, *words, "--node", "n1")
     assert list(one) == ["Deployment x/web/c", "StatefulSet x/db/c", "DaemonSet x/log/c"]
-    assert one["Deployment x/web/c"]["set"] == by["Deployment x/web/c"]["set"]
+    # The changes on that node make the one patch of all.
+    sets = one["Deployment x/web/c"]["set"]
+    assert sets == by["Deployment x/web/c"]["set"][:1] == ["x/web-5d9c-bbbbb/c.request=850m"]
+    out, _ = ctl.run("apply", source, "--node", "n1", "--set", *sets, "-o", "kubectl")
+    assert "kubectl -n x patch deployment web " in out and out.count("850m") == 1
     (folder / "top").write_text("NAMESPACE POD NAME CPU(cores) MEMORY(bytes)\n" + "".join(
         f"x web-5d9c-{name} c 50m 1Mi\n" for name in ("bbbbb", "ccccc")))
     assert recommended(ctl, source, "--used", folder / "top", "--target", "p95,max")[1][
