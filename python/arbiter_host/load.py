@@ -28,6 +28,9 @@ def kind_of(path: str, data: bytes | None) -> str:
     if data is None:
         return "cgroup"
     name = path.lower()
+    if name.endswith((".yaml", ".yml")):
+        raise HostFault(f"{names.shown(path)}: YAML is not read: write TOML or JSON (of pods:"
+                        " kubectl get pods -o json)")
     is_named = name.endswith((".toml", ".script"))
     return next((kind for kind, each in READERS.items()
                  if each.is_one(name, b"" if is_named else data)), "script")
