@@ -382,8 +382,9 @@ def test_an_answer_without_an_end(monkeypatch):
     with answering(whole(" " * (2 << 20))) as url, pytest.raises(HostFault, match="more than 1 M"):
         asked(url)
     monkeypatch.setattr(prometheus, "MOST_SECONDS", 0)
-    with answering(whole(values("7"))) as url, pytest.raises(HostFault, match="in 0 sec"):
-        asked(url)
+    monkeypatch.setattr(prometheus, "exchanged", lambda _: time.sleep(1))
+    with pytest.raises(HostFault, match="in 0 sec"):
+        asked("http://127.0.0.1:1")
 
 
 # Servers that are slow: what comes before the first byte, what comes again and again, and its time.
