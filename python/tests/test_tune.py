@@ -15,7 +15,7 @@ from fractions import Fraction
 import pytest
 from arbiter import Host, Unmet
 from arbiter_host import change, choosing, demands, goals as goals_, other_limits, tune
-from arbiter_host import tune_settings, tune_weights
+from arbiter_host import progress, tune_settings, tune_weights
 from arbiter_host.faults import HostFault
 from arbiter_host.model import Group, Model
 from arbiter_host.plan import Engine, plan
@@ -544,11 +544,11 @@ def test_an_interrupt_waits_for_no_long_call():
     began = time.monotonic()
     threading.Timer(0.3, lambda: os.kill(os.getpid(), signal.SIGINT)).start()
     with pytest.raises(KeyboardInterrupt):
-        tune_weights.interruptible(lambda: time.sleep(20))
+        progress.in_thread(lambda: time.sleep(20))
     assert time.monotonic() - began < 10
     with pytest.raises(HostFault, match="wrong"):
-        tune_weights.interruptible(lambda: raising(HostFault("wrong")))
-    assert tune_weights.interruptible(lambda: 7) == 7
+        progress.in_thread(lambda: raising(HostFault("wrong")))
+    assert progress.in_thread(lambda: 7) == 7
 
 
 def raising(fault):
