@@ -159,16 +159,6 @@ class Root:
         finally:
             os.close(descriptor)
 
-    @contextmanager
-    def opened(self, folder: str, file: str, flags: int) -> Iterator[int]:
-        """A plain file below the root."""
-        with faults(self.name(folder, file)), self.at(folder) as above:
-            descriptor = plain(above, file, flags)
-            try:
-                yield descriptor
-            finally:
-                os.close(descriptor)
-
     def read(self, folder: str, file: str, most: int = MAX_TEXT) -> str:
         """The text of a file, at most so many bytes. The kernel gives a page at a time."""
         # (many files are read in a round: without the context managers)
@@ -185,11 +175,15 @@ class Root:
         newlines cover a longer text before the file is cut. So a process that is killed leaves the
         old text or the new one. Files of the kernel have size 0."""
         line = f"{text}\n".encode()
-        with self.opened(folder, file, os.O_WRONLY) as descriptor:
-            size = os.fstat(descriptor).st_size
-            os.write(descriptor, line.ljust(size, b"\n"))
-            if size > len(line):
-                os.ftruncate(descriptor, len(line))
+        with faults(self.name(folder, file)), self.at(folder) as above:
+            descriptor = plain(above, file, os.O_WRONLY)
+            try:
+                size = os.fstat(descriptor).st_size
+                os.write(descriptor, line.ljust(size, b"\n"))
+                if size > len(line):
+                    os.ftruncate(descriptor, len(line))
+            finally:
+                os.close(descriptor)
 
 
 def is_of_others(status: os.stat_result, bits: int = 0) -> bool:

@@ -6,12 +6,16 @@ group that was made first. So a group has n slices of a full host where its slic
 than the next slice of each other one.
 """
 import json
+import os
+import signal
+import threading
+import time
 from fractions import Fraction
 
 import pytest
 from arbiter import Host, Unmet
 from arbiter_host import change, choosing, demands, goals as goals_, other_limits, tune
-from arbiter_host import tune_settings, tune_weights
+from arbiter_host import progress, tune_settings, tune_weights
 from arbiter_host.faults import HostFault
 from arbiter_host.model import Group, Model
 from arbiter_host.plan import Engine, plan
@@ -533,3 +537,20 @@ def test_an_answer_that_does_not_meet_is_none(engine, monkeypatch):
                         lambda asked: tune_weights.tuned_free(asked, asked.weights))
     with pytest.raises(HostFault, match="a: the accepted plan does not meet its goal"):
         tune.tune(before, ["a=900m"])
+
+
+def test_an_interrupt_waits_for_no_long_call():
+    """A call of the library cannot be interrupted itself: many near goals took 40 s."""
+    began = time.monotonic()
+    threading.Timer(0.3, lambda: os.kill(os.getpid(), signal.SIGINT)).start()
+    with pytest.raises(KeyboardInterrupt):
+        progress.in_thread(lambda: time.sleep(20))
+    assert time.monotonic() - began < 10
+    with pytest.raises(HostFault, match="wrong"):
+        progress.in_thread(lambda: raising(HostFault("wrong")))
+    assert progress.in_thread(lambda: 7) == 7
+
+
+def raising(fault):
+    """Raises a fault."""
+    raise fault
