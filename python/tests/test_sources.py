@@ -13,7 +13,7 @@ import pytest
 import reading
 import trees
 from arbiter import Host
-from arbiter_host import demands, load, looks, plain_files, units
+from arbiter_host import demands, looks, plain_files, units
 from arbiter_host.faults import HostFault
 from arbiter_host.model import Group, Model
 from arbiter_host.plan import plan
@@ -278,9 +278,11 @@ def test_what_is_no_host_file_is_named(text, kind, words):
         reading.host_file(text.encode(), "h", kind)
 
 
-def test_yaml_is_refused_by_name():
-    with pytest.raises(HostFault, match="^h.yaml: YAML is not read: write TOML or JSON"):
-        load.kind_of("h.yaml", b"groups: {}")
+def test_yaml_is_no_source(ctl, folder):
+    """It is refused in one line, and not read as something else."""
+    (folder / "h.yaml").write_text("groups: {}\n")
+    _, err = ctl.run("explain", folder / "h.yaml", status=1)
+    assert "h.yaml: no source that is known" in err and err.count("\n") == 1
 
 
 @pytest.mark.parametrize("text, words", [
