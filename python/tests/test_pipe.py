@@ -1,5 +1,6 @@
 """The calls over a pipe, by the checked build, answer as the C library does."""
 import concurrent.futures
+import copy
 import multiprocessing
 import os
 import random
@@ -18,7 +19,7 @@ SEED, TREES = 20261127, 60
 HOSTS = (Host(), Host(2, 100000, 1000), Host(64, 1000000, 1000), Host(3, 20000, 4000))
 NO_HOSTS = (Host(0), Host(65), Host(1, 999, 1000), Host(1, 100000, 3000), Host(1, 100000, 0))
 # What no call is: they hold, make or read what the calls answer.
-NO_CALLS = {"host", "ask", "refused", "of_rows", "of_group", "is_proved"}
+NO_CALLS = {"host", "ask", "ask_host", "refused", "of_rows", "of_group", "of_host", "is_proved"}
 MOST = 2**64 - 1
 
 
@@ -42,13 +43,14 @@ def both(library, command):
 
 def answer(library, call, words):
     """What a call returns, as values that can be compared, or its refusal."""
+    words = copy.deepcopy(words)
     try:
         told = getattr(library, call)(*words)
     except Refused as refused:
         return "refused", refused.number, refused.name, refused.row
     if isinstance(told, Script):
         return told._replace(columns=list(vars(told.columns).values()))
-    return told
+    return (told, words[-1]) if call == "book" else told
 
 
 def some_rows(chance):
@@ -85,6 +87,8 @@ def of_tree(library, host, rows, chance):
     yield from (("check", (host, rows, each, evidence)) for each in (amounts, wrong, wrong[1:]))
     for each in ([chance.random() < 0.5 for _ in range(len(rows))], []):
         yield "hold", (host, rows, each)
+    for each in ([None if chance.random() < 0.5 else chance.randrange(40) for _ in rows], []):
+        yield "book", (host, rows, each, amounts, arbiter.Counters.zeros(len(rows)))
     for few in ([], goals[:1], goals):
         yield from (("tune", (host, rows, few, guaranteed)) for guaranteed in (False, True))
     yield "guarantee", (host, rows, group)
@@ -103,6 +107,12 @@ def of_no_tree():
         yield from (("demand", (host, number)) for number in (0, 1, 999, 1500, 10**9, MOST))
         yield from (("slices", (host, number, period)) for number in (0, 4999, 5000, 10**15, MOST)
                     for period in (100000, 1000, 999))
+        yield from (("period_limit", (host, quota, 100000, 5000, 3))
+                    for quota in (None, 999, 1000, 10**15))
+        yield from (("reading", (host, arbiter.RoundTimes(passed, 9 * 10**5, 10**5, 2), each))
+                    for passed in (0, 10**9) for each in ([], [(8 * 10**8, 10**8)], [(1, 1)] * 3))
+        yield from (("written", (host, limit, own, 10**5, 2))
+                    for limit in (0, 20, 100, MOST) for own in (None, 20, 101))
         yield from (("script", (host, each)) for each in
                     (b"", b"\n",
                      b"mkdir a\nmkdir a\nwrite a cpu.max 5000 100000\ndemand a 7\nperiod",
@@ -132,7 +142,7 @@ def test_random_trees(both):
         rows = some_rows(chance)
         more = compare(both, of_tree(both[0], host, rows, chance))
         met, refused = met + more[0], refused + more[1]
-    assert met == 20 * TREES and met / 4 < refused < met * 3 / 4
+    assert met == 22 * TREES and met / 4 < refused < met * 3 / 4
 
 
 def test_no_tree(both):
