@@ -278,11 +278,11 @@ def test_what_is_no_host_file_is_named(text, kind, words):
         reading.host_file(text.encode(), "h", kind)
 
 
-def test_yaml_is_no_source(ctl, folder):
+def test_yaml_is_refused_by_name(ctl, folder):
     """It is refused in one line, and not read as something else."""
     (folder / "h.yaml").write_text("groups: {}\n")
     _, err = ctl.run("explain", folder / "h.yaml", status=1)
-    assert "h.yaml: no source that is known" in err and err.count("\n") == 1
+    assert "h.yaml: YAML is not read: write TOML or JSON" in err and err.count("\n") == 1
 
 
 @pytest.mark.parametrize("text, words", [
