@@ -87,7 +87,8 @@ def of_tree(library, host, rows, chance):
     yield from (("check", (host, rows, each, evidence)) for each in (amounts, wrong, wrong[1:]))
     for each in ([chance.random() < 0.5 for _ in range(len(rows))], []):
         yield "hold", (host, rows, each)
-    for each in ([None if chance.random() < 0.5 else chance.randrange(40) for _ in rows], []):
+    for each in ([None if chance.random() < 0.5 else chance.randrange(40)
+                  for _ in range(len(rows))], []):
         yield "book", (host, rows, each, amounts, arbiter.Counters.zeros(len(rows)))
     for few in ([], goals[:1], goals):
         yield from (("tune", (host, rows, few, guaranteed)) for guaranteed in (False, True))
@@ -275,10 +276,14 @@ WARNED = ("arbiterctl: running the checked build, which proves nothing; ./build 
 
 
 def test_a_fresh_clone_explains_pods(ctl, clone):
-    """Its answer is that of the library, and standard error says that nothing is proved."""
-    wanted = ctl.ended(*PODS, cwd=PACKAGE.parent)
-    assert run_in(clone, *PODS) == (0, wanted.stdout.decode(), WARNED)
-    assert "nginx" in wanted.stdout.decode()
+    """Its answer is that of the library, and standard error says that nothing is proved. Only the
+    first call compiles."""
+    wanted = ctl.ended(*PODS, cwd=PACKAGE.parent).stdout.decode()
+    status, out, err = run_in(clone, *PODS)
+    assert (status, out) == (0, wanted) and "nginx" in out
+    assert err.startswith("arbiterctl: no C library of these sources: compiling the checked build")
+    assert err.endswith(WARNED)
+    assert run_in(clone, *PODS) == (0, wanted, WARNED)
 
 
 def test_many_hosts_are_told_once(clone):
@@ -288,7 +293,7 @@ def test_many_hosts_are_told_once(clone):
     for name in ("node.script", "pod.script"):
         shutil.copy(EXAMPLES / name, folder)
     status, out, err = run_in(clone, "explain", "hosts")
-    assert (status, err) == (0, WARNED) and out.startswith("hosts: 2, answered: 2,")
+    assert (status, err.count(WARNED)) == (0, 1) and out.startswith("hosts: 2, answered: 2,")
 
 
 def test_nothing_is_changed_by_the_checked_build(clone, world):
