@@ -7,12 +7,16 @@ import subprocess
 import sys
 
 import pytest
+from hypothesis import HealthCheck, settings
 
 from places import PACKAGE
 
 sys.path[:0] = [str(PACKAGE), *(str(PACKAGE.parent / name) for name in ("tests", "bench/kernel"))]
 pytest_plugins = ["shared_fixtures"]
 SECONDS = 300
+# A busy machine is no failure of a case.
+settings.register_profile("busy", deadline=None, suppress_health_check=[HealthCheck.too_slow])
+settings.load_profile("busy")
 
 
 @pytest.fixture(scope="session")
