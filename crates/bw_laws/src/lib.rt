@@ -5,10 +5,16 @@ mod bursts;
 mod cert;
 mod counters;
 mod ids;
+mod needed;
 mod transcripts;
 
 pub use bursts::scripts_keep_bursts_within;
 pub use cert::cert_is_accepted;
 pub use counters::new_groups_count_nothing;
 pub use ids::ids_are_given_once;
+pub use needed::{
+    demands_are_needed, greatest_total_is_needed, last_marks_are_needed, lengths_are_needed,
+    levels_are_needed, limits_are_needed, limits_at_flags_are_not_needed, next_marks_are_needed,
+    sums_are_needed,
+};
 pub use transcripts::{reading_follows_the_transcript, there_is_one_transcript};
