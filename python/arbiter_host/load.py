@@ -96,10 +96,19 @@ def load(options: argparse.Namespace, paths: Sequence[str], engine: Engine) -> M
     return model_of(options, opened(options, paths), engine)
 
 
+def check_read(options: argparse.Namespace, kind: str, count: int) -> None:
+    """A fault where a source of so many files is read once, so that --read has no effect on it."""
+    is_of_use = (options.want or "usage") in demands.OF_USE
+    is_once = not is_of_use if kind == "cgroup" else kind == "systemd" and count == 1
+    if is_once and "read" in options.given and options.asked != "top":
+        raise UsageFault("--read: it has no effect on a source that is read once")
+
+
 def model_of(options: argparse.Namespace, files: Sequence[Opened], engine: Engine) -> Model:
     """The model of one source whose files were read."""
     kind = options.kind or kind_of(*files[0])
     table.check(options, kind)
+    check_read(options, kind, len(files))
     named = [(names.shown(path), data) for path, data in files if data is not None]
     if kind == "cgroup":
         return finished(options, read_tree(options, [path for path, _ in files]))

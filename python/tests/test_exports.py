@@ -425,6 +425,7 @@ def test_kubelet_is_told(ctl, folder):
 
 @pytest.mark.parametrize("words, told", [
     (["-o", "dropin=x", "--yes"], "-o FORM writes files for review alone"),
+    (["-o", "dropin=x", "--by", "files"], "-o FORM writes files for review alone"),
     (["-o", "dropin=x", "--undo", "u"], "-o FORM writes files for review alone"),
     (["-o", "frob=x"], "with one of text, kubectl, dropin"),
     (["-o", "text=x"], "the steps are printed on standard output"),

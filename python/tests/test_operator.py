@@ -47,7 +47,6 @@ def test_export_piped_into_explain(ctl, tree, kind, names, form):
     """What is exported is explained without options as the source is with them."""
     sources = [FIXTURES / name for name in names] or [tree]
     options = ["--want", "busy"] + ([] if kind == "kubernetes" else ["--cpus", "6"])
-    options += ["--read", "2x1ms"] if kind == "cgroup" else []
     made, _ = ctl.run("export", "--from", kind, *sources, *options, "-o", form)
     words = ["--from", form] if form != "script" else []
     out, err = ctl.run("explain", "-o", "json", *words, "-", given=made.encode())
@@ -60,13 +59,13 @@ def test_control_characters_from_a_tree(ctl, folder):
     name = "a\x1b[31m\x07\u202e"
     trees.root2(folder / "t")
     trees.group2(folder / "t" / name)
-    words = [folder / "t", "--want", "busy", "--cpus", "2", "--read", "2x1ms"]
+    words = [folder / "t", "--want", "busy", "--cpus", "2"]
     made = ctl.run("export", *words)
     (folder / "s").write_text(made[0])
     said = [made[1], *ctl.run("explain", *words), *ctl.run("explain", folder / "s"),
             *(each for form in ("json", "html", "svg", "csv")
               for each in ctl.run("explain", "-o", form, *words)),
-            *ctl.run("top", *words, "-o", "text"),
+            *ctl.run("top", *words, "--read", "2x1ms", "-o", "text"),
             *ctl.run("diff", folder / "s", "--set", "*.weight=7"),
             *ctl.run("apply", folder / "s", "--set", "*.weight=7", "--root", folder / "t")]
     for each in said:

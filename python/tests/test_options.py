@@ -1,13 +1,17 @@
 """The one table of options: its size, what parsers make of it, and what has no effect."""
 import argparse
 import re
+from pathlib import Path
 
 import pytest
+import trees
 from arbiter_host import explain, looks, options as table, text
 from arbiter_host.faults import UsageFault
 from arbiter_host.fleet import report
 from arbiter_host.sources.register import READERS
 from arbiter_host.subcommands import SUMMARIES
+
+FIXTURES = Path(__file__).parent / "fixtures"
 
 
 def parsed(subcommand, *words):
@@ -65,6 +69,17 @@ def test_every_dest_has_its_value():
 def test_no_effect_is_refused(subcommand, words, kind, said):
     with pytest.raises(UsageFault, match=re.escape(said)):
         table.check(parsed(subcommand, *words), kind)
+
+
+def test_reading_once_takes_no_read(ctl, folder):
+    """Units that were printed once, and demands that are no use, have nothing to be read again."""
+    trees.root2(folder / "t")
+    trees.group2(folder / "t" / "a")
+    for source in (FIXTURES / "units.show", folder / "t"):
+        words = ("explain", source, "--cpus", "2", "--want", "busy")
+        _, err = ctl.run(*words, "--read", "3x1s", status=2)
+        assert "--read: it has no effect on a source that is read once" in err
+        ctl.run(*words)
 
 
 @pytest.mark.parametrize("subcommand,words,kind", [

@@ -56,8 +56,8 @@ def run(options: argparse.Namespace) -> None:
     """Prints the steps from one source to another; with --yes makes them."""
     outputs = table.outputs(options)
     forms = [each for each in outputs if each.form != "text"]
-    if forms and (options.yes or options.undo):
-        raise UsageFault("-o FORM writes files for review alone: without --yes and --undo")
+    if forms and not {"yes", "undo", "by"}.isdisjoint(options.given):
+        raise UsageFault("-o FORM writes files for review alone: without --yes, --by and --undo")
     if any(each.form == "text" and each.path != "-" for each in outputs):
         raise UsageFault("-o text: the steps are printed on standard output")
     if any(map(change.is_host, options.set)):

@@ -153,6 +153,8 @@ def run(asked: argparse.Namespace) -> None:
         # (as of a variable of a script that is not set)
         if value is not None and not value.strip():
             raise UsageFault(f"{name}: it is empty")
+    if asked.command_of_alert and not asked.alert:
+        raise UsageFault("--command: it runs at an --alert, and none is given")
     form, file = form_of(asked)
     times = looks.times_of(asked.read or ("x1s" if form == "live" else "x15s"))
     view_of(asked)
