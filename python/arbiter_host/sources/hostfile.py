@@ -1,4 +1,4 @@
-"""Host files in TOML or JSON: reads one with the line of each fault, and writes one.
+"""Host files in TOML or JSON: reads one, whose faults name table and key, and writes one.
 
     [host]
     cpus = 16
@@ -10,19 +10,19 @@
 """
 from __future__ import annotations
 
+import functools
 import itertools
 import json
 import re
 import tomllib
-from collections.abc import Callable, Iterator, Mapping, Sequence
-from contextlib import contextmanager
+from collections.abc import Callable, Mapping, Sequence
 from dataclasses import replace
 from fractions import Fraction
 from typing import Any
 
 from arbiter import Host, Library
 from arbiter_host import names, units
-from arbiter_host.faults import HostFault
+from arbiter_host.faults import HostFault, naming
 from arbiter_host.model import Group, Model, check_count, check_settings, checked
 from arbiter_host.sources.data import decoded
 from arbiter_host.sources.register import is_json
@@ -32,59 +32,6 @@ from arbiter_host.sources.wish import File, Wish, only
 MAX_BYTES = 8 << 20
 # Most of the sum over the lines of TOML of the squares of their dots: a name of n parts takes n^2.
 MAX_DOTS = 10**9
-# Comments and texts of TOML, and texts of JSON; and what stands behind a text that is a name.
-TOKENS = re.compile(r'"""(?:\\.|[^\\])*?"""' r"|'''.*?'''" r'|"(?:\\.|[^"\\\n])*"' r"|'[^'\n]*'"
-                    r"|#[^\n]*", re.DOTALL)
-BEHIND_NAME = re.compile(r"[ \t]*[=:.\]]")
-
-
-class KeyLines:
-    """A file whose keys are found by their words, for the lines of faults."""
-
-    def __init__(self, name: str, text: str) -> None:
-        self.name, self.text = name, text
-
-    def line(self, path: str, key: str = "") -> int:
-        """The first line behind the head of an entry that has the key; without a key that of the
-        entry."""
-        lines = names_alone(self.text).split("\n")
-        begin = next((place for place, line in enumerate(lines) if is_head(line, path)), 0)
-        shape = re.compile(rf"(^|[\s{{,\"']){re.escape(key)}[\"']?\s*[:=]")
-        places = (place for place in range(begin, len(lines)) if shape.search(lines[place]))
-        return 1 + (next(places, begin) if key else begin)
-
-    def fault(self, message: str, path: str = "", key: str = "") -> HostFault:
-        """A fault with file and line."""
-        which = f"{names.shown(path)}: " if path else ""
-        return HostFault(f"{self.name}:{self.line(path, key)}: {which}{message}")
-
-    @contextmanager
-    def finding(self, path: str, key: str = "") -> Iterator[None]:
-        """Faults of what is done here, with the line of an entry or of its key."""
-        try:
-            yield
-        except HostFault as fault:
-            what = f"{key}: {fault.message}" if key else fault.message
-            raise self.fault(what, path, key) from fault
-
-
-def names_alone(text: str) -> str:
-    """A file with its comments and its texts blank, but for those that are names."""
-    def blank(match: re.Match[str]) -> str:
-        word = match.group()
-        if word[0] != "#" and BEHIND_NAME.match(text, match.end()):
-            return word
-        return re.sub(r"[^\n]", " ", word)
-
-    return TOKENS.sub(blank, text)
-
-
-def is_head(line: str, path: str) -> bool:
-    """Whether a line begins a group or a table of a name."""
-    bare = re.escape(path)
-    quoted = re.escape(json.dumps(path, ensure_ascii=False))
-    return bool(path) and bool(
-        re.match(rf"\s*\[?(groups\.)?(\"{bare}\"|'{bare}'|{bare}|{quoted})\s*[\]:=]", line))
 
 
 def parsed(text: str, name: str, is_toml: bool) -> Any:
@@ -173,98 +120,91 @@ def set_key(group: Group, key: str, value: Any) -> None:
         setattr(group, key, GROUP_KEYS[key](value))
 
 
-def check_key(places: KeyLines, path: str, key: Any, known: Mapping[str, Any]) -> None:
-    """A fault for a key that a table does not have."""
-    if key not in known:
-        raise places.fault(f"no key {text_of(key)}: {', '.join(known)}", path, str(key))
-
-
-def read_group(places: KeyLines, path: str, entry: Any) -> Group:
-    """One group of a file."""
+def take_keys(entry: Any, known: Mapping[str, Any], what: str,
+              take: Callable[[str, Any], None]) -> None:
+    """Takes the keys of a table, the period first. A fault for one that it does not have."""
     if not isinstance(entry, dict):
-        raise places.fault("a group is a table of keys", path)
-    group = Group(path)
-    # (the period stands before the limit, which may be a CPU amount of it)
-    for key in [*(each for each in entry if each == "period"), *entry]:
-        check_key(places, path, key, GROUP_KEYS)
-        with places.finding(path, key):
-            set_key(group, key, entry[key])
-    try:
-        check_settings(group)
-    except HostFault as fault:
-        setting = fault.message.partition(" ")[0]
-        raise places.fault(fault.message, path, {"quota": "max"}.get(setting, setting)) from fault
+        raise HostFault(what)
+    # (a limit may be a CPU amount of the period)
+    for key in sorted(entry, key="period".__ne__):
+        if key not in known:
+            raise HostFault(f"no key {text_of(key)}: {', '.join(known)}")
+        with naming(key):
+            take(key, entry[key])
+
+
+def read_group(path: str, entry: Any) -> Group:
+    """One group of a file."""
+    group = Group(checked_path(path))
+    take_keys(entry, GROUP_KEYS, "a group is a table of keys", functools.partial(set_key, group))
+    check_settings(group)
     return group
 
 
-def check_path(places: KeyLines, path: Any) -> str:
+def checked_path(path: str) -> str:
     """A path that a script can hold."""
-    if not isinstance(path, str):
-        raise places.fault(f"{text_of(path)} is no path", str(path))
     for name in path.split("/"):
         if name in ("", ".", "..") or re.search(r"[ \t\n\0]", name):
-            raise places.fault("a path is names joined by /, without blanks", path)
+            raise HostFault("a path is names joined by /, without blanks")
         # (half a pair of surrogates, which JSON can hold, has no bytes)
         is_text = name.encode(errors="replace").decode() == name
         if not is_text or len(name.encode()) > names.MAX_NAME:
-            raise places.fault("a name is 1 to 255 bytes of UTF-8", path)
+            raise HostFault("a name is 1 to 255 bytes of UTF-8")
     return path
 
 
-def add(places: KeyLines, model: Model, group: Group) -> None:
+def add(model: Model, group: Group) -> None:
     """Adds a group, and each group above it that the file does not name."""
     above = names.parent_path(group.path)
     if above != "." and above not in model.groups:
-        add(places, model, Group(above))
-    with places.finding(group.path):
-        model.add(group)
+        add(model, Group(above))
+    model.add(group)
 
 
-def read_host(places: KeyLines, entry: Any) -> Host:
+def read_host(entry: Any) -> Host:
     """The table `host`."""
-    if not isinstance(entry, dict):
-        raise places.fault("host is a table", "host")
-    host = Host()
-    for key, value in entry.items():
-        check_key(places, "host", key, HOST_KEYS)
-        with places.finding("host", key):
-            number = whole(value) if key == "cpus" else time(value)
-            host = replace(host, **{HOST_KEYS[key]: number})
-    with places.finding("host"):
-        return checked(host)
+    numbers: dict[str, int] = {}
+
+    def take(key: str, value: Any) -> None:
+        numbers[HOST_KEYS[key]] = whole(value) if key == "cpus" else time(value)
+
+    take_keys(entry, HOST_KEYS, "host is a table", take)
+    return checked(replace(Host(), **numbers))
 
 
-def tables_in(places: KeyLines, entry: Any) -> tuple[Any, dict[str, Any]]:
+def tables_in(entry: Any) -> tuple[Any, dict[str, Any]]:
     """The tables `host` and `groups` of a file."""
     if not isinstance(entry, dict):
-        raise HostFault(f"{places.name}:1: a host file is a table with host and groups")
+        raise HostFault("a host file is a table with host and groups")
     unknown = next((key for key in entry if key not in ("host", "groups")), None)
     if unknown is not None:
-        raise HostFault(f"{places.name}:{places.line(str(unknown))}: " + (
+        raise HostFault(
             "an object of Kubernetes, of which pods and nodes are read as JSON: kubectl get pods -o"
-            " json" if "apiVersion" in entry else f"no table {text_of(unknown)}: host, groups"))
+            " json" if "apiVersion" in entry else f"no table {text_of(unknown)}: host, groups")
     groups = entry.get("groups") or {}
     if not isinstance(groups, dict):
-        raise places.fault("groups is a table of paths", "groups")
+        raise HostFault("groups is a table of paths")
     return entry.get("host", {}), groups
 
 
 def model_of(data: bytes, name: str, is_toml: bool) -> Model:
     """The model of a host file."""
-    places = KeyLines(name, decoded(data, name, MAX_BYTES))
-    entry = parsed(places.text, name, is_toml)
-    host, groups = tables_in(places, entry)
-    model = Model(read_host(places, host), names_host="host" in entry)
-    check_count(len(groups), f"{name}: {len(groups)} groups")
-    for path, each in groups.items():
-        group = read_group(places, check_path(places, path), {} if each is None else each)
-        if path in model.groups:
-            raise places.fault("a group stands before the groups below it", path)
-        add(places, model, group)
-    for path, below in model.children().items():
-        if path != "." and below and model.groups[path].demand:
-            raise places.fault("a group with children has no demand: give the children theirs",
-                               path, "demand")
+    entry = parsed(decoded(data, name, MAX_BYTES), name, is_toml)
+    with naming(name):
+        host, groups = tables_in(entry)
+        with naming("host"):
+            model = Model(read_host(host), names_host="host" in entry)
+        check_count(len(groups), f"{len(groups)} groups")
+        for path, each in groups.items():
+            with naming(names.shown(path)):
+                group = read_group(path, {} if each is None else each)
+                if path in model.groups:
+                    raise HostFault("a group stands before the groups below it")
+                add(model, group)
+        for path, below in model.children().items():
+            if path != "." and below and model.groups[path].demand:
+                raise HostFault(f"{names.shown(path)}: a group with children has no demand: give"
+                                " the children theirs")
     return model
 
 
