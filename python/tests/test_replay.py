@@ -7,7 +7,7 @@ from fractions import Fraction
 
 import pytest
 from arbiter import Host
-from arbiter_host import series
+from arbiter_host import plain_files, series
 from arbiter_host.faults import HostFault
 from arbiter_host.model import Group, Model
 from arbiter_host.sources import samples
@@ -102,7 +102,8 @@ def demands_of(data, path="f.csv"):
 @pytest.mark.parametrize("data", [
     b"\xef\xbb\xbfTime,web\n2026-01-05 10:00:00,0.5\n", b"Time;web\n1767607200;0,5\n",
     b"timestamp\tweb\n2026-01-05T10:00:00Z\t50%\n",
-    "Time,web\n10:00,0.5\n".encode("utf-16"), b"time,web\r\n10:00,500 m\r\n\r\n",
+    plain_files.in_utf8("f", "Time,web\n10:00,0.5\n".encode("utf-16")),
+    b"time,web\r\n10:00,500 m\r\n\r\n",
 ])
 def test_csv_as_grafana_writes_it(data, path):
     """By its name, and by its first line."""

@@ -20,12 +20,11 @@ def check_size(data: bytes, name: str, most: int = MAX_BYTES) -> None:
         raise HostFault(f"{name}: more than {most >> 20} MiB")
 
 
-def decoded(data: bytes, name: str, most: int = MAX_BYTES, encoding: str = "utf-8-sig",
-            errors: str = "strict") -> str:
+def decoded(data: bytes, name: str, most: int = MAX_BYTES, errors: str = "strict") -> str:
     """The text of a file of at most so many bytes; a fault names the line that is none."""
     check_size(data, name, most)
     try:
-        return data.decode(encoding, errors)
+        return data.decode("utf-8-sig", errors)
     except UnicodeDecodeError as error:
         line = data[:error.start].count(b"\n") + 1
         raise HostFault(f"{name}:{line}: not UTF-8") from error
@@ -69,8 +68,8 @@ def below(value: Any, *keys: str) -> Any:
 
 def table(value: Any, *keys: str) -> dict[str, Any]:
     """A table below a value; an empty one where there is none."""
-    found = below(value, *keys)
-    return found if isinstance(found, dict) else {}
+    inner = below(value, *keys)
+    return inner if isinstance(inner, dict) else {}
 
 
 def tables(value: Any, *keys: str) -> list[dict[str, Any]]:
@@ -87,7 +86,7 @@ def text(value: Any, *keys: str) -> str:
 
 def number(value: Any, *keys: str) -> int:
     """A whole number below a value, at most 2^63; 0 where there is none."""
-    found = below(value, *keys)
-    if isinstance(found, bool) or not isinstance(found, int):
+    inner = below(value, *keys)
+    if isinstance(inner, bool) or not isinstance(inner, int):
         return 0
-    return min(max(found, -2**63), 2**63)
+    return min(max(inner, -2**63), 2**63)

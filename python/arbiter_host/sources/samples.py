@@ -107,18 +107,13 @@ def time_name(text: str) -> str:
         return text
 
 
-def encoding_of(data: bytes) -> str:
-    """The encoding of a file, by the mark at its beginning."""
-    return "utf-16" if data[:2] in (b"\xff\xfe", b"\xfe\xff") else "utf-8-sig"
-
-
 def rows_of(data: bytes, name: str) -> tuple[list[str], list[tuple[str, list[str]]]]:
     """The first row of a CSV, and the others with their places. All have as many cells.
 
     Empty rows and Grafana's `sep=` line are left out. The most frequent of `;`, tab and `,` in the
     first line separates the cells.
     """
-    lines = decoded(data, name, MAX_FILE, encoding_of(data)).split("\n")
+    lines = decoded(data, name, MAX_FILE).split("\n")
     begin = int(lines[0].strip().lower().startswith("sep="))
     head = lines[begin] if len(lines) > begin else ""
     delimiter = max(";\t,", key=lambda each: (head.count(each), each == ","))
@@ -144,7 +139,7 @@ def is_csv(path: str, data: bytes) -> bool:
     """Whether a file is CSV, by its name or its first line, and has no lines of pairs."""
     if path.lower().endswith((".csv", ".tsv")):
         return True
-    line = data[:4096].decode(encoding_of(data), "replace").lstrip("\ufeff").partition("\n")[0]
+    line = data[:4096].decode("utf-8-sig", "replace").partition("\n")[0]
     words = line.split()
     are_pairs = len(words) % 2 == 0 and all(map(NUMBER.match, words[1::2]))
     return any(each in line for each in ",;\t") and not are_pairs and not line.startswith("#")
@@ -174,7 +169,7 @@ def read_pairs(data: bytes, name: str, first: int = 0) -> History:
     """The samples of lines `GROUP NUMBER GROUP NUMBER ..`. A line with `#` first is none. They are
     numbered from `first + 1` on."""
     read: list[Sample] = []
-    text = decoded(data, name, MAX_FILE, encoding_of(data))
+    text = decoded(data, name, MAX_FILE)
     for number, line in enumerate(text.removesuffix("\n").split("\n"), 1):
         words, where = line.split(), f"{name}:{number}"
         if words and words[0].startswith("#"):
