@@ -11,11 +11,10 @@ from arbiter import Library
 from arbiter_host import search, units
 from arbiter_host.atomic_files import Document
 from arbiter_host.exports import Differing, Draft, head
-from arbiter_host.sources.containers import ContainerSource
+from arbiter_host.sources.containers import COMPOSE, ContainerSource, service_of
 from arbiter_host.sources.data import number, table, text
 
 NAME = re.compile(r"[a-zA-Z0-9][a-zA-Z0-9_.-]{0,100}")
-LABELS = "com.docker.compose."
 
 
 def shares_of(library: Library, weight: int, conversion: str) -> int | None:
@@ -63,13 +62,6 @@ def keys_of(draft: Draft, group: Differing, config: dict[str, Any]) -> dict[str,
     return keys | (limit or {})
 
 
-def service_of(container: dict[str, Any]) -> tuple[str, str]:
-    """The project and the service that the labels of a container name; empty for none."""
-    project, service = (text(container, "Config", "Labels", f"{LABELS}{key}")
-                        for key in ("project", "service"))
-    return project, service
-
-
 def documents(draft: Draft) -> list[Document]:
     source, changed = draft.before.owned, set()
     containers = {path: source.running[at] for path, (at, _) in source.built[1].items()
@@ -81,7 +73,7 @@ def documents(draft: Draft) -> list[Document]:
         container = containers.get(group.path, {})
         project, service = service_of(container)
         if not (NAME.fullmatch(project) and NAME.fullmatch(service)):
-            draft.refuse(group.path, f"no service of compose ({LABELS}project and .service are"
+            draft.refuse(group.path, f"no service of compose ({COMPOSE}project and .service are"
                          " not among its labels)")
             continue
         keys = keys_of(draft, group, table(container, "HostConfig"))

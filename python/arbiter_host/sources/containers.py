@@ -20,6 +20,8 @@ from arbiter_host.sources.usage import Used
 from arbiter_host.sources.wish import File, Wish
 
 NANO = 10**9
+# What the labels of compose begin with.
+COMPOSE = "com.docker.compose."
 # docker takes no fewer CPUs, in thousandths.
 LEAST_CPUS = 10
 # The settings of a container that are read.
@@ -81,6 +83,13 @@ def parent_path(model: Model, folder: str) -> str:
     if path:
         systemd.make(model, path).place = folder
     return path or "."
+
+
+def service_of(container: Inspected) -> tuple[str, str]:
+    """The project and the service that compose's labels of a container name; empty for none."""
+    project, service = (text(container, "Config", "Labels", f"{COMPOSE}{key}")
+                        for key in ("project", "service"))
+    return project, service
 
 
 def is_running(container: Inspected) -> bool:
@@ -183,9 +192,7 @@ class ContainerSource(Measurable):
 
     def owner(self, path: str) -> str:
         """The service of compose of which it is one of several containers, else itself."""
-        labels = table(self.running[self.built[1][path][0]], "Config", "Labels")
-        project, service = (text(labels, f"com.docker.compose.{key}") for key in (
-            "project", "service"))
+        project, service = service_of(self.running[self.built[1][path][0]])
         return f"service {project}/{service}" if project and service else path
 
     def places_of(self, entry: Used) -> Sequence[Place]:
