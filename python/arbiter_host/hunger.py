@@ -37,8 +37,8 @@ def task(number: int) -> TaskTimes | None:
 def tasks(text: str) -> Tasks:
     """What the tasks of a list did. Of a longer list the first ones are read."""
     numbers = (number_in(word) for word in text.split()[:MOST_TASKS])
-    found = ((number, task(number)) for number in numbers if number)
-    return {number: each for number, each in found if each is not None}
+    pairs = ((number, task(number)) for number in numbers if number)
+    return {number: each for number, each in pairs if each is not None}
 
 
 def rises(before: Tasks, now: Tasks) -> Iterator[TaskTimes]:

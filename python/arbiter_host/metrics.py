@@ -232,9 +232,9 @@ def guarded(collector: Collector) -> Callable[..., Any]:
             return [b"/metrics\n"]
         # The time to make the answer is none of the reader's.
         environ[TIME].end()
-        found = app(environ, start)
+        body = app(environ, start)
         environ[TIME].begin()
-        return found
+        return body
 
     return answer
 

@@ -34,13 +34,13 @@ def in_thread(call: Callable[[], T], seconds: float | None = None) -> T:
     """What a call answers, in a thread that ends with the command: no interrupt waits for it. A
     TimeoutError after so many seconds."""
     from concurrent.futures import Future  # (few calls take long)
-    found: Future[T] = Future()
+    future: Future[T] = Future()
 
     def run() -> None:
         try:
-            found.set_result(call())
+            future.set_result(call())
         except BaseException as error:
-            found.set_exception(error)
+            future.set_exception(error)
 
     threading.Thread(target=run, daemon=True).start()
-    return found.result(seconds)
+    return future.result(seconds)

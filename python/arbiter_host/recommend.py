@@ -318,13 +318,13 @@ def recommended(engine: Engine, hosts: Sequence[SeenHost], rule: Rule) -> Recomm
         own.setdefault(at, []).append(path)
     plans = {at: compared(engine, hosts[at], whole, rule, [
         each for one in proposals for of, each in one.settings if of == at]) for at in own}
-    found = {at: outcomes(*plans[at], paths) for at, paths in own.items()}
+    by_host = {at: outcomes(*plans[at], paths) for at, paths in own.items()}
     totals = [(hosts[at].kind.totals(), owned_of(after.model).totals())
               for at, (_, after) in plans.items()]
     known = [(now, then) for now, then in totals if now and then]
     room = [most for (_, most), _ in known if most is not None]
     return Recommendation(
-        rule, tuple(Advised(one, [found[at][path] for at, path in one.groups])
+        rule, tuple(Advised(one, [by_host[at][path] for at, path in one.groups])
                     for one in proposals), tuple(plans.values()),
         (sum(now for (now, _), _ in known), sum(then for _, (then, _) in known))
         if known else None, sum(room) if len(room) == len(plans) else None, kind.noun, kind.keys,

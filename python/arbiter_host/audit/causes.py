@@ -30,7 +30,7 @@ class Outlooks:
 
     def __init__(self, intervals: Sequence[Interval]) -> None:
         self.intervals = intervals
-        self.found: dict[int, Outlook] = {}
+        self.by_place: dict[int, Outlook] = {}
         # Why placement is not known, in words.
         self.why_not: dict[str, None] = {}
 
@@ -38,21 +38,21 @@ class Outlooks:
         interval = self.intervals[place]
         if interval.model.host.processors == 1:
             return Outlook({})
-        if place not in self.found:
-            if len(self.found) >= MOST_TRIED:
+        if place not in self.by_place:
+            if len(self.by_place) >= MOST_TRIED:
                 self.why_not[f"tried for {MOST_TRIED} intervals alone"] = None
                 return Outlook({})
             model = with_demands(interval.model, interval.cells)
             # The model of placement knows tasks that work in each tenth of a second.
             model.host = Host(model.host.processors, 100000, 1000)
-            found = self.found[place] = placement.outlook(model)
-            self.why_not |= {found.why_not: None} if found.why_not else {}
-        return self.found[place]
+            outlook = self.by_place[place] = placement.outlook(model)
+            self.why_not |= {outlook.why_not: None} if outlook.why_not else {}
+        return self.by_place[place]
 
 
-def is_placement(interval: Interval, path: str, found: Outlook) -> bool:
+def is_placement(interval: Interval, path: str, outlook: Outlook) -> bool:
     """Whether a group has a range with what it used in it."""
-    range_, cell = found.ranges.get(path), interval.cells[path]
+    range_, cell = outlook.ranges.get(path), interval.cells[path]
     if range_ is None or range_.is_firm:
         return False
     used, planned = (float(each) / 1000 for each in (cell.used, cell.planned))

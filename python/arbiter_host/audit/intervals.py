@@ -155,12 +155,12 @@ def interval_of(engine: Engine, one: Look, two: Look, want: str | None,
     gone = one.counted.keys() - two.counted.keys() - model.groups.keys() - {"."}
     parents = one.model.children()
     holes |= {path: CAME for path in gone if not parents.get(path)}
-    found = plan(engine, with_demands(model, cells)) if cells else None
-    if found is not None:
-        cells |= {each.path: replace(cells[each.path], planned=found.thousandths(each.gets))
-                  for each in found.groups if each.path in cells}
+    plan_ = plan(engine, with_demands(model, cells)) if cells else None
+    if plan_ is not None:
+        cells |= {each.path: replace(cells[each.path], planned=plan_.thousandths(each.gets))
+                  for each in plan_.groups if each.path in cells}
     return Interval(one.name, two.at - one.at, model, cells, holes,
-                    unplanned_of(one, two, cells)), found
+                    unplanned_of(one, two, cells)), plan_
 
 
 def told_holes(intervals: Sequence[Interval]) -> list[str]:
@@ -199,16 +199,16 @@ def audited(engine: Engine, seen: Sequence[Look], want: str | None, away: set[in
     if len(seen) < 2:
         raise HostFault("one look alone: an interval is from one to the next. Take more readings,"
                         " or a shorter --step")
-    found: list[Interval] = []
+    intervals: list[Interval] = []
     last: Plan | None = None
     for place, (one, two) in enumerate(zip(seen, seen[1:]), 1):
         if two.at <= one.at:
             raise HostFault(f"the clock went back at {two.name}: ask for a range after that")
         interval, plan_ = interval_of(engine, one, two, want, place in away)
-        found.append(interval)
+        intervals.append(interval)
         last = plan_ or last
         tick()
-    if last is None or not any(cell.used for each in found for cell in each.cells.values()):
+    if last is None or not any(cell.used for each in intervals for cell in each.cells.values()):
         raise HostFault("no usage: no counter of a group rises from one look to the next. Take"
                         " later copies, or a longer range")
-    return Audit(found, last, notes_of(seen, found))
+    return Audit(intervals, last, notes_of(seen, intervals))

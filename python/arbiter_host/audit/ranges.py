@@ -3,10 +3,9 @@ from __future__ import annotations
 
 import math
 import re
-from collections.abc import Iterable, Iterator, Mapping, Sequence
+from collections.abc import Iterable, Mapping, Sequence
 from dataclasses import dataclass, replace
 from fractions import Fraction
-from typing import Any
 
 from arbiter_host import units
 from arbiter_host.demands import CounterReading
@@ -63,20 +62,17 @@ class Prometheus:
         """The values of each series of a metric in the range."""
         query = metric.replace(USAGE, USAGE + self.selector)
         query = query if USAGE in metric else metric + self.selector
-        return prometheus.of_range(self.url, query, self.range,
-                                   lambda answer: dict(self.parsed(answer)))
+        answer = prometheus.of_range(self.url, query, self.range, prometheus.series_of)
+        return {frozenset(each.labels.items()): self.numbers(each.values) for each in answer}
 
-    def parsed(self, answer: Any) -> Iterator[tuple[Labels, Values]]:
-        """The series of an answer. A value that is no number is left out."""
-        for each in answer["data"]["result"]:
-            labels = frozenset((str(key), str(value)) for key, value in each["metric"].items()
-                               if key != "__name__")
-            times = [round(prometheus.instant(at) * 1000) for at, _ in each["values"]]
-            if any(two <= one for one, two in zip(times, times[1:])):
-                raise HostFault(f"{shown(self.url)}: the times of a series go back: ask for a range"
-                                " after the clock was set")
-            values = [number_of(str(value), self.url) for _, value in each["values"]]
-            yield labels, {at: value for at, value in zip(times, values) if value is not None}
+    def numbers(self, values: Mapping[float, str]) -> Values:
+        """The values of a series. One that is no number is left out."""
+        times = [round(at * 1000) for at in values]
+        if any(two <= one for one, two in zip(times, times[1:])):
+            raise HostFault(f"{shown(self.url)}: the times of a series go back: ask for a range"
+                            " after the clock was set")
+        numbers = [number_of(each, self.url) for each in values.values()]
+        return {at: number for at, number in zip(times, numbers) if number is not None}
 
 
 def number_of(text: str, url: str) -> float | None:
@@ -112,17 +108,17 @@ class Places:
             whole = "/".join(labels.get(key, "") for key in ("namespace", "pod", "container"))
             return self.names.get(whole) or self.names.get(named)
         if "id" in labels:
-            found = self.folders.get(labels["id"].strip("/"))
-            return found or self.lasts.get(labels.get("name", ""))
+            path = self.folders.get(labels["id"].strip("/"))
+            return path or self.lasts.get(labels.get("name", ""))
         return self.names.get(named) or self.lasts.get(named)
 
 
 def unique(pairs: Iterable[tuple[str, str]]) -> dict[str, str | None]:
     """The path of each name; None where it is that of several."""
-    found: dict[str, str | None] = {}
+    by_name: dict[str, str | None] = {}
     for name, path in pairs:
-        found[name] = None if name in found else path
-    return found
+        by_name[name] = None if name in by_name else path
+    return by_name
 
 
 def is_of_none(labels: Mapping[str, str]) -> bool:
@@ -139,7 +135,7 @@ def title_of(labels: Mapping[str, str]) -> str:
 
 
 @dataclass
-class Found:
+class Fetched:
     """The series of all metrics, and the leaf of each."""
 
     series: dict[str, dict[Labels, Values]]
@@ -158,15 +154,15 @@ class Found:
 
     def limits(self, at: int) -> dict[str, tuple[int, int]]:
         """The quotas and periods at a step, by leaf."""
-        found = {}
+        limits = {}
         for labels, path in self.leaves.items():
             quota, period = (self.count(key, labels, at) for key in ("quota", "period"))
             if quota and period:
-                found[path] = units.bounded_limit(quota, period)
-        return found
+                limits[path] = units.bounded_limit(quota, period)
+        return limits
 
 
-def fetched(server: Prometheus, model: Model) -> tuple[Found, list[str]]:
+def fetched(server: Prometheus, model: Model) -> tuple[Fetched, list[str]]:
     """All series, and what is told of those of no group."""
     usage = server.series(METRICS["usage"])
     if not any(usage.values()):
@@ -187,7 +183,7 @@ def fetched(server: Prometheus, model: Model) -> tuple[Found, list[str]]:
     notes = [f"series of no group here, {some(sorted(missing))}"] if missing else []
     unseen = [shown(path) for path in places.leaves if path not in leaves.values()]
     notes += [f"groups of which nothing is measured, {some(unseen)}"] if unseen else []
-    return Found(series, leaves), notes
+    return Fetched(series, leaves), notes
 
 
 def with_limits(model: Model, limits: Mapping[str, tuple[int, int]]) -> Model:
@@ -201,25 +197,25 @@ def with_limits(model: Model, limits: Mapping[str, tuple[int, int]]) -> Model:
 
 def looks(server: Prometheus, model: Model) -> tuple[list[Look], list[str]]:
     """The looks at the groups of a model, and what is told of the series."""
-    found, notes = fetched(server, model)
+    measured, notes = fetched(server, model)
     models: dict[frozenset[object], Model] = {}
     made = []
-    for at in sorted({at for labels in found.leaves for at in found.series["usage"][labels]}):
-        limits = found.limits(at)
+    for at in sorted({at for labels in measured.leaves for at in measured.series["usage"][labels]}):
+        limits = measured.limits(at)
         same = models.setdefault(frozenset(limits.items()), with_limits(model, limits))
         look = Look(Fraction(at, 1000), same, name=time_name(str(at // 1000)))
-        for labels, path in found.leaves.items():
-            if at in found.series["usage"][labels]:
-                look.counted.setdefault(path, {})[labels] = found.counted(labels, at)
-                count = found.count("tasks", labels, at)
+        for labels, path in measured.leaves.items():
+            if at in measured.series["usage"][labels]:
+                look.counted.setdefault(path, {})[labels] = measured.counted(labels, at)
+                count = measured.count("tasks", labels, at)
                 if count:
                     look.tasks[path] = look.tasks.get(path, 0) + count
         made.append(look)
     return made, notes
 
 
-def gaps(found: Sequence[Look]) -> set[int]:
+def gaps(seen: Sequence[Look]) -> set[int]:
     """The places of looks before which the server was away: more than a step passed."""
-    passed = [two.at - one.at for one, two in zip(found, found[1:])]
+    passed = [two.at - one.at for one, two in zip(seen, seen[1:])]
     least = min(passed, default=Fraction(0))
     return {place for place, each in enumerate(passed, 1) if each > MOST_STEPS * least}

@@ -41,10 +41,10 @@ class HostAnswer:
 
     def of(self, *keys: str) -> Fraction:
         """An amount of its answer in CPUs."""
-        found: Any = self.answer
+        value: Any = self.answer
         for key in keys:
-            found = found[key]
-        return self.cpus(found)
+            value = value[key]
+        return self.cpus(value)
 
 
 def accepted(engine: Engine, host: Host, sent: SentRows) -> Plan:
@@ -162,12 +162,12 @@ def answer_of(job: Job, sent: Sent | str, engine: Engine) -> dict[str, Any]:
         if not all(type(each) is int for each in astuple(sent.host)):
             raise HostFault("a host of other than whole numbers")
         host, groups = checked(sent.host), len(sent.plans[0].paths) - 1 if sent.plans else 0
-        found = ACTIONS[job.action](job, (accepted(engine, host, each) for each in sent.plans),
-                                    sent.told)
+        answer = ACTIONS[job.action](job, (accepted(engine, host, each) for each in sent.plans),
+                                     sent.told)
     except BROKEN as error:
         raise HostFault(f"what its worker answers cannot be read: {type(error).__name__}"
                         ) from error
     except StopIteration as error:
         raise HostFault("its worker answers fewer plans than were asked") from error
     return {"cpus": host.processors, "period_usec": host.period_us, "slice_usec": host.slice_us,
-            "capacity": host.capacity, "groups": groups, **found}
+            "capacity": host.capacity, "groups": groups, **answer}

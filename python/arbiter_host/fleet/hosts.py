@@ -14,7 +14,7 @@ from arbiter_host import demands, load, names
 from arbiter_host.faults import HostFault, UsageFault, strerror
 from arbiter_host.fleet.work import HostFile
 from arbiter_host.sources import kubernetes, pods
-from arbiter_host.sources.data import below as found_below, loads, table, text
+from arbiter_host.sources.data import below as value_below, loads, table, text
 from arbiter_host.sources.usage import Used, of_metrics, some
 
 NODE = re.compile(rb'"kind"\s*:\s*"Node"')
@@ -75,9 +75,9 @@ def items_of(path: str, data: bytes) -> list[dict[str, Any]]:
     """The objects of JSON with several nodes; none of any other file."""
     if data[:64].lstrip(b"\xef\xbb\xbf \t\r\n")[:1] != b"{" or len(NODE.findall(data)) < 2:
         return []
-    found = loads(data, names.shown(path))
-    items = (kubernetes.items_of(found, names.shown(path))
-             if isinstance(found_below(found, "items"), list) else [])
+    content = loads(data, names.shown(path))
+    items = (kubernetes.items_of(content, names.shown(path))
+             if isinstance(value_below(content, "items"), list) else [])
     return items if sum(each.get("kind") == "Node" for each in items) > 1 else []
 
 

@@ -92,15 +92,15 @@ def explained(_: Job, model: Model, engine: Engine) -> Asked:
 
 def matched(model: Model, words: Sequence[str]) -> tuple[list[str], set[str]]:
     """The changes for which a host has a group, and the paths of these groups."""
-    found, paths = [], set()
+    fitting, paths = [], set()
     for word in words:
         try:
             groups = demands.matching(model, change.split(word)[0])
         except HostFault:
             continue
-        found.append(word)
+        fitting.append(word)
         paths |= {group.path for group in groups}
-    return found, paths
+    return fitting, paths
 
 
 def compared(job: Job, model: Model, engine: Engine) -> Asked:

@@ -300,12 +300,12 @@ class PodSource(Measurable):
     def makers(self) -> dict[tuple[str, str], dict[str, re.Pattern[str]]]:
         """The owners of containers, and the names of the pods that each makes, by the namespace and
         the container."""
-        found: dict[tuple[str, str], dict[str, re.Pattern[str]]] = {}
+        by_container: dict[tuple[str, str], dict[str, re.Pattern[str]]] = {}
         for _, pod, container in self.every:
             if pod.owner:
-                found.setdefault((pod.namespace, container.name), {}).setdefault(
+                by_container.setdefault((pod.namespace, container.name), {}).setdefault(
                     pod.owner, names_by(pod.owner))
-        return found
+        return by_container
 
     def makers_of(self, entry: Used) -> set[str]:
         """The containers of owners that make pods of such a name."""
@@ -417,17 +417,17 @@ class PodSource(Measurable):
 def names_at(files: Sequence[File]) -> dict[str, PodNames]:
     """The names of the pods of some files, and of their containers, by their folders below the top
     of a tree, whichever driver kubelet has."""
-    found: dict[str, PodNames] = {}
+    by_folder: dict[str, PodNames] = {}
     for item in (item for name, data in files for item in items_of(loads(data, name), name)):
         if is_pod(item) and not has_ended(item):
             pod = pod_of(item, [])
             for driver in DRIVERS:
                 folder = folder_of(pod, driver)
-                found[folder] = (pod.namespace, pod.name, "")
-                found |= {scope_of(folder, each, driver): (pod.namespace, pod.name, each.name)
+                by_folder[folder] = (pod.namespace, pod.name, "")
+                by_folder |= {scope_of(folder, each, driver): (pod.namespace, pod.name, each.name)
                           for each in pod.parts}
-    found.pop(NOWHERE, None)
-    return found
+    by_folder.pop(NOWHERE, None)
+    return by_folder
 
 
 def requested_by(pods: Sequence[Pod]) -> int:

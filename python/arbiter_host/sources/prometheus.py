@@ -20,7 +20,7 @@ from arbiter_host.names import cut, shown
 from arbiter_host.sources.data import check_memory
 from arbiter_host.sources.samples import EMPTY, TABLE, History, Sample, time_name
 
-Found = TypeVar("Found")
+Parsed = TypeVar("Parsed")
 
 SCHEMES = ("http://", "https://")
 # Seconds that a server may be silent, and of a whole exchange; bytes of an answer, and of a piece.
@@ -141,7 +141,7 @@ def range_of(word: str | None, step: str | None, default: str = "1d") -> QueryRa
     return QueryRange(f"{now - back:.3f}", str(now), seconds)
 
 
-def of_range(url: str, query: str, asked: QueryRange, parsed: Callable[[Any], Found]) -> Found:
+def of_range(url: str, query: str, asked: QueryRange, parsed: Callable[[Any], Parsed]) -> Parsed:
     """What is parsed of the answer to a range query."""
     if not is_address(url):
         raise UsageFault(f"{shown(url)}: not http:// or https://")

@@ -203,12 +203,12 @@ class UnitSource(Units):
     has_left_out: bool = False
 
     def counters(self) -> dict[str, Measured]:
-        found = {}
+        by_path = {}
         for path, unit in self.properties.items():
             used = [whole(each.get(path, {}).get("CPUUsageNSec", "")) for each in self.readings]
-            found[path] = Measured([CounterReading(None if each is None else each // 1000)
+            by_path[path] = Measured([CounterReading(None if each is None else each // 1000)
                                     for each in used], tasks=whole(unit.get("TasksCurrent", "")))
-        return found
+        return by_path
 
     @functools.cached_property
     def plain(self) -> Model:

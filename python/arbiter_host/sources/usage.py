@@ -54,8 +54,8 @@ class Used(NamedTuple):
     @property
     def word(self) -> str:
         """The names in one word."""
-        found = [each for each in (self.namespace, self.pod, self.container) if each]
-        return "/".join(found) or self.identifier
+        parts = [each for each in (self.namespace, self.pod, self.container) if each]
+        return "/".join(parts) or self.identifier
 
     @property
     def title(self) -> str:

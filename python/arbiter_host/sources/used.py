@@ -97,15 +97,15 @@ def of_file(options: argparse.Namespace, word: str, first: int) -> History:
 
 def history(options: argparse.Namespace) -> History:
     """The samples of all words, one file after the other."""
-    found: list[History] = []
+    histories: list[History] = []
     for word in options.used:
         if prometheus.is_address(word):
-            found.append(prometheus.history_of(metrics_of(options, word), word))
+            histories.append(prometheus.history_of(metrics_of(options, word), word))
         elif os.path.isdir(word):
             raise UsageFault(f"--used {shown(word)}: a folder has samples of many hosts")
         else:
-            found.append(of_file(options, word, sum(len(each.samples) for each in found)))
-    return samples.joined(found)
+            histories.append(of_file(options, word, sum(len(each.samples) for each in histories)))
+    return samples.joined(histories)
 
 
 def mapped(words: Sequence[str]) -> dict[str, str]:
@@ -130,24 +130,24 @@ def entries(options: argparse.Namespace) -> list[Used]:
     if not more and not prometheus.is_address(word):
         data = bytes_of(options, word)
         if usage.is_usage(data):
-            found = usage.read(data, shown(word))
+            used = usage.read(data, shown(word))
             if options.want not in (None, "usage"):
                 raise UsageFault(f"--want {options.want}: {name(options)} tells of one time alone:"
                                  " it belongs to --want usage")
-            return found
+            return used
     unit = options.unit if options.asked == "recommend" else "cpu"
     host, mapping = by_options.machine(options), mapped(options.map)
     values: dict[str, list[tuple[str, Fraction]]] = {}
     for sample in history(options).samples:
         for column, demand in sample.demands(unit, host).items():
             values.setdefault(mapping.get(column, column), []).append((sample.name, demand))
-    found = []
+    used = []
     for column, each in values.items():
         namespace, pod, container = (column.split("/") if column.count("/") == 2
                                      else ("", "", column))
-        found.append(Used(tuple(demand for _, demand in each), namespace, pod, container,
+        used.append(Used(tuple(demand for _, demand in each), namespace, pod, container,
                           times=times_of([name for name, _ in each])))
-    return found
+    return used
 
 
 def times_of(samples: Sequence[str]) -> demands.Times | None:

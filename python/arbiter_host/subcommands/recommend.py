@@ -41,10 +41,10 @@ def of_cluster(options: argparse.Namespace, fleet: Fleet, by: Engine) -> list[Mo
     if used.is_tree(options):
         raise UsageFault("--used: a tree of cgroups is of one node: give this node's pods alone")
     sources = [each.owned for each in models if isinstance(each.owned, Measurable)]
-    found, notes = measured(sources, used.entries(options), used.name(options))
+    with_use, notes = measured(sources, used.entries(options), used.name(options))
     for note in (*fleet.notes, *notes):
         output.warn(note)
-    return [each.model() for each in found]
+    return [each.model() for each in with_use]
 
 
 def models_of(options: argparse.Namespace, by: Engine) -> list[tuple[str, Model]]:
