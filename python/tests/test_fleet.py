@@ -48,6 +48,11 @@ def test_a_fleet_is_explained_as_its_hosts(ctl, fleet):
                                                       / 100, 6)
 
 
+def test_rank_needs_a_pod_that_waits(ctl, fleet):
+    _, err = ctl.run("explain", fleet, "--rank", "most-left", *NEEDS, status=2)
+    assert "--rank: it has no effect where no pod waits for a host" in err
+
+
 def test_a_change_is_that_of_each_host(ctl, fleet):
     """Gains and losses are those of `diff`; a host without the group stays as it is."""
     (fleet / "other.toml").write_text("[host]\ncpus = 2\n[groups.web]\ndemand = \"3cpu\"\n")

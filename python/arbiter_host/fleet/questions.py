@@ -40,6 +40,8 @@ def fleet_in(options: argparse.Namespace) -> Fleet | None:
     if fleet is None:
         return None
     table.check(options, table.HOSTS)
+    if options.asked == "explain" and "rank" in options.given and not fleet.pending:
+        raise UsageFault("--rank: it has no effect where no pod waits for a host")
     if words and not fleet.is_cluster:
         raise UsageFault("--used is of the pods of a cluster: other hosts have none")
     for note in fleet.notes:
