@@ -259,10 +259,10 @@ TABLE = (
     Option(("--cpus",), "cpus", "host", (*READ, "hold"), "CPUs of the host (default: what the"
            " source says, else this machine's for cgroups, systemd and containers, else 1)", "N",
            is_number=True),
-    Option(("--period",), "period", "host", (*READ, "hold"), "period, such as 100ms (default"
+    Option(("--period",), "period", "host", (*DEMAND, "hold"), "period, such as 100ms (default"
            " 100ms)", "TIME",
            helps={"hold": "period of the limits, 100ms or 1s (default 1s)"}),
-    Option(("--slice",), "slice", "host", (*READ, "hold"), "slice, such as 1ms (default: what the"
+    Option(("--slice",), "slice", "host", (*DEMAND, "hold"), "slice, such as 1ms (default: what the"
            " source says, else 1ms, or 5ms for scripts)", "TIME"),
     Option(("--library",), "library", "host", (*READ, "hold"), "the C library (default: the first"
            " that is found)", "PATH"),

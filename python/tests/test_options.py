@@ -71,6 +71,11 @@ def test_no_effect_is_refused(subcommand, words, kind, said):
         table.check(parsed(subcommand, *words), kind)
 
 
+def test_apply_has_no_period_of_a_plan():
+    """Settings are those of any period and slice."""
+    assert not {"period", "slice"} & {each.dest for each in table.of("apply")}
+
+
 def test_reading_once_takes_no_read(ctl, folder):
     """Units that were printed once, and demands that are no use, have nothing to be read again."""
     trees.root2(folder / "t")

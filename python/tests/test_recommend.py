@@ -438,6 +438,12 @@ def test_units_of_a_tree(ctl, folder):
                                     "b.service": (("100", "138"), ("-", None))}
 
 
+def test_one_time_has_no_columns(ctl):
+    for words in (("--map", "a=b"), ("--unit", "m")):
+        _, err = ctl.run("recommend", PODS, NODE, "--used", FIXTURES / "top.txt", *words, status=2)
+        assert f"{words[0]}: it has no effect on what was used at one time" in err
+
+
 def test_units_with_a_history(ctl, folder):
     """Two days of 100m and 300m: 345m of the greatest are a weight of 35. Others are told."""
     (folder / "h.csv").write_text("time,ssh.service,nope\n2026-11-01 00:00:00,100m,1\n"

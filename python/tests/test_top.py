@@ -189,6 +189,8 @@ def test_command_of_an_alert(ctl, folder):
     (["--read", "1x0"], "--read: a time above 0"), (["--read", "5s"], "--read 5s: NxTIME"),
     (["--read", "1xy"], "--read: 'y' is no time"), (["--listen", "0.0.0.0:1"], "not a loopback"),
     (["--command", ""], "--command: it is empty"), (["--command", " "], "--command: it is empty"),
+    (["-g", "b"], "--group: it has no effect on lines of json (-o text)"),
+    (["-o", "json", "--unit", "m"], "--unit: it has no effect on lines of json (-o text)"),
     (["--command", "true"], "--command: it runs at an --alert, and none is given"),
     (["--listen", ""], "--listen: it is empty"), (["-o", "openmetrics="], "FORM=FILE"),
     (["-o", "openmetrics"], "-o openmetrics=FILE"), (["-o", "json=x"], "printed on standard"),

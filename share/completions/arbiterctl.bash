@@ -279,11 +279,9 @@ _arbiterctl() {
                 --node) ;;
                 --node-weights) mapfile -t COMPREPLY < <(compgen -W "linear log runtime-log" -- "$word") ;;
                 --cpus) ;;
-                --period) ;;
-                --slice) ;;
                 --library) ;;
                 *)
-                    [[ $word == -* ]] && mapfile -t COMPREPLY < <(compgen -W "-o --output -v --verbose --set --yes --root --by --undo --from --node --node-weights --strict --cpus --period --slice --library -h --help" -- "$word")
+                    [[ $word == -* ]] && mapfile -t COMPREPLY < <(compgen -W "-o --output -v --verbose --set --yes --root --by --undo --from --node --node-weights --strict --cpus --library -h --help" -- "$word")
                     ;;
             esac
             ;;

@@ -256,8 +256,6 @@ complete -c arbiterctl -n '__fish_seen_subcommand_from apply' -l node -x -d 'the
 complete -c arbiterctl -n '__fish_seen_subcommand_from apply' -l node-weights -x -a 'linear log runtime-log' -d 'how a node makes weights of shares: `linear` before runc 1.3.2 and crun 1.23, `log` from these on, `runtime-log` where only the runtime is new (default linear)'
 complete -c arbiterctl -n '__fish_seen_subcommand_from apply' -l strict -d 'refused lines of a script end the command with status 4'
 complete -c arbiterctl -n '__fish_seen_subcommand_from apply' -l cpus -x -d 'CPUs of the host (default: what the source says, else this machine\'s for cgroups, systemd and containers, else 1)'
-complete -c arbiterctl -n '__fish_seen_subcommand_from apply' -l period -x -d 'period, such as 100ms (default 100ms)'
-complete -c arbiterctl -n '__fish_seen_subcommand_from apply' -l slice -x -d 'slice, such as 1ms (default: what the source says, else 1ms, or 5ms for scripts)'
 complete -c arbiterctl -n '__fish_seen_subcommand_from apply' -l library -r -F -d 'the C library (default: the first that is found)'
 complete -c arbiterctl -n '__fish_seen_subcommand_from apply' -s h -l help -d 'print help'
 

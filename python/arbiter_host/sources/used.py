@@ -131,6 +131,9 @@ def entries(options: argparse.Namespace) -> list[Used]:
         data = bytes_of(options, word)
         if usage.is_usage(data):
             used = usage.read(data, shown(word))
+            idle = {"map", "unit"} & options.given if options.asked == "recommend" else ()
+            if idle:
+                raise UsageFault(f"--{min(idle)}: it has no effect on what was used at one time")
             if options.want not in (None, "usage"):
                 raise UsageFault(f"--want {options.want}: {name(options)} tells of one time alone:"
                                  " it belongs to --want usage")

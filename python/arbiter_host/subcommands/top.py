@@ -30,6 +30,8 @@ SECONDS = 60
 # A remark that is new in each round: the figures have it.
 THROTTLED = re.compile(r": throttled in [0-9]+ of [0-9]+ periods: ")
 MEASURED = ("throttled", "off")
+# Options of the table alone: a line of JSON has the host, and the groups of alerts.
+OF_TABLE = ("group", "namespace", "selector", "state", "sort", "depth", "unit", "everything")
 
 
 def reader(asked: argparse.Namespace, wanted: Sequence[top.Condition],
@@ -156,6 +158,10 @@ def run(asked: argparse.Namespace) -> None:
     if asked.command_of_alert and not asked.alert:
         raise UsageFault("--command: it runs at an --alert, and none is given")
     form, file = form_of(asked)
+    idle = [each.name for each in options.of("top") if each.dest in OF_TABLE
+            and each.dest in asked.given]
+    if form == "json" and idle:
+        raise UsageFault(f"{idle[0]}: it has no effect on lines of json (-o text)")
     times = looks.times_of(asked.read or ("x1s" if form == "live" else "x15s"))
     view_of(asked)
     try:
