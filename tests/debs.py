@@ -169,7 +169,7 @@ def test_arbiterctl_runs(installed):
                        ("cpu.stat", "usage_usec 5")):
         (group / name).write_text(f"{text}\n")
     script = within(installed, "arbiterctl", "export", "/srv/cgroup", "--want", "busy",
-                    "--cpus", "2", "--read", "2x10ms", user="65534:65534")
+                    "--cpus", "2", user="65534:65534")
     assert "write web.service cpu.weight 200\n" in script, script
     found = json.loads(within(installed, "arbiterctl", "explain", "-o", "json", "-",
                               given=script.encode(), user="65534:65534"))
