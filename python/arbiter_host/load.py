@@ -51,7 +51,7 @@ def wish_of(options: argparse.Namespace) -> Wish:
                    measured=measured)
 
 
-def told(options: argparse.Namespace, word: str) -> list[Opened]:
+def of_service(options: argparse.Namespace, word: str) -> list[Opened]:
     """What a service tells, as files. Units are asked again after a time, so that their use is
     known, unless it is not asked for."""
     from arbiter_host.sources.services import RunningService
@@ -68,7 +68,7 @@ def opened(options: argparse.Namespace, paths: Sequence[str]) -> list[Opened]:
     if of == list(paths):
         return list(files)
     return [file for path in paths for file in (
-        told(options, path) if table.SERVICE.match(path) else
+        of_service(options, path) if table.SERVICE.match(path) else
         [(path, None if os.path.isdir(path) else plain_files.file_bytes(path))])]
 
 

@@ -50,7 +50,7 @@ class LastLoop(NamedTuple):
     undo: str = ""
 
 
-def told(file: int) -> LastLoop:
+def last_loop(file: int) -> LastLoop:
     """What the file of a lock tells."""
     return LastLoop(*os.fsdecode(os.pread(file, MOST_TEXT, 0)).split("\0")[:2])
 
@@ -75,7 +75,7 @@ def lock(path: str, top: str = "", undo: str = "") -> list[int]:
             opened.callback(os.close, file)
             if not locked_soon(file):
                 raise HostFault(f"{shown(name)}: another loop holds this host; nothing is changed")
-            check_gone(told(file).undo)
+            check_gone(last_loop(file).undo)
             os.ftruncate(file, 0)
             os.pwrite(file, os.fsencode(f"{top}\0{undo}"), 0)
         opened.pop_all()
@@ -90,7 +90,7 @@ def holder(path: str) -> LastLoop | None:
     except OSError:
         return None
     try:
-        return None if locked(file, fcntl.LOCK_SH) else told(file)
+        return None if locked(file, fcntl.LOCK_SH) else last_loop(file)
     finally:
         os.close(file)
 

@@ -74,7 +74,7 @@ class RunningService:
             raise UsageFault(f"{shown(word)}: {self.kind}:// is of this machine alone")
         self.tool = [*TOOLS[self.kind], *([f"--context={context}"] if context else [])]
 
-    def told(self, *words: str) -> bytes:
+    def printed(self, *words: str) -> bytes:
         """What its tool prints."""
         return printed([*self.tool, *words])
 
@@ -83,7 +83,7 @@ class RunningService:
         size, mark = 0, ""
         for _ in range(MOST_PAGES):
             words = urlencode({"limit": PAGE, **asked, **({"continue": mark} if mark else {})})
-            data = self.told("get", "--raw", f"{path}?{words}")
+            data = self.printed("get", "--raw", f"{path}?{words}")
             size, page = size + len(data), loads(data, path)
             if size > MAX_BYTES:
                 break
@@ -107,9 +107,9 @@ class RunningService:
         if self.kind == "k8s":
             return self.cluster(node)
         if self.kind == "systemd":
-            return self.told(*UNITS)
-        known = self.told("ps", "-q", "--no-trunc").decode("ascii", "replace").split()
-        return self.told("inspect", "--type", "container", *known) if known else b"[]"
+            return self.printed(*UNITS)
+        known = self.printed("ps", "-q", "--no-trunc").decode("ascii", "replace").split()
+        return self.printed("inspect", "--type", "container", *known) if known else b"[]"
 
     def used(self) -> bytes:
         """What its containers used at one time, as its tool prints it."""
@@ -119,4 +119,4 @@ class RunningService:
             items = list(self.objects(METRICS, "PodMetrics"))
             return json.dumps({"kind": "PodMetricsList", "items": items}).encode()
         form = "{{json .}}" if self.kind == "docker" else "json"
-        return self.told("stats", "--no-stream", "--format", form)
+        return self.printed("stats", "--no-stream", "--format", form)
