@@ -84,11 +84,12 @@ def test_picture_of_strange_names(engine):
 
 @pytest.mark.parametrize("count", [3, 1950])
 def test_page_asks_for_nothing(engine, count):
-    """One page without an address, with a row for each group."""
+    """One page without an address, with a row for each group. The last pod of 1950 groups has one
+    child, which is in its row."""
     found = plan(engine, wide_host(count))
     page = report.page(found)
     assert not re.search(r"(src|href)=|url\(|@import|https?://", page)
-    assert page.count("data-path=") == count + 1
+    assert page.count("data-path=") == count + 1 - (count == 1950)
     assert page.count("<details") == page.count("</details>")
 
 
@@ -101,10 +102,80 @@ def test_page_escapes_names(engine):
     assert "\x1b" not in page and "\u202e" not in page
 
 
-def test_page_before_and_after(ctl, folder):
+def rows_of(page):
+    """The texts of the rows of a page, without tags."""
+    return [" ".join(re.sub(r"<[^>]+>", " ", row).split())
+            for row in re.findall(r"<tr.*?</tr>", page, re.S)]
+
+
+def test_page_before_and_after(ctl):
+    """It says what was changed, and what is planned of the host before and after. Of two reasons
+    that begin alike the earlier one is told by its end alone."""
     page, _ = ctl.run("diff", ROOT / "examples/pod.script", "--set", "pod.max=75%", "-o", "html")
-    assert "Before and after" in page and "Groups that differ: 4" in page
-    assert "<code>pod.max=75%</code>" in page
+    assert "Before and after" in page and "groups that differ: 4" in page
+    assert "The change: <code>pod.max=75%</code>" in page
+    assert re.findall(r'role="img" aria-label="(.*?CPUs)"', page) == ["1.00 of 1.00 CPUs"] * 2
+    assert re.findall('<div class="when">(.*?)</div>', page) == ["before", "after"]
+    rows = rows_of(re.search('<details class="changes.*?</table>', page, re.S).group())
+    assert rows[:3] == [
+        "group before after change wants why",
+        "the host 1.00 1.00 0 1.75 was 1.50 the host is full",
+        "pod 0.50 0.50 0 2.00 throttled, not by its limit the host is full: weight 100 of 200"
+        " before: its own limit"]
+    page, _ = ctl.run("diff", ROOT / "examples/node.script", "--set", "kubepods.weight=900", "-o",
+                      "html")
+    assert ("kubepods 3.00 3.28 +0.28 6.10 the host is full: weight 900 of 1100 before: weight 137"
+            " of 337") in rows_of(page)
+
+
+def test_bar_of_the_host(ctl):
+    """Of 4 CPUs 1.95 are planned, 2.05 are left."""
+    page, _ = ctl.run("explain", *PODS, "-o", "html")
+    assert re.findall("<dt>(.*?)</dt><dd>(.*?)</dd>", page) == [
+        ("planned", "1.95"), ("left", "2.05"), ("capacity", "4.00"), ("wanted", "1.95")]
+    assert 'class="get" style="width:48.75%"' in page
+
+
+def test_a_pod_and_its_one_container_are_one_row(ctl, engine):
+    """Pause containers do not count. The row has the pod's weight, 79, and else the container's
+    cells. A limit of the group that is below that of its child keeps two rows."""
+    page, _ = ctl.run("explain", *PODS, "--want", "busy", "-o", "html")
+    rows = [row for row in rows_of(page) if "postgres" in row]
+    assert rows == ["prod:db-0 / postgres 79 1.000 1.00 4.00 1.00 its own limit"]
+    for limit, names in {None: ["a / b"], 50000: ["a / b"], 49000: ["a", "b"]}.items():
+        model = Model(Host(2, 100000, 1000))
+        model.add(Group("a", 300, limit))
+        model.add(Group("a/b", 100, 50000, demand=Fraction(900)))
+        model.add(Group("c", 100, demand=Fraction(2000)))
+        found = plan(engine, model)
+        assert [each.name for each in picture.entries(found, View())] == ["the host", *names, "c"]
+        assert list(cells_of(report.page(found))) == ["the host", *names, "c"]
+    # The one that asks in its pod is cut as the pod is.
+    model.groups["a"].quota, model.groups["a/b"].quota = None, 150000
+    model.groups["a/b"].demand = Fraction(2000)
+    model.groups["a"].weight = 1
+    row = cells_of(report.page(plan(engine, model)))["a / b"]["why"]
+    assert re.sub("<.*?>", "", row) == (
+        "throttled, not by its limit the host is full: weight 1 of 101")
+
+
+def test_a_shared_prefix_is_told_once(ctl):
+    """The pods of one namespace stand below one class, whose path no row repeats."""
+    page, _ = ctl.run("diff", *PODS, "--want", "busy", "--set", "prod/web*/nginx.request=500m",
+                      "-n", "prod", "-g", "kubepods/burstable", "-o", "html")
+    changes = re.search('<details class="changes.*?</details>', page, re.S).group()
+    assert "Below kubepods/burstable:" in changes
+    rows = rows_of(changes)
+    assert len(rows) == 5 and not any("kubepods" in row for row in rows)
+    assert rows[1].startswith("prod:proxy-1 2.08 1.75 -0.33")
+
+
+def test_marks_are_no_capitals(ctl):
+    """On the page, in the picture and in the table."""
+    words = ("explain", ROOT / "examples/node.script", "-o")
+    for form in ("html", "svg", "text"):
+        text = re.sub(r"<(style|script).*?</\1>|<[^>]+>", " ", ctl.run(*words, form)[0], flags=re.S)
+        assert set(re.findall(r"\b[A-Z]{3,}\b", text)) <= {"CPU"} and "throttled" in text
 
 
 def test_page_in_a_browser(ctl, folder):
@@ -202,7 +273,7 @@ def cells_of(page):
     """The cells of each group of a page by its name, by their columns."""
     rows = re.findall(r"<tr data-path.*?</tr>", page, re.S)
     return {re.search(r'class="name">(.*?)<', row).group(1):
-            dict(re.findall(r'<td data-head="(\w+)"[^>]*>(.*?)</td>', row)) for row in rows}
+            dict(re.findall(r'<td data-head="(\w+)"[^>]*>(.*?)</td>', row, re.S)) for row in rows}
 
 
 def test_page_has_requests_and_names_once(ctl, folder):
@@ -213,8 +284,8 @@ def test_page_has_requests_and_names_once(ctl, folder):
     assert (found["nginx"]["request"], found["nginx"]["limit"]) == ("0.250", "1.00")
     assert found["metrics"]["request"] == "0.100" and found["prod:web-7c9f"]["request"] == ""
     row = re.search(r"<tr data-path[^>]*>\s*<th(?:(?!</tr>).)*>nginx<.*?</th>", page, re.S).group()
-    assert re.sub(r"<[^>]+>", " ", row).split() == ["nginx", "in",
-                                                    "kubepods/burstable/prod:web-7c9f"]
+    assert re.sub(r"<[^>]+>", " ", row).split() == ["nginx", "in", "burstable/prod:web-7c9f"]
+    assert page.count("Below kubepods:") == 1
     ctl.run("explain", ROOT / "examples/node.script", "-o", f"html={folder / 's.html'}")
     assert 'data-head="request"' not in (folder / "s.html").read_text()
 
@@ -237,7 +308,7 @@ def test_keys_of_the_page(ctl, folder):
     seen, reached, rows = seen_in(chromium, folder, page, script % json.dumps(keys))
     # The last ArrowLeft folds system.slice, so that its four services are hidden.
     assert seen == ["system.slice", "kubelet.service", "system.slice", "kubelet.service",
-                    "system.slice", "system.slice", "the host", "scanner", "find"]
+                    "system.slice", "system.slice", "the host", "pod-scan / scanner", "find"]
     assert (reached, rows) == (1, page.count("data-path=") - 4)
 
 
