@@ -42,7 +42,8 @@ class View(NamedTuple):
     """What is shown: filters, order, depth, unit, width, and whether idle groups are.
 
     `chosen` are the paths of the groups that are shown, and None for all. `guaranteed` are the
-    slices that a group gets whatever the others ask for, by row, where they are shown.
+    slices that a group gets whatever the others ask for, by row, where they are shown. `folded` are
+    the paths of the groups whose children are not shown.
     """
 
     only: tuple[str, ...] = ()
@@ -53,11 +54,16 @@ class View(NamedTuple):
     everything: bool = False
     chosen: Set[str] | None = None
     guaranteed: Mapping[int, int] | None = None
+    folded: Set[str] = frozenset()
 
     @property
     def is_flat(self) -> bool:
         """Whether groups are a list of paths and no tree."""
         return bool(self.only)
+
+    def is_folded(self, group: Planned) -> bool:
+        """Whether what is below a group is not shown."""
+        return group.depth >= self.depth or group.path in self.folded
 
     def has(self, group: Planned) -> bool:
         """Whether a group is among those that are chosen."""
@@ -134,7 +140,7 @@ def label(group: Planned, view: View, depth: int) -> str:
         return "the host (.)"
     if view.is_flat or depth == 0:
         return short(shown(group.path))
-    below = size(group) - 1 if group.depth >= view.depth else 0
+    below = size(group) - 1 if view.is_folded(group) else 0
     more = f" (+{below} below)" if below else ""
     people = f"  {shown(group.title)}" if group.title and "/" not in group.title else ""
     return "  " * depth + short(shown(last_name(group.path))) + more + people
@@ -165,7 +171,7 @@ def ordered(groups: Sequence[Planned], view: View) -> list[Planned]:
 def below(group: Planned, view: View) -> list[Planned]:
     """The children of a group that are shown. Those that ask for nothing are left out, unless all
     are asked for."""
-    if group.depth >= view.depth:
+    if view.is_folded(group):
         return []
     return ordered([each for each in group.children if each.want > 0 or view.everything], view)
 

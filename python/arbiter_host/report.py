@@ -31,10 +31,7 @@ def title_of(group: Planned) -> str:
 def request_of(plan: Plan, group: Planned, unit: str) -> str:
     """What a group requests; empty where the source has no requests."""
     asked = group.group.request if group.group else None
-    if asked is None:
-        return ""
-    value = text.in_unit(plan.model.host, asked, unit)
-    return f"{float(value):.{3 if unit == 'cpu' else 1}f}"
+    return "" if asked is None else text.measured(plan.model.host, asked, unit)
 
 
 def within(path: str, prefix: str) -> str:

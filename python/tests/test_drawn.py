@@ -1,6 +1,7 @@
 """Pictures, the page and the live view."""
 import html
 import json
+import os
 import re
 import shutil
 import signal
@@ -12,7 +13,7 @@ from fractions import Fraction
 import pytest
 import trees
 from arbiter import Host
-from arbiter_host import explain, live, picture, report
+from arbiter_host import explain, live, picture, report, viewer
 from arbiter_host.explain import View
 from arbiter_host.faults import HostFault
 from arbiter_host.model import Group, Model
@@ -312,21 +313,80 @@ def test_keys_of_the_page(ctl, folder):
     assert (reached, rows) == (1, page.count("data-path=") - 4)
 
 
-@pytest.mark.parametrize("rows, first, folds", [
-    (200, "pod0", False), (40, "pod0 (+3 below)", True), (24, "pod5 (+3 below)", True),
-])
-def test_top_folds_what_has_no_room(engine, rows, first, folds):
-    """28 pods of 4: whole, folded to the pods, and these by what they lack where 28 are too many.
+def viewed(found, keys="", height=14, view=View(width=80), got=()):
+    """The lines of the view of a plan after keys."""
+    put = []
+    shown = viewer.Viewer(lambda plan: view, put.append, None)
+    shown.plan, shown.got = found, dict(got)
+    shown.history.take(found)
+    size = os.terminal_size((view.width, height))
+    with pytest.MonkeyPatch.context() as patch:
+        patch.setattr(shutil, "get_terminal_size", lambda: size)
+        shown.draw()
+        for key in re.findall("<.*?>|.", keys, re.DOTALL):
+            shown.draw({"<down>": "\x1b[B", "<page>": "\x1b[6~", "<left>": "\x1bOD", "<esc>": "\x1b",
+                        "<end>": "\x1b[F", "<back>": "\x7f"}.get(key, key))
+    return put[-1]
 
-    pod5 lacks most: it has the greatest want, 2.46, of those that get little.
-    """
+
+def cursor(lines):
+    """The name in the row of the cursor, and what the last line says."""
+    row, last = (line for line, style in lines if style == "reverse")
+    return row.split("  ")[-1].strip(), last.strip()
+
+
+@pytest.mark.parametrize("keys, name, row", [
+    ("", "the host (.)", 1), ("j", "pod0", 2), ("<down>jk", "pod0", 2), ("k", "the host (.)", 1),
+    # 9 of 14 lines are rows, and pods stand in rows 2, 6, 10 ..
+    ("<page>", "pod2", 10), (" b", "the host (.)", 1), ("<end>k", "1abababababa\u2026b", 111),
+    ("Gg", "the host (.)", 1), ("/pod3\r", "pod3", 14), ("/pod3\rn", "pod3", 14),
+    ("/POD2\rn", "pod20", 82), ("/pod2\rnN", "pod2", 10), ("/pod99<back><back>2\r", "pod2", 10),
+    ("j/pod3<esc>", "pod0", 2), ("j/pod3<esc>n", "pod0", 2), ("/zz\r", "the host (.)", 1),
+    ("/pod1j", "the host (.)", 0), ("jj<left>", "pod0", 2)])
+def test_rows_that_keys_lead_to(engine, keys, name, row):
+    """The row of the cursor is always on the screen, and the screen is full."""
+    lines = viewed(plan(engine, wide_host(111)), keys)
+    found, last = cursor(lines)
+    assert len(lines) == 13 and found == name
+    assert last.startswith(f"row {row} of 112  ?" if row else keys)
+
+
+def test_top_folds_a_row(engine):
+    """And not a level: the row of the cursor alone. Enter, + and the right arrow open it again."""
     found = plan(engine, wide_host(111))
-    lines = [line for line, _ in live.screen(found, explain.View(width=80), rows)]
-    assert len(lines) <= rows and lines[7].endswith(f"  {first}")
-    assert any("below)" in line for line in lines) == folds
-    assert ("no room here" in lines[-1]) == (rows == 24)
-    lacks = sorted((each.gets - each.want, each.path) for each in found.groups if each.depth == 1)
-    assert rows != 24 or lacks[0][1] == "pod5"
+
+    def names(keys):
+        return [line.split("  ")[-1].strip() for line, _ in viewed(found, keys)[3:-1]]
+
+    whole, folded = names(""), names("/pod1\r-")
+    assert whole[1:3] == ["pod0", "1abababababa\u2026b"]
+    assert folded[1:3] == whole[1:3] and "pod1 (+3 below)" in folded
+    assert names("/pod1\r-") == names("/pod1\r\r") == names("/pod1\r-+-")
+    assert names("/pod1\r-+") == names("/pod1\r\r\r") == names("/pod1\r")
+
+
+def test_top_shows_what_was_used(engine):
+    """`-` stands where nothing was measured. Two pods have 8 of 20 slices each."""
+    model = Model(Host(1, 100000, 5000))
+    for name in ("a", "b"):
+        model.add(Group(name, demand=Fraction(400)))
+    lines = [line for line, _ in viewed(plan(engine, model), got={".": Fraction(501),
+                                                                 "a": Fraction(1, 2)})]
+    assert lines[0][8:] == "  1 CPU: 0.80 planned, 0.20 left, 0.80 wanted, 0.501 used"
+    assert [line.split()[0] for line in lines[2:6]] == ["used", "0.501", "0.001", "-"]
+
+
+@pytest.mark.parametrize("width", [40, 60, 89, 90, 200])
+def test_keys_are_told(engine, width):
+    """By `?`, in any width; any key leads back. What was chosen is told too."""
+    found, view = plan(engine, wide_host(111)), View(width=width)
+    told = [line for line, _ in viewed(found, "?", 24, view)]
+    assert all(any(words in line for line in told) for _, words in viewer.KEYS)
+    assert [line for line, _ in viewed(found, "?x", 24, view)][2:] == [
+        line for line, _ in viewed(found, "", 24, view)][2:]
+    assert cursor(viewed(found, "sf", 24, view)[:-1] + [("x", "reverse")])[1] == "x"
+    assert "sort: lack" in viewed(found, "s", 24, view)[-1][0]
+    assert "only: starved" in viewed(found, "f", 24, view)[-1][0]
 
 
 def test_top_without_a_terminal(ctl, folder):
@@ -353,7 +413,7 @@ def test_top_on_a_terminal(ctl, folder, columns, lines, ending):
                f"fcntl.ioctl(fd,termios.TIOCSWINSZ,struct.pack('HHHH',{lines},{columns},0,0))\n"
                "os.write(say,b'x')\n"
                "out=b'';end=time.time()+50\n"
-               "while time.time()<end and out.count(b'CPUs, period')<3:\n"
+               "while time.time()<end and out.count(b' planned, ')<3:\n"
                "  if select.select([fd],[],[],.2)[0]:\n"
                "    try: out+=os.read(fd,65536)\n"
                "    except OSError: break\n"
@@ -373,12 +433,12 @@ def test_top_on_a_terminal(ctl, folder, columns, lines, ending):
                            check=False)
     assert ended.returncode == 0, ended.stdout[-500:]
     said = ended.stdout.decode()
-    assert said.count("CPUs, period") >= 2 and "Traceback" not in said
+    assert said.count(" planned, ") >= 2 and "Traceback" not in said
     assert said.rstrip().endswith("\x1b[?25h") or "\x1b[?1049l" in said
     plain = re.sub(r"\x1b\[[0-9;?]*H", "\n", said)
     plain = re.sub(r"\x1b\[[0-9;?]*[A-Za-z]", "", plain)
     assert max(map(len, plain.replace("\r", "").split("\n"))) <= columns
-    assert "lines that have no room here" in plain
+    assert "row 1 of 61" in plain
 
 
 def test_history_of_top(engine):
@@ -395,9 +455,9 @@ def test_history_of_top(engine):
     assert history.line("web") == "       \u2581\u2583\u2588" and history.line("gone") == " " * 10
     for view in (explain.View(), explain.View(sort="name"), explain.View(only=("asking",)),
                  explain.View(depth=1), explain.View(everything=True)):
-        lines = [line for line, _ in history.table(found, view)]
+        lines = [line for line, _ in viewed(found, view=view)]
         row = next(line for line in lines if line.endswith("web"))
-        assert row.startswith("       \u2581\u2583\u2588 ") and max(map(len, lines)) <= 120
+        assert row.startswith("         \u2588 ") and max(map(len, lines)) <= 120
 
 
 @pytest.mark.parametrize("letters, view", [
@@ -415,19 +475,6 @@ def test_keys_of_top(letters, view):
     assert not keys.is_ended
     keys.take("q", 3)
     assert keys.is_ended
-
-
-def test_top_folds_from_what_is_shown(engine):
-    """Where 40 rows have room for the pods alone, one `-` leaves the host. Idle groups count not.
-    """
-    found = plan(engine, wide_host(111))
-    assert live.folded(found, explain.View(), 200, explain.table)[0] == 2
-    depth, lines = live.folded(found, explain.View(), 40, explain.table)
-    keys = live.Keys()
-    keys.take("-", depth)
-    assert (depth, keys.view(explain.View()).depth) == (1, 0)
-    found.model.groups |= {"pod0/idle": Group("pod0/idle"), "pod0/idle/x": Group("pod0/idle/x")}
-    assert live.folded(plan(engine, found.model), explain.View(), 200, explain.table)[0] == 2
 
 
 class Tmux:
@@ -465,12 +512,16 @@ def test_top_in_tmux(ctl, folder):
                " --read x100ms; echo ended $?; cat")
     tmux.run("new-session", "-d", "-s", "top", "-x", "100", "-y", "30", command)
     try:
-        text = tmux.seen("q quit", "\u2588" * 10, "batch", "x")
+        text = tmux.seen("q quit", " used ", "\u2588" * 10, "batch", "x")
         rows = [line.split()[-1] for line in text.split("\n") if "\u2588" in line]
         assert rows == ["(.)", "batch", "x", "web"]
-        tmux.run("send-keys", "-t", "top", "-")
-        assert "(+1 below)" in tmux.seen("(+1 below)")
-        tmux.run("send-keys", "-t", "top", "+", "s")
+        tmux.run("send-keys", "-t", "top", "Down", "Left")
+        assert "(+1 below)" in tmux.seen("(+1 below)", "row 2 of 3")
+        tmux.run("send-keys", "-t", "top", "Enter", "/", "we", "Enter")
+        assert "row 4 of 4" in tmux.seen("row 4 of 4")
+        tmux.run("send-keys", "-t", "top", "?")
+        assert "fold a row" in tmux.seen("fold a row")
+        tmux.run("send-keys", "-t", "top", "?", "s")
         text = tmux.seen("sort: lack")
         tmux.run("send-keys", "-t", "top", "f")
         assert "no group is starved" in tmux.seen("only: starved")
