@@ -100,14 +100,18 @@ def marks(plan: Plan, group: Planned) -> list[str]:
 def asking_one(group: Planned) -> Planned:
     """The group whose amounts a row has: the one container of a pod, and else the group itself.
 
-    So it is of any group with one child, whose limit is not below that of the child. Of a pod,
-    containers that ask for nothing do not count.
+    So it is of any group with one child. Of a pod, containers that ask for nothing do not count.
     """
     is_pod = group.group is not None and group.group.pod != NO_POD
     found = [each for each in group.children if each.want or not is_pod]
     one = found[0] if len(found) == 1 and group.parent is not None else group
-    is_cut = group.limit is not None and (one.limit is None or group.limit < one.limit)
-    return group if one.children or is_cut else one
+    return group if one.children else one
+
+
+def tighter(group: Planned, one: Planned) -> Planned:
+    """That of both whose limit is lower, which is the limit of their row."""
+    is_group = group.limit is not None and (one.limit is None or group.limit < one.limit)
+    return group if is_group else one
 
 
 def row_name(group: Planned, one: Planned) -> str:

@@ -25,10 +25,11 @@ MOST_ROWS = 1500
 @dataclass
 class Entry:
     """One row: a group in words, and the places of the rows right below it. `one` has its amounts:
-    the one container of a pod, else the group itself."""
+    the one container of a pod, else the group itself. `tight` has its limit."""
 
     group: Planned
     one: Planned
+    tight: Planned
     name: str
     note: str
     title: str
@@ -38,15 +39,16 @@ class Entry:
 
 def entry_of(plan: Plan, group: Planned, view: View) -> Entry:
     one = explain.asking_one(group) if group.depth < view.depth else group
-    cells = view.cells(plan, one)
-    more = "" if one.limit is None or one.parent is None else f", at most {cells['limit']}"
+    tight, cells = explain.tighter(group, one), view.cells(plan, one)
+    more = "" if tight.limit is None or one.parent is None else (
+        f", at most {text.amount(plan, tight.limit, view.unit)}")
     if cells.get("guaranteed", "-") != "-":
         more += f", guaranteed {cells['guaranteed']}"
     name = explain.row_name(group, one)
     if one.title and "/" not in one.title:
         name = f"{name}  {one.title}"
-    why = "; ".join([*explain.marks(plan, one), explain.row_reason(plan, group, one).words])
-    return Entry(group, one, name, f"{cells['gets']} of {cells['wants']}{more}: {why}",
+    why = "; ".join([*explain.marks(plan, tight), explain.row_reason(plan, group, one).words])
+    return Entry(group, one, tight, name, f"{cells['gets']} of {cells['wants']}{more}: {why}",
                  f"{one.path}: {why}", not {group.row, one.row}.isdisjoint(plan.answer.limiting))
 
 
@@ -118,8 +120,8 @@ class Drawing:
                 y = self.y(below) + ROW / 2
                 yield svg.line((x, y), (x + INDENT - 6, y), svg.BRANCH)
 
-    def bar(self, group: Planned, y: float, is_limiting: bool) -> Iterator[str]:
-        tall = ROW - 8
+    def bar(self, entry: Entry, y: float) -> Iterator[str]:
+        group, limit, tall = entry.one, entry.tight.limit, ROW - 8
         yield svg.box((self.left, y + 4), (self.x(group.want) - self.left, tall), svg.WANTS)
         gets = max(self.x(group.gets) - self.left, 1.5 if group.gets else 0)
         yield svg.box((self.left, y + 4), (gets, tall), svg.GETS)
@@ -127,18 +129,18 @@ class Drawing:
             x = self.left + BARS
             yield svg.shape([(x, y + 4), (x + 7, y + ROW / 2), (x, y + 4 + tall)], svg.WANTS, 1,
                             svg.WANTS)
-        if group.limit is not None and group.limit <= self.most:
-            x = self.x(group.limit)
-            colour, wide = (svg.MARK, 3) if is_limiting else (svg.LIMIT, 1.5)
+        if limit is not None and limit <= self.most:
+            x = self.x(limit)
+            colour, wide = (svg.MARK, 3) if entry.is_limiting else (svg.LIMIT, 1.5)
             yield svg.line((x, y + 1), (x, y + ROW - 1), colour, wide)
 
     def row(self, place: int, entry: Entry) -> Iterator[str]:
-        y, group, one = self.y(place), entry.group, entry.one
+        y, group = self.y(place), entry.group
         ink = svg.MARK if entry.is_limiting else svg.INK
         yield svg.words((EDGE + INDENT * group.depth, y + 14), cut(entry.name, NAME_CELLS), ink, 12,
                         "start", entry.is_limiting, entry.title)
-        yield from self.bar(one, y, entry.is_limiting)
-        is_bad = one.is_starved or one.is_throttled_elsewhere
+        yield from self.bar(entry, y)
+        is_bad = entry.one.is_starved or entry.tight.is_throttled_elsewhere
         yield svg.words((self.left + BARS + 24, y + 14), cut(entry.note, NOTE_CELLS),
                         svg.MARK if is_bad else svg.INK, 11, title=entry.note)
 

@@ -43,6 +43,7 @@ def within(path: str, prefix: str) -> str:
 def row(plan: Plan, group: Planned, view: View) -> Row:
     """The cells of a group, or of a pod with its one container, and what the search reads."""
     one = asking_one(group)
+    tight = explain.tighter(group, one)
     rest = [each for each in group.children if each is not one]
     part = 100 * one.gets / one.want if one.want else 0
     return {
@@ -51,7 +52,8 @@ def row(plan: Plan, group: Planned, view: View) -> Row:
         "has_children": bool(rest), "is_quiet": not any(each.want for each in rest),
         "weight": "" if group.parent is None else group.weight,
         "request": request_of(plan, one, view.unit), **view.cells(plan, one),
-        "percent": f"{min(part, 100):.2f}", "marks": explain.marks(plan, one),
+        "limit": text.amount(plan, tight.limit, view.unit),
+        "percent": f"{min(part, 100):.2f}", "marks": explain.marks(plan, tight),
         "why": explain.row_reason(plan, group, one).words, "is_idle": one.want == 0,
         "is_hurt": one.gets < one.want,
     }
@@ -100,7 +102,8 @@ def reason_of(pair: Pair, one: Pair, at: int) -> tuple[list[str], str]:
     plan, group, leaf = pair.plans[at], pair.groups[at], one.groups[at]
     if group is None or leaf is None:
         return [], "not there"
-    return explain.marks(plan, leaf), explain.row_reason(plan, group, leaf).words
+    return (explain.marks(plan, explain.tighter(group, leaf)),
+            explain.row_reason(plan, group, leaf).words)
 
 
 def change(pair: Pair, one: Pair, view: View) -> Row:

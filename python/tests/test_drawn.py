@@ -138,19 +138,24 @@ def test_bar_of_the_host(ctl):
 
 
 def test_a_pod_and_its_one_container_are_one_row(ctl, engine):
-    """Pause containers do not count. The row has the pod's weight, 79, and else the container's
-    cells. A limit of the group that is below that of its child keeps two rows."""
+    """Pause containers do not count. The row has the pod's weight, 79, the lower limit, and else the
+    container's cells."""
     page, _ = ctl.run("explain", *PODS, "--want", "busy", "-o", "html")
     rows = [row for row in rows_of(page) if "postgres" in row]
     assert rows == ["prod:db-0 / postgres 79 1.000 1.00 4.00 1.00 its own limit"]
-    for limit, names in {None: ["a / b"], 50000: ["a / b"], 49000: ["a", "b"]}.items():
+    for limit, least in {None: "0.50", 50000: "0.50", 49000: "0.49"}.items():
         model = Model(Host(2, 100000, 1000))
         model.add(Group("a", 300, limit))
         model.add(Group("a/b", 100, 50000, demand=Fraction(900)))
         model.add(Group("c", 100, demand=Fraction(2000)))
         found = plan(engine, model)
-        assert [each.name for each in picture.entries(found, View())] == ["the host", *names, "c"]
-        assert list(cells_of(report.page(found))) == ["the host", *names, "c"]
+        _, entry, _ = picture.entries(found, View())
+        assert (entry.name, entry.note) == (
+            "a / b", f"{least} of 0.90, at most {least}: its own limit")
+        cells = cells_of(report.page(found))
+        assert list(cells) == ["the host", "a / b", "c"]
+        assert [cells["a / b"][key] for key in ("weight", "limit", "wants", "gets", "why")] == [
+            "300", least, "0.90", least, "its own limit"]
     # The one that asks in its pod is cut as the pod is.
     model.groups["a"].quota, model.groups["a/b"].quota = None, 150000
     model.groups["a/b"].demand = Fraction(2000)
