@@ -56,10 +56,6 @@ class Viewer(live.Screen):
         """The row of the cursor; the first one where its group is not shown."""
         return next((at for at, each in enumerate(groups) if each.path == self.path), 0)
 
-    def go(self, groups: list[Planned], at: int) -> None:
-        """Goes to a row, or to the one nearest to it."""
-        self.path = groups[max(min(at, len(groups) - 1), 0)].path
-
     def find(self, groups: list[Planned], at: int, step: int) -> None:
         """Goes to the first row from one on that fits the word."""
         word = self.word.lower()
@@ -104,22 +100,22 @@ class Viewer(live.Screen):
         elif key == "/":
             self.is_typing, self.word, self.begin = True, "", self.path
         elif key in moves and groups:
-            self.go(groups, moves[key])
+            self.path = groups[max(min(moves[key], len(groups) - 1), 0)].path
         elif key in ("n", "N") and groups:
             step = 1 if key == "n" else -1
             self.find(groups, at + step, step)
         elif key in ("-", "+", "\r", "\n") and groups:
             self.fold(groups[at], key)
-        else:
+        elif key in ("s", "f", "a"):
             self.keys.take(key, 0)
 
     def draw(self, letters: str = "") -> None:
         """Takes keys, and shows the round."""
         for found in SEQUENCE.findall(letters):
             key = SAME.get(found[1:], found) if found[0] == "\x1b" else found
-            if self.plan is None or key in live.ENDS and not self.is_typing:
+            if key in live.ENDS and not self.is_typing:
                 self.keys.take(key, 0)
-            else:
+            elif self.plan is not None:
                 self.take(self.plan, key)
         if self.plan is not None:
             self.put(self.lines(self.plan, shutil.get_terminal_size().lines))

@@ -193,8 +193,8 @@ def test_page_in_a_browser(ctl, folder):
     page = (folder / "p.html").read_text()
     probe = ("find.value='redis';find.dispatchEvent(new Event('input'));"
              "return inTree.filter(each=>!each.hidden).length")
-    # The host, kubepods, burstable, pod-cache and redis.
-    assert seen_in(chromium, folder, page, probe) == 5
+    # The host, kubepods, burstable, and pod-cache with its redis.
+    assert seen_in(chromium, folder, page, probe) == 4
     # The host and what is right below it.
     fold = ("document.getElementById('shut').click();"
             "return inTree.filter(each=>!each.hidden).length")
@@ -379,6 +379,19 @@ def test_top_shows_what_was_used(engine):
                                                                  "a": Fraction(1, 2)})]
     assert lines[0][8:] == "  1 CPU: 0.80 planned, 0.20 left, 0.80 wanted, 0.501 used"
     assert [line.split()[0] for line in lines[2:6]] == ["used", "0.501", "0.001", "-"]
+
+
+def test_keys_before_there_is_a_picture(engine):
+    """They change nothing, but that `q` ends it. So does `-` where no row is shown."""
+    put = []
+    shown = viewer.Viewer(lambda plan: View(), put.append, None)
+    shown.draw("-/\x1b[A")
+    assert shown.keys == live.Keys() and not put and not shown.is_typing
+    shown.draw("q")
+    assert shown.keys.is_ended
+    found = plan(engine, wide_host(11))
+    assert viewed(found, "f-jn\r")[:-1] == viewed(found, "f")[:-1]
+    assert viewed(found, "f-jn\r" + "f" * 5, 24)[2:] == viewed(found, "", 24)[2:]
 
 
 @pytest.mark.parametrize("width", [40, 60, 89, 90, 200])
