@@ -28,12 +28,6 @@ def title_of(group: Planned) -> str:
     return "" if is_told else shown(group.title)
 
 
-def request_of(plan: Plan, group: Planned, unit: str) -> str:
-    """What a group requests; empty where the source has no requests."""
-    asked = group.group.request if group.group else None
-    return "" if asked is None else text.measured(plan.model.host, asked, unit)
-
-
 def within(path: str, prefix: str) -> str:
     """The groups that a group is in, without a prefix. They tell it apart in a list."""
     above = below(f"{parent_path(path)}/", prefix).rstrip("/")
@@ -45,13 +39,15 @@ def row(plan: Plan, group: Planned, view: View) -> Row:
     one = asking_one(group)
     tight = explain.tighter(group, one)
     rest = [each for each in group.children if each is not one]
+    asked = one.group.request if one.group else None
     part = 100 * one.gets / one.want if one.want else 0
     return {
         "name": explain.row_name(group, one), "title": title_of(one),
         "path": shown(f"{one.path} {shown(one.title)}"), "depth": group.depth,
         "has_children": bool(rest), "is_quiet": not any(each.want for each in rest),
         "weight": "" if group.parent is None else group.weight,
-        "request": request_of(plan, one, view.unit), **view.cells(plan, one),
+        "request": "" if asked is None else text.measured(plan.model.host, asked, view.unit),
+        **view.cells(plan, one),
         "limit": text.amount(plan, tight.limit, view.unit),
         "percent": f"{min(part, 100):.2f}", "marks": explain.marks(plan, tight),
         "why": explain.row_reason(plan, group, one).words, "is_idle": one.want == 0,
@@ -124,7 +120,7 @@ def changes(before: Plan, plan: Plan, view: View, words: Sequence[str]) -> dict[
     """The table of what differs from an earlier plan, as a tree, and the words that change it."""
     differ, depth, rows = differing(before, plan, view), {".": -1}, []
     prefix = common_parent(pair.path for pair, one in differ
-                    if not any(each and each.children for each in one.groups))
+                           if not any(each and each.children for each in one.groups))
     for pair, one in differ:
         above = parent_path(pair.path)
         while above not in depth:
@@ -143,14 +139,9 @@ def page(plan: Plan, view: View = View(), title: str = "Plan", before: Plan | No
          words: Sequence[str] = ()) -> str:
     """The whole page. With an earlier plan it also has what differs, by the words of a change."""
     notes = [shown(each) for each in (*plan.model.refused, *plan.model.notes)]
-    rows = rows_of(plan, view)
     hosts = [host(plan, view)] if before is None else [host(before, view, "before"),
                                                        host(plan, view, "after")]
     return rendered("plan.html", title, explain.head(plan, view), hosts=hosts,
-                    rows=rows, has_requests=any(each["request"] for each in rows), notes=notes,
+                    rows=rows_of(plan, view), notes=notes, elsewhere=explain.ELSEWHERE,
                     is_guaranteed=view.guaranteed is not None, open_changes=OPEN_CHANGES,
-                    elsewhere=explain.ELSEWHERE,
-                    is_elsewhere=any(explain.ELSEWHERE in each["marks"] for each in rows),
-                    has_pairs=any(" / " in each["name"] for each in rows),
-                    idle=sum(each["is_idle"] for each in rows),
                     changes=None if before is None else changes(before, plan, view, words))

@@ -20,7 +20,8 @@ SAME = {"[A": "k", "OA": "k", "[B": "j", "OB": "j", "[C": "+", "OC": "+", "[D": 
         "[5~": "b", "[6~": " ", "[H": "g", "OH": "g", "[1~": "g", "[F": "G", "OF": "G", "[4~": "G"}
 KEYS = (("q", "quit"), ("j k, arrows", "down and up by a row"), ("space b, PgDn PgUp", "by a page"),
         ("g G, Home End", "to the first row, to the last"),
-        ("- +, left right", "fold a row, unfold it"), ("Enter", "fold it or unfold it"), ("/", "search names; Enter ends, Esc leaves it"),
+        ("- +, left right", "fold a row, unfold it"), ("Enter", "fold it or unfold it"),
+        ("/", "search names; Enter ends, Esc leaves it"),
         ("n N", "the next that fits, the one before"), ("s", "the next order"),
         ("f", "the next filter"), ("a", "also groups that ask for nothing"), ("?", "these keys"))
 HINT = "? keys  q quit  / search"

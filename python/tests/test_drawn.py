@@ -138,8 +138,8 @@ def test_bar_of_the_host(ctl):
 
 
 def test_a_pod_and_its_one_container_are_one_row(ctl, engine):
-    """Pause containers do not count. The row has the pod's weight, 79, the lower limit, and else the
-    container's cells."""
+    """Pause containers do not count. The row has the pod's weight, 79, the lower limit, and else
+    the container's cells."""
     page, _ = ctl.run("explain", *PODS, "--want", "busy", "-o", "html")
     rows = [row for row in rows_of(page) if "postgres" in row]
     assert rows == ["prod:db-0 / postgres 79 1.000 1.00 4.00 1.00 its own limit"]
@@ -329,8 +329,8 @@ def viewed(found, keys="", height=14, view=View(width=80), got=()):
         patch.setattr(shutil, "get_terminal_size", lambda: size)
         shown.draw()
         for key in re.findall("<.*?>|.", keys, re.DOTALL):
-            shown.draw({"<down>": "\x1b[B", "<page>": "\x1b[6~", "<left>": "\x1bOD", "<esc>": "\x1b",
-                        "<end>": "\x1b[F", "<back>": "\x7f"}.get(key, key))
+            shown.draw({"<down>": "\x1b[B", "<page>": "\x1b[6~", "<left>": "\x1bOD",
+                        "<esc>": "\x1b", "<end>": "\x1b[F", "<back>": "\x7f"}.get(key, key))
     return put[-1]
 
 
