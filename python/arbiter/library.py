@@ -329,9 +329,19 @@ class Library:
                                                column(U64, used, "use"), carries, *counters))
         return carries.tolist()
 
-    def demand(self, host: Host, thousandths: int) -> int:
-        """The slices of one period that thousandths of a CPU take, rounded up."""
-        return self.of_host("demand", host, thousandths)
+    def demand(self, host: Host, numerator: int, denominator: int) -> int:
+        """The slices of one period that a ratio of CPUs takes, rounded up."""
+        return self.of_host("demand", host, numerator, denominator)
+
+    def planned_host(self, host: Host) -> Host:
+        """The host that is planned in place of one of any number of CPUs: itself up to 64, else one
+        of the same capacity, on which all rows have the same plans.
+
+        Refused by 1 to 3, and by 1 BadProcessors if no host of at most 64 CPUs has the capacity.
+        """
+        planned = c.U64(), c.U64(), c.U64()
+        self.ask_host("planned_host", host, *map(ctypes.byref, planned))
+        return Host(*(each.value for each in planned))
 
     def weight_of_shares(self, shares: int, conversion: str = "linear") -> int:
         """The `cpu.weight` that container runtimes write for `cpu.shares`.

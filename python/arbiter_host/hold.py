@@ -436,7 +436,8 @@ class Loop:
     def held(self, rows: list[Row], used: dict[int, Reading]) -> Round:
         """The limits of the next round from what the leaf of each row asks for. The proved check
         accepted their plan."""
-        host, library = planned(self.host), self.engine.library
+        library = self.engine.library
+        host = planned(library, self.host)
         asks, for_all = list(rows), [False] * len(rows)
         for row, each in used.items():
             for_all[row] = each.asked == units.MAX_DEMAND

@@ -62,7 +62,7 @@ class Engine:
 
     def plan(self, host: Host, rows: Sequence[Row] | Columns) -> Answer:
         """A plan that the proved check accepted for these rows."""
-        host = planned(host)
+        host = planned(self.library, host)
         with asking("no plan"):
             columns = Columns.of(rows)
             amounts, certificate = self.library.certify(host, columns)
@@ -213,9 +213,14 @@ class Plan:
             yield group
 
     @functools.cached_property
+    def planned_host(self) -> Host:
+        """The host of the library's calls."""
+        return planned(self.engine.library, self.model.host)
+
+    @functools.cached_property
     def reasons(self) -> list[arbiter.Reason]:
         with asking("arbiter_reasons"):
-            return self.engine.library.reasons(planned(self.model.host), self.columns)
+            return self.engine.library.reasons(self.planned_host, self.columns)
 
     @functools.cached_property
     def explanations(self) -> list[Explanation]:
@@ -225,7 +230,7 @@ class Plan:
     def guaranteed(self, row: int) -> int:
         """What a group gets whatever the groups that are not under it ask for, in slices."""
         with asking("guarantee"):
-            return self.engine.library.guarantee(planned(self.model.host), self.columns, row)
+            return self.engine.library.guarantee(self.planned_host, self.columns, row)
 
     def reason(self, group: Planned) -> Explanation:
         return self.explanations[group.row]

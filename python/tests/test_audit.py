@@ -137,9 +137,9 @@ def test_slices_that_are_asked_for(ctl, folder):
     assert batch["cause"] == causes.SLICE
 
 
-def test_a_great_host_has_the_slices_of_its_source():
-    assert fine(Host(64, 100000, 1000)) == Host(64, SECOND, 1000)
-    assert fine(Host(65, 100000, 1000)) == Host(65, 500000, 1000)
+def test_a_great_host_has_the_slices_of_its_source(calls):
+    assert fine(calls, Host(64, 100000, 1000)) == Host(64, SECOND, 1000)
+    assert fine(calls, Host(65, 100000, 1000)) == Host(65, 500000, 1000)
 
 
 # holes
@@ -566,7 +566,7 @@ def kept_audit(engine, name):
     found = kept.kept()
     runs = [run for run in found["runs"] if run["host"] == name]
     model = firm.host_of(found["hosts"][name])
-    model = model.with_host(fine(model.host))
+    model = model.with_host(fine(engine.library, model.host))
     seen = [kept_look(at, model, runs) for at in range(len(runs) + 1)]
     return intervals.audited(engine, seen, "psi", set(), lambda: None), [
         {path: 100 * (had - share) for path, (share, had) in run["groups"].items()}

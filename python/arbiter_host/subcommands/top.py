@@ -39,7 +39,7 @@ def reader(asked: argparse.Namespace, wanted: Sequence[top.Condition],
     if len(paths) == 1 and os.path.isdir(paths[0]) and asked.kind in (None, "cgroup"):
         options.check(asked, "cgroup")
         want = asked.want or "psi"
-        tree = looks.Tree(paths[0], by_options.machine(asked, want), time.monotonic)
+        tree = looks.Tree(paths[0], by_options.machine(asked, by.library, want), time.monotonic)
         ask = functools.partial(pod_names, asked) if asked.pod else None
         return top.Watched(by, tree, want, ask, warn).round, 1
     if "-" in paths:
