@@ -21,6 +21,8 @@ Goal: TypeAlias = tuple[int, int]
 MOST_GROUPS = 16384
 CONVERSIONS = {"linear": 1, "logarithmic": 2}
 KINDS = tuple(Kind)
+# Columns of no task, as C takes them.
+NO_TASKS = given(zeros(U64, 0), zeros(U64, 0))
 # The numbers of faults that speak of a row of the tree.
 OF_ROWS = range(4, 11)
 
@@ -187,11 +189,16 @@ class Library:
         readings. Refused by 50 WrongLength if there are more than the group has, as a host is, and
         by 15 PeriodOutOfRange if no time passed.
         """
-        ran, waited = (column(U64, [each[part] for each in tasks], "task") for part in (0, 1))
+        # (a round asks for each of many groups, of which most have no such task)
+        columns = given(*(column(U64, [each[part] for each in tasks], "task")
+                          for part in (0, 1))) if tasks else NO_TASKS
+        passed, used_us, waited_us = [in_range(each, 64, "time") for each in times[:3]]
         used, asked, hungry = c.U64(), c.U64(), c.U32()
-        self.ask_host("reading", host, *(in_range(each, 64, "time") for each in times[:3]),
-                      in_range(times.tasks, 32, "tasks"), int(times.is_throttled),
-                      *given(ran, waited), *map(ctypes.byref, (used, asked, hungry)))
+        number = self.calls.arbiter_reading(
+            *self.host(host), passed, used_us, waited_us, in_range(times.tasks, 32, "tasks"),
+            int(times.is_throttled), *columns, *map(ctypes.byref, (used, asked, hungry)))
+        if number:
+            raise self.refused(number)
         return Reading(used.value, asked.value, bool(hungry.value))
 
     def written(self, host: Host, limit: int, own: int | None, stands: int, tasks: int

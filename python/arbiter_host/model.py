@@ -170,8 +170,9 @@ class Model:
         place, rows = {"": 0}, [Row(None, units.DEFAULT_WEIGHT, None, 0)]
         for path, group in self.groups.items():
             place[path] = len(rows)
+            demand = slices.demand(group.usable) if group.demand else 0
             rows.append(Row(place[path.rpartition("/")[0]], group.weight,
-                            slices.limit(*group.bandwidth), slices.demand(group.usable)))
+                            slices.limit(*group.bandwidth), demand))
         return rows
 
     def with_host(self, host: Host) -> Model:

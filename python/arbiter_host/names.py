@@ -137,8 +137,8 @@ def path_name(raw: str, taken: Container[str]) -> str:
     if len(name.encode()) > MAX_NAME:
         import hashlib  # (few names are so long)
         name = shortened(name, hashlib.sha256(name.encode()).hexdigest()[:KEPT])
-    marked = (shortened(name, str(number)) for number in range(2, MOST_ALIKE + 1))
-    for each in itertools.chain([name], marked):
+    for number in range(1, MOST_ALIKE + 1):
+        each = name if number == 1 else shortened(name, str(number))
         if each not in taken:
             return each
     raise HostFault(f"{shown(name)}: more than {MOST_ALIKE} groups of one name")

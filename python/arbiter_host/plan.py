@@ -42,16 +42,21 @@ class Booked(NamedTuple):
     counters: Counters
 
 
+def fault_of(what: str, error: Refused | OverflowError) -> HostFault:
+    """A refusal, or a number that a call cannot hold, as a fault."""
+    if isinstance(error, OverflowError):
+        return HostFault(f"{what}: {error}")
+    row = "" if error.row is None else f" (row {error.row})"
+    return HostFault(f"{what}: error {error.number} {error.name}{row}")
+
+
 @contextmanager
 def asking(what: str) -> Iterator[None]:
     """Makes a fault of a refusal, and of a number that a call cannot hold."""
     try:
         yield
-    except Refused as refused:
-        row = "" if refused.row is None else f" (row {refused.row})"
-        raise HostFault(f"{what}: error {refused.number} {refused.name}{row}") from refused
-    except OverflowError as error:
-        raise HostFault(f"{what}: {error}") from error
+    except (Refused, OverflowError) as error:
+        raise fault_of(what, error) from error
 
 
 class Engine:

@@ -3,6 +3,7 @@ from __future__ import annotations
 
 import argparse
 import functools
+import gc
 import json
 import os
 import select
@@ -203,6 +204,7 @@ def run(asked: argparse.Namespace) -> None:
     host = machine(asked, root)
     times, engine = times_of(asked, host.period_us), engine_of(asked.library, changes=asked.yes)
     ways = hold.Ways(asked.force, asked.weights, asked.depth)
+    gc.set_threshold(hold.MOST_OBJECTS)
     with ExitStack() as stack:
         kept = locked(root, asked, stack) if asked.yes else None
         stack.callback(root.close)
