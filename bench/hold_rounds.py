@@ -6,8 +6,10 @@ usage: hold_rounds.py LIBRARY [GROUPS..]    LIBRARY is a libarbiter.so; GROUPS a
 
 A time is processor time of one round, in seconds, the least of some: of the first one that writes,
 and of later ones in which none, a tenth or all of the groups used something. Each group is a
-folder of six files on a tmpfs, a hundred of them below one.
+folder of six files on a tmpfs, a hundred of them below one. By the clock of the loop a round takes
+a second, so that groups use as much in each, and the later rounds write nothing.
 """
+import gc
 import itertools
 import json
 import os
@@ -27,7 +29,7 @@ from arbiter_host.plan import Engine  # noqa: E402
 GROUPS = [500, 4096, 16383]
 HOST = Host(64, 1000000, 1000)
 PARTS = {"none used": 0, "a tenth used": 10, "all used": 1}
-REPEATS = 3
+REPEATS = 6
 
 
 def folders(top: str, groups: int) -> list[str]:
@@ -52,7 +54,8 @@ def row(engine: Engine, folder: str, groups: int) -> list[float]:
     """The times of a tree."""
     top = f"{folder}/{groups}"
     leaves, used = folders(top, groups), itertools.count(1)
-    loop = hold.Loop(engine, safe_files.Root(top), top, HOST, record.Record(f"{top}.undo"))
+    loop = hold.Loop(engine, safe_files.Root(top), top, HOST, record.Record(f"{top}.undo"),
+                     clock=lambda: loop.readings * hold.SECOND)
     loop.read()
     found = [seconds(loop)]
     for part in PARTS.values():
@@ -70,6 +73,7 @@ def row(engine: Engine, folder: str, groups: int) -> list[float]:
 
 def main() -> None:
     """Prints the table."""
+    gc.set_threshold(hold.MOST_OBJECTS)
     engine = Engine(Library(sys.argv[1]))
     numbers = [int(word) for word in sys.argv[2:]] or GROUPS
     folder = tempfile.mkdtemp(dir="/dev/shm")

@@ -20,6 +20,7 @@
  * Answers of all calls but arbiter_name, arbiter_version and arbiter_weight_of_shares: 0, or
  *   1 to 3    the host is refused (BadProcessors, BadPeriod, BadSlice)
  *   4 to 10   the rows are (TooMany, BadParent, BadWeight, TooDeep, InnerDemand, DemandTooLarge, RootLimited)
+ *   11        the denominator of a demand is 0 (BadNumber)
  *   13 to 15  the quota, burst or limit is, or its own period or the round (QuotaTooSmall, QuotaTooLarge, PeriodOutOfRange)
  *   20        the group is no row (NotFound)
  *   26        a goal is of row 0 (RootFixed)
@@ -43,8 +44,8 @@
  * arbiter_name gives the name of each, and of those that arbiter_script writes for lines. docs/USING.md says what to do about
  * each. Where a call does not answer 0, all that it may write is as it was, but for `row` in step 4 and in arbiter_refused_row.
  *
- * arbiter_reading, arbiter_written, arbiter_slices, arbiter_period_limit, arbiter_demand, arbiter_weight_of_shares,
- * arbiter_refused_row, arbiter_name and arbiter_version ask for no memory: their answers are exact.
+ * arbiter_reading, arbiter_written, arbiter_slices, arbiter_period_limit, arbiter_demand, arbiter_planned_host,
+ * arbiter_weight_of_shares, arbiter_refused_row, arbiter_name and arbiter_version ask for no memory: their answers are exact.
  */
 #ifndef ARBITER_H
 #define ARBITER_H
@@ -289,9 +290,18 @@ uint32_t arbiter_book(uint64_t processors, uint64_t period_us, uint64_t slice_us
                       uint64_t *throttled_usec, size_t throttled_usec_length, uint64_t *nr_bursts, size_t nr_bursts_length,
                       uint64_t *burst_usec, size_t burst_usec_length);
 
-/* Writes to `slices` how many slices of one period of the host a demand takes, rounded up: a demand of a row. The demand is in
- * thousandths of a processor. Answers 1 to 3, then 9 where it takes more than 1000000 slices. */
-uint32_t arbiter_demand(uint64_t processors, uint64_t period_us, uint64_t slice_us, uint64_t thousandths, uint64_t *slices);
+/* Writes to `slices` how many slices of one period of the host a demand takes, rounded up: a demand of a row. The demand is
+ * `numerator` over `denominator` processors. Answers 1 to 3, then 11 where the denominator is 0, then 9 where it takes more than
+ * 1000000 slices. */
+uint32_t arbiter_demand(uint64_t processors, uint64_t period_us, uint64_t slice_us, uint64_t numerator, uint64_t denominator,
+                        uint64_t *slices);
+
+/* Writes the host that is planned in place of one of any number of processors. With 1 to 64 it is the host itself. Of more it is
+ * one of the same capacity, on which all rows have the same plans: of those with slices of 1000 microseconds the one with most
+ * processors. Answers 1 where there is no processor, then 2 or 3, then 1 where no host of at most 64 processors has the
+ * capacity. */
+uint32_t arbiter_planned_host(uint64_t processors, uint64_t period_us, uint64_t slice_us,
+                              uint64_t *planned_processors, uint64_t *planned_period_us, uint64_t *planned_slice_us);
 
 /* The cpu.weight, 1 to 10000, that container runtimes write for cpu.shares; 0 for another conversion than the two. Shares below
  * 2 count as 2, above 262144 as 262144. */

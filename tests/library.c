@@ -17,7 +17,7 @@ int main(void)
     uint64_t amounts[3] = {1, 1, 1}, nums[3], dens[3], rest = 1;
     uint8_t flags[3];
     uint32_t places[3], groups[3], count = 9, row = 9;
-    uint64_t slices = 9;
+    uint64_t slices = 9, host[3] = {9, 9, 9};
     char name[ARBITER_NAME_ROOM] = "as it was", version[ARBITER_NAME_ROOM] = "1";
     /* two groups alike; then one beside a pod of two groups with a limit, an idle one and one that wants a slice */
     const uint64_t alike[3] = {100, 100, 100};
@@ -93,7 +93,13 @@ int main(void)
         return 16;
     if (arbiter_slices(1, 100000, 5000, 50000, 200000, &slices) != 0 || slices != 5)
         return 17;
-    if (arbiter_demand(1, 100000, 5000, 50000001, &slices) != 9 || slices != 5 || arbiter_demand(1, 100000, 5000, 51, &slices) != 0 || slices != 2)
+    if (arbiter_demand(1, 100000, 5000, 50000001, 1000, &slices) != 9 || arbiter_demand(1, 100000, 5000, 1, 0, &slices) != 11 || slices != 5)
+        return 18;
+    if (arbiter_demand(1, 100000, 5000, 51, 1000, &slices) != 0 || slices != 2 || arbiter_demand(1, 100000, 5000, 1, 3, &slices) != 0 || slices != 7)
+        return 18;
+    if (arbiter_planned_host(1009, 5000, 5000, &host[0], &host[1], &host[2]) != 1 || host[0] != 9 || host[1] != 9 || host[2] != 9)
+        return 18;
+    if (arbiter_planned_host(65, 100000, 5000, &host[0], &host[1], &host[2]) != 0 || host[0] != 52 || host[1] != 25000 || host[2] != 1000)
         return 18;
     if (arbiter_weight_of_shares(1024, ARBITER_SHARES_LINEAR) != 39 || arbiter_weight_of_shares(1024, ARBITER_SHARES_LOGARITHMIC) != 100
             || arbiter_weight_of_shares(1024, 0) != 0)

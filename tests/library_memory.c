@@ -37,7 +37,7 @@ static const uint64_t limits[5] = {ARBITER_NO_LIMIT, 10, ARBITER_NO_LIMIT, ARBIT
 static const uint64_t demands[5] = {0, 0, 20, 20, 20};
 static const char text[] = "bw 1 1 100000 5000 3\n- 100 max 0 20 1 13/100@0\n0 100 max 20 7 0 -\n0 200 max 20 13 0 -\n";
 static const uint8_t hungry[5] = {0, 0, 1, 0, 1};
-static uint64_t amounts[5], nums[5], dens[5], caps[5], asks[5], rest;
+static uint64_t amounts[5], nums[5], dens[5], caps[5], asks[5], rest, planned[3];
 static uint64_t wants[5], mosts[5], active_weights[5], withheld[5];
 static uint8_t flags[5], reasons[5], tights[5];
 /* The two goals are met by weights that are lower. */
@@ -163,7 +163,7 @@ int main(void)
     char words[ARBITER_NAME_ROOM];
     if (arbiter_refused_row(parents, 5, weights, 5, limits, 5, weights, 5, &row) != 8 || row != 0)
         return 50;
-    if (arbiter_slices(1, 100000, 5000, 5000, 100000, &rest) != 0 || arbiter_demand(1, 100000, 5000, 50, &rest) != 0)
+    if (arbiter_slices(1, 100000, 5000, 5000, 100000, &rest) != 0 || arbiter_demand(1, 100000, 5000, 50, 1000, &rest) != 0 || arbiter_planned_host(65, 100000, 5000, &planned[0], &planned[1], &planned[2]) != 0)
         return 51;
     if (arbiter_weight_of_shares(3, ARBITER_SHARES_LOGARITHMIC) != 2 || arbiter_weight_of_shares(3, ARBITER_SHARES_LINEAR) != 1)
         return 52;

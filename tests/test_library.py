@@ -327,20 +327,30 @@ def test_refused_slices(calls, number, host, usec, own_period):
 ])
 def test_demand(calls, thousandths, host, slices):
     """Demands at the ends of their range, by values that were worked by hand."""
-    same(calls.demand(host, thousandths), slices)
+    same(calls.demand(host, thousandths, 1000), slices)
 
 
-@pytest.mark.parametrize("number, host, thousandths", [
-    (1, arbiter.Host(0, 0, 0), 2**64 - 1), (2, arbiter.Host(64, 999, 1000), 2**64 - 1),
-    (3, arbiter.Host(64, 1000, 1001), 2**64 - 1), (9, HOST_OF_ONE, 50000001),
-    (9, HOST_OF_ONE, 2**64 - 1), (9, arbiter.Host(64, 10**6, 1000), 1000001),
-    (9, arbiter.Host(1, 10**6, 10**6), 10**9 + 1),
+@pytest.mark.parametrize("numerator, denominator, slices", [
+    (1, 20, 1), (1, 21, 1), (1, 19, 2), (1, 3, 7), (2**64 - 1, 2**64 - 1, 20), (1, 2**64 - 1, 1),
+    (0, 1, 0), (50000, 1, 10**6), (2**64 - 1, 368934881474192, 10**6),
 ])
-def test_refused_demand(calls, number, host, thousandths):
+def test_demand_of_parts(calls, numerator, denominator, slices):
+    """A slice is a twentieth of a processor. The last is just below 50000 processors."""
+    same(calls.demand(HOST_OF_ONE, numerator, denominator), slices)
+
+
+@pytest.mark.parametrize("number, host, numerator, denominator", [
+    (1, arbiter.Host(0, 0, 0), 2**64 - 1, 0), (2, arbiter.Host(64, 999, 1000), 2**64 - 1, 0),
+    (3, arbiter.Host(64, 1000, 1001), 2**64 - 1, 0), (9, HOST_OF_ONE, 50000001, 1000),
+    (9, HOST_OF_ONE, 2**64 - 1, 1000), (9, arbiter.Host(64, 10**6, 1000), 1000001, 1000),
+    (9, arbiter.Host(1, 10**6, 10**6), 10**9 + 1, 1000), (11, HOST_OF_ONE, 2**64 - 1, 0),
+    (11, HOST_OF_ONE, 0, 0), (9, HOST_OF_ONE, 2**64 - 1, 368934881474191),
+])
+def test_refused_demand(calls, number, host, numerator, denominator):
     """The first refusal is answered, and nothing is written."""
-    same(number_of(calls.demand, host, thousandths), (number, None))
+    same(number_of(calls.demand, host, numerator, denominator), (number, None))
     slices = c.U64(7)
-    words = [*calls.host(host), c.U64(thousandths)]
+    words = [*calls.host(host), c.U64(numerator), c.U64(denominator)]
     same(calls.calls.arbiter_demand(*words, ctypes.byref(slices)), number)
     same(slices.value, 7)
 

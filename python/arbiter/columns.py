@@ -160,6 +160,10 @@ class Columns:
                    column(U64, limits, "limit"),
                    column(U64, [row.demand for row in rows], "demand"))
 
+    def asking(self, demands: Sequence[int]) -> Columns:
+        """The same rows with other demands."""
+        return Columns(self.parents, self.weights, self.limits, column(U64, demands, "demand"))
+
     def __len__(self) -> int:
         return len(self.parents)
 

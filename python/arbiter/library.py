@@ -21,6 +21,8 @@ Goal: TypeAlias = tuple[int, int]
 MOST_GROUPS = 16384
 CONVERSIONS = {"linear": 1, "logarithmic": 2}
 KINDS = tuple(Kind)
+# Columns of no task, as C takes them.
+NO_TASKS = given(zeros(U64, 0), zeros(U64, 0))
 # The numbers of faults that speak of a row of the tree.
 OF_ROWS = range(4, 11)
 
@@ -187,11 +189,16 @@ class Library:
         readings. Refused by 50 WrongLength if there are more than the group has, as a host is, and
         by 15 PeriodOutOfRange if no time passed.
         """
-        ran, waited = (column(U64, [each[part] for each in tasks], "task") for part in (0, 1))
+        # (a round asks for each of many groups, of which most have no such task)
+        columns = given(*(column(U64, [each[part] for each in tasks], "task")
+                          for part in (0, 1))) if tasks else NO_TASKS
+        passed, used_us, waited_us = [in_range(each, 64, "time") for each in times[:3]]
         used, asked, hungry = c.U64(), c.U64(), c.U32()
-        self.ask_host("reading", host, *(in_range(each, 64, "time") for each in times[:3]),
-                      in_range(times.tasks, 32, "tasks"), int(times.is_throttled),
-                      *given(ran, waited), *map(ctypes.byref, (used, asked, hungry)))
+        number = self.calls.arbiter_reading(
+            *self.host(host), passed, used_us, waited_us, in_range(times.tasks, 32, "tasks"),
+            int(times.is_throttled), *columns, *map(ctypes.byref, (used, asked, hungry)))
+        if number:
+            raise self.refused(number)
         return Reading(used.value, asked.value, bool(hungry.value))
 
     def written(self, host: Host, limit: int, own: int | None, stands: int, tasks: int
@@ -329,9 +336,19 @@ class Library:
                                                column(U64, used, "use"), carries, *counters))
         return carries.tolist()
 
-    def demand(self, host: Host, thousandths: int) -> int:
-        """The slices of one period that thousandths of a CPU take, rounded up."""
-        return self.of_host("demand", host, thousandths)
+    def demand(self, host: Host, numerator: int, denominator: int) -> int:
+        """The slices of one period that a ratio of CPUs takes, rounded up."""
+        return self.of_host("demand", host, numerator, denominator)
+
+    def planned_host(self, host: Host) -> Host:
+        """The host that is planned in place of one of any number of CPUs: itself up to 64, else one
+        of the same capacity, on which all rows have the same plans.
+
+        Refused by 1 to 3, and by 1 BadProcessors if no host of at most 64 CPUs has the capacity.
+        """
+        planned = c.U64(), c.U64(), c.U64()
+        self.ask_host("planned_host", host, *map(ctypes.byref, planned))
+        return Host(*(each.value for each in planned))
 
     def weight_of_shares(self, shares: int, conversion: str = "linear") -> int:
         """The `cpu.weight` that container runtimes write for `cpu.shares`.

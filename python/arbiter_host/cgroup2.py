@@ -12,7 +12,11 @@ from arbiter_host.model import Group
 from arbiter_host.names import shown
 
 MAX_FILE = 1 << 20
-COUNTERS = re.compile(r"^(usage_usec|nr_periods|nr_throttled) ([0-9]{1,30})$", re.M)
+KEYS = ("usage_usec", "nr_periods", "nr_throttled")
+COUNTERS = re.compile(rf"^({'|'.join(KEYS)}) ([0-9]{{1,30}})$", re.M)
+# The same as the kernel writes them for a group with the controller, which is found at once.
+AS_WRITTEN = re.compile(r"usage_usec ([0-9]{1,30})\n(?:.*\n)*?nr_periods ([0-9]{1,30})\n"
+                        r"nr_throttled ([0-9]{1,30})$", re.M)
 WAITED = re.compile(r"^some .*\btotal=([0-9]{1,20})", re.M)
 # The file that a group has if the controller is enabled for it.
 MARK = "cpu.weight"
@@ -47,10 +51,11 @@ def keyed(text: str | None) -> dict[str, int]:
 
 def counters(stat_text: str | None, pressure_text: str | None) -> CounterReading:
     """The counters of the texts of `cpu.stat` and `cpu.pressure`."""
-    found = {key: int(number) for key, number in COUNTERS.findall(stat_text or "")}
-    waited = WAITED.search(pressure_text or "")
-    usage, periods, throttled = map(found.get, ("usage_usec", "nr_periods", "nr_throttled"))
-    return CounterReading(usage, periods, throttled, int(waited.group(1)) if waited else None)
+    text, waited = stat_text or "", WAITED.search(pressure_text or "")
+    found = AS_WRITTEN.match(text)
+    words = found.groups() if found else map(dict(COUNTERS.findall(text)).get, KEYS)
+    return CounterReading(*[None if word is None else int(word) for word in (
+        *words, waited.group(1) if waited else None)])
 
 
 def reading(folder: str | int) -> CounterReading:

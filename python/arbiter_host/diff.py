@@ -107,7 +107,7 @@ def table(one: Plan, two: Plan, view: View) -> list[tuple[str, str]]:
                                     view.width, tail, keeps_names=view.width >= WIDE)
         answer += zip(lines, ["bold", *(pair.style for pair in differ)])
     answer.append((f"{count - len(differ)} of {count} groups are the same in both", ""))
-    if any("THROTTLED*" in line for line, _ in answer):
+    if any("throttled*" in line for line, _ in answer):
         answer.append((explain.THROTTLED_NOTE, ""))
     return answer
 

@@ -8,10 +8,10 @@ from collections.abc import Callable, Iterator, Mapping, Sequence, Set
 from typing import Any, NamedTuple
 
 from arbiter_host import text
-from arbiter_host.model import MAX_DEPTH
+from arbiter_host.model import MAX_DEPTH, NO_POD
 from arbiter_host.names import cut, last_name, listed, short, shown, tail, width
 from arbiter_host.placement import Outlook
-from arbiter_host.plan import Plan, Planned, walk
+from arbiter_host.plan import Explanation, Plan, Planned, walk
 from arbiter_host.text import BAR_HEAD, LEAST_NAME, WIDE, Reasoned
 
 ONLY: dict[str, Callable[[Planned], bool]] = {
@@ -28,19 +28,22 @@ SORTS: dict[str, Callable[[Planned], Any]] = {
     "weight": lambda group: -group.weight,
     "name": lambda group: group.path.split("/"),
 }
-STYLES = {"STARVED": "bold red", "own limit": "yellow", "limit above": "yellow",
+STYLES = {"starved": "bold red", "own limit": "yellow", "limit above": "yellow",
           "the host is full": "magenta", "all": "green", "tasks": "cyan", "nothing asked": "dim"}
 # Letters of a bar, which a wide table has.
 BAR = 12
 MOST_RANGES = 20
-THROTTLED_NOTE = "* throttled, not by its limit: it gets less than its limit"
+# The mark of a group that is counted as throttled and gets less than its limit.
+ELSEWHERE = "throttled, not by its limit"
+THROTTLED_NOTE = f"* {ELSEWHERE}: it gets less than its limit"
 
 
 class View(NamedTuple):
     """What is shown: filters, order, depth, unit, width, and whether idle groups are.
 
     `chosen` are the paths of the groups that are shown, and None for all. `guaranteed` are the
-    slices that a group gets whatever the others ask for, by row, where they are shown.
+    slices that a group gets whatever the others ask for, by row, where they are shown. `folded` are
+    the paths of the groups whose children are not shown.
     """
 
     only: tuple[str, ...] = ()
@@ -51,11 +54,16 @@ class View(NamedTuple):
     everything: bool = False
     chosen: Set[str] | None = None
     guaranteed: Mapping[int, int] | None = None
+    folded: Set[str] = frozenset()
 
     @property
     def is_flat(self) -> bool:
         """Whether groups are a list of paths and no tree."""
         return bool(self.only)
+
+    def is_folded(self, group: Planned) -> bool:
+        """Whether what is below a group is not shown."""
+        return group.depth >= self.depth or group.path in self.folded
 
     def has(self, group: Planned) -> bool:
         """Whether a group is among those that are chosen."""
@@ -73,14 +81,51 @@ class View(NamedTuple):
 
 
 def why(plan: Plan, group: Planned, is_wide: bool) -> str:
-    """The reason of a group, after its warning labels (STARVED, THROTTLED ..)."""
-    reason, labels = plan.reason(group), ["STARVED"] if group.is_starved else []
-    if group.is_throttled_elsewhere:
-        labels.append("THROTTLED, NOT BY ITS LIMIT")
-    elif group.is_throttled and reason.name != "own limit":
-        labels.append("THROTTLED")
-    whole = "; ".join([*labels, reason.words if is_wide else narrow(plan, group)])
+    """The reason of a group, after its marks."""
+    words = plan.reason(group).words if is_wide else narrow(plan, group)
+    whole = "; ".join([*marks(plan, group), words])
     return whole if is_wide else starred(whole)
+
+
+def marks(plan: Plan, group: Planned) -> list[str]:
+    """What a group suffers from: `starved`, and whether it counts as throttled."""
+    found = ["starved"] if group.is_starved else []
+    if group.is_throttled_elsewhere:
+        found.append(ELSEWHERE)
+    elif group.is_throttled and plan.reason(group).name != "own limit":
+        found.append("throttled")
+    return found
+
+
+def asking_one(group: Planned) -> Planned:
+    """The group whose amounts a row has: the one container of a pod, and else the group itself.
+
+    So it is of any group with one child. Of a pod, containers that ask for nothing do not count.
+    """
+    is_pod = group.group is not None and group.group.pod != NO_POD
+    found = [each for each in group.children if each.want or not is_pod]
+    one = found[0] if len(found) == 1 and group.parent is not None else group
+    return group if one.children else one
+
+
+def tighter(group: Planned, one: Planned) -> Planned:
+    """That of both whose limit is lower, which is the limit of their row."""
+    is_group = group.limit is not None and (one.limit is None or group.limit < one.limit)
+    return group if is_group else one
+
+
+def row_name(group: Planned, one: Planned) -> str:
+    """The last name of a group, with that of the container that its row shows."""
+    paths = dict.fromkeys([group.path, one.path])
+    return " / ".join("the host" if path == "." else short(shown(last_name(path)))
+                      for path in paths)
+
+
+def row_reason(plan: Plan, group: Planned, one: Planned) -> Explanation:
+    """The reason of a row: that of a pod where its one container has all that the pod gets."""
+    reason = plan.reason(one)
+    is_by_pod = reason.cause not in (None, one.path) and not reason.active_weight
+    return plan.reason(group) if is_by_pod else reason
 
 
 def narrow(plan: Plan, group: Planned) -> str:
@@ -99,7 +144,7 @@ def label(group: Planned, view: View, depth: int) -> str:
         return "the host (.)"
     if view.is_flat or depth == 0:
         return short(shown(group.path))
-    below = size(group) - 1 if group.depth >= view.depth else 0
+    below = size(group) - 1 if view.is_folded(group) else 0
     more = f" (+{below} below)" if below else ""
     people = f"  {shown(group.title)}" if group.title and "/" not in group.title else ""
     return "  " * depth + short(shown(last_name(group.path))) + more + people
@@ -119,7 +164,7 @@ def line_of(plan: Plan, group: Planned, view: View, depth: int) -> Reasoned:
 
 def starred(words: str) -> str:
     """A reason whose longest mark refers to the note below the table."""
-    return words.replace("THROTTLED, NOT BY ITS LIMIT", "THROTTLED*")
+    return words.replace(ELSEWHERE, "throttled*")
 
 
 def ordered(groups: Sequence[Planned], view: View) -> list[Planned]:
@@ -130,7 +175,7 @@ def ordered(groups: Sequence[Planned], view: View) -> list[Planned]:
 def below(group: Planned, view: View) -> list[Planned]:
     """The children of a group that are shown. Those that ask for nothing are left out, unless all
     are asked for."""
-    if group.depth >= view.depth:
+    if view.is_folded(group):
         return []
     return ordered([each for each in group.children if each.want > 0 or view.everything], view)
 
@@ -149,6 +194,12 @@ def family(plan: Plan, view: View) -> list[Planned]:
                  for each in (group, *plan.above(group)))}
     return [group for group in walk([plan.root], lambda group: ordered(group.children, view))
             if group.row in rows]
+
+
+def rows(plan: Plan, view: View) -> list[Planned]:
+    """The groups of a page or a picture that have a row: a container may be in that of its pod."""
+    ones = {one.row for group in plan.groups if (one := asking_one(group)) is not group}
+    return [group for group in family(plan, view) if group.row not in ones]
 
 
 def size(group: Planned) -> int:
@@ -242,7 +293,7 @@ def range_lines(plan: Plan, view: View, ranges: Mapping[int, tuple[int, int]]) -
 
 
 def foot(plan: Plan, view: View, lines: Sequence[str]) -> Iterator[str]:
-    if any("THROTTLED*" in line for line in lines):
+    if any("throttled*" in line for line in lines):
         yield THROTTLED_NOTE
     idle = sum(1 for group in plan.groups[1:] if group.want == 0 and view.has(group)
                and view.has(plan.groups[group.parent or 0]))
@@ -259,7 +310,7 @@ def table(plan: Plan, view: View) -> list[tuple[str, str]]:
         lines = text.reasoned_table(
             heads, [line_of(plan, group, view, depth) for group, depth in groups],
             view.width, cut if view.chosen is None and not view.is_flat else tail, 5)
-        styles = [STYLES.get("STARVED" if group.is_starved else plan.reason(group).name, "")
+        styles = [STYLES.get("starved" if group.is_starved else plan.reason(group).name, "")
                   for group, _ in groups]
         answer += zip(lines, ["bold", *styles])
     else:

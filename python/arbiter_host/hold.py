@@ -16,10 +16,9 @@ import time
 from collections import Counter
 from collections.abc import Callable, Iterable, Mapping
 from dataclasses import dataclass
-from fractions import Fraction
 from typing import Any, NamedTuple
 
-from arbiter import Columns, Host, Reading, Round, Row
+from arbiter import Columns, Host, Reading, Refused, Round, Row
 from arbiter_host import apply, cgroup2, hunger, looks, output, safe_files, units
 from arbiter_host.apply import BURST, MAXIMUM, WEIGHT, Back, By, Change, Settings
 from arbiter_host.demands import rise
@@ -27,7 +26,7 @@ from arbiter_host.faults import HostFault
 from arbiter_host.looks import Counted, Times
 from arbiter_host.model import MAX_DEPTH, Group, Model, TooMany, planned, up_to_64_cpus
 from arbiter_host.names import shown
-from arbiter_host.plan import Engine, asking
+from arbiter_host.plan import Engine, asking, fault_of
 from arbiter_host.record import Record
 from arbiter_host.safe_files import Gone, Identity, Root
 from arbiter_host.sources.pods import kubelets
@@ -45,6 +44,8 @@ MOST_MISSED, LONGEST_MISSED = 5, 5 * SECOND
 MOST_OF_OTHERS, LONGEST_PART = 1024, SECOND // 2
 # Groups whose settings are read in a round; of more they are read in turn, and before a writing.
 MOST_SETTINGS = 4096
+# Objects that are made between two searches for garbage. A round makes some for each group.
+MOST_OBJECTS = 200_000
 # Links of a folder without folders.
 LINKS = 2
 # Files that are open beside those of the groups.
@@ -247,12 +248,14 @@ class Loop:
                  clock: Callable[[], int] = time.monotonic_ns) -> None:
         self.engine, self.root, self.host, self.record = engine, root, host, record
         self.ways, self.clock, self.own = ways, clock, own_group()
+        # The host of calls that take at most 64 CPUs.
+        self.small = up_to_64_cpus(host)
         # The groups that are open, by their paths.
         self.groups: dict[str, Kept] = {}
         self.tree = HeldTree(self, top)
         # What is written for a limit. Many groups have the same one, or one that stays.
         self.written = functools.lru_cache(apply.MOST_KNOWN)(functools.partial(
-            engine.library.written, up_to_64_cpus(host)))
+            engine.library.written, self.small))
         # The number of tasks of each leaf at the last reading.
         self.tasks: dict[str, int] = {}
         self.tell = output.Remarks().tell
@@ -265,18 +268,21 @@ class Loop:
         self.is_checked = ways.is_forced
         self.rounds = self.readings = 0
 
+    def text(self, folder: str, file: str, most: int = safe_files.MAX_TEXT) -> str:
+        """The text of a file of a group; empty where it cannot be read."""
+        try:
+            return self.root.read(folder, file, most)
+        except HostFault:
+            return ""
+
     def counted(self, folder: str, stat: str, is_leaf: bool, before: Counted | None = None
                 ) -> Counted:
         """What is counted of a group, and what its tasks did if some waited since the last time."""
-        def text(file: str, most: int = safe_files.MAX_TEXT) -> str:
-            try:
-                return self.root.read(folder, file, most)
-            except HostFault:
-                return ""
-
-        reading = cgroup2.counters(stat, text("cpu.pressure"))
+        reading = cgroup2.counters(stat, self.text(folder, "cpu.pressure"))
         has_waited = before is None or rise(before.reading.pressure, reading.pressure)
-        list_ = text("cgroup.threads", hunger.MOST_TEXT) if is_leaf and has_waited else ""
+        if not is_leaf or not has_waited:
+            return Counted(reading)
+        list_ = self.text(folder, "cgroup.threads", hunger.MOST_TEXT)
         return Counted(reading, hunger.tasks(list_))
 
     def take_up(self, group: Group, is_leaf: bool) -> None:
@@ -378,14 +384,14 @@ class Loop:
     def read_groups(self, model: Model, there: Mapping[str, bool]) -> dict[str, Reading]:
         """What each leaf used since its last reading. New groups are opened."""
         used, faults = dict[str, Reading](), list[HostFault]()
-        spent = Counter[Identity | None]()
+        spent, parts = Counter[Identity | None](), self.tree.parts
         self.readings += 1
         turns = 1 + len(self.groups) // MOST_SETTINGS
         for turn, (path, is_leaf) in enumerate(there.items(), self.readings):
             if path not in self.groups:
                 self.take_up(model.groups[path], is_leaf)
                 continue
-            begun = self.clock()
+            begun = self.clock() if path in parts else 0
             try:
                 found = self.read_group(path, turn % turns == 0)
                 if is_leaf:
@@ -397,8 +403,8 @@ class Loop:
                     self.tell([f"{fault.message}: its limit is left as it is"])
                 else:
                     faults.append(fault)
-            if path in self.tree.parts:
-                spent[self.tree.parts[path].identity] += self.clock() - begun
+            if path in parts:
+                spent[parts[path].identity] += self.clock() - begun
         self.tree.took(spent)
         if faults:
             raise faults[0]
@@ -412,18 +418,21 @@ class Loop:
             self.look(kept, path)
         stat, begun = self.root.read(kept.folder, "cpu.stat"), kept.at
         kept.at = self.clock()
-        if kept.is_idle and stat == kept.stat and kept.at > begun:
+        passed = kept.at - begun
+        if kept.is_idle and stat == kept.stat and passed > 0:
             return IDLE
         before, kept.stat = kept.counted, stat
         kept.counted = self.counted(kept.folder, stat, kept.is_leaf, before)
-        span = looks.risen(before, kept.counted, Fraction(kept.at - begun, SECOND))
-        kept.is_idle = span.risen.usage == 0 and not span.risen.pressure
-        has_limit = kept.stands.quota is not None
-        if span.risen.usage is None or span.seconds <= 0:
+        rose = looks.risen(before, kept.counted)
+        kept.is_idle = rose.usage == 0 and not rose.pressure
+        if rose.usage is None or passed <= 0:
             raise HostFault(f"{shown(kept.folder)}: its reading is older than the last: nothing is"
                             " written")
-        with asking(shown(kept.folder)):
-            return span.reading(self.engine.library, self.host, has_limit)
+        try:
+            return looks.reading_of(self.engine.library, self.small, rose, passed, before.threads,
+                                    kept.counted.threads, kept.stands.quota is not None)
+        except (Refused, OverflowError) as error:
+            raise fault_of(shown(kept.folder), error) from error
 
     def rows(self, model: Model) -> list[Row]:
         """The rows of the operator's own settings, which ask for nothing."""
@@ -433,26 +442,26 @@ class Loop:
             group.burst, group.saved = 0, 0
         return model.rows(self.engine.library)
 
-    def held(self, rows: list[Row], used: dict[int, Reading]) -> Round:
+    def held(self, rows: Columns, used: Mapping[int, Reading]) -> Round:
         """The limits of the next round from what the leaf of each row asks for. The proved check
         accepted their plan."""
-        host, library = planned(self.host), self.engine.library
-        asks, for_all = list(rows), [False] * len(rows)
+        library = self.engine.library
+        host = planned(library, self.host)
+        asks, for_all = rows.demands.tolist(), [False] * len(rows)
         for row, each in used.items():
             for_all[row] = each.asked == units.MAX_DEMAND
-            asks[row] = rows[row]._replace(demand=each.used if for_all[row] else each.asked)
+            asks[row] = each.used if for_all[row] else each.asked
         with asking("no limits"):
-            held = library.hold(host, Columns.of(asks), for_all)
-        asked = [row._replace(demand=demand) for row, demand in zip(rows, held.demands)]
+            held = library.hold(host, rows.asking(asks), for_all)
         with asking("the check refused the plan"):
-            library.check(host, Columns.of(asked), held.amounts, held.certificate)
+            library.check(host, rows.asking(held.demands), held.amounts, held.certificate)
         return held
 
     def planned(self, model: Model, used: dict[str, Reading]) -> Written:
         """The limits and weights of the next round."""
         rows, found, weights = self.rows(model), Written({}, {}, {}), dict[str, int]()
         places = {path: row for row, path in enumerate(model.groups, 1) if path in used}
-        held = self.held(rows, {row: used[path] for path, row in places.items()})
+        held = self.held(Columns.of(rows), {row: used[path] for path, row in places.items()})
         for path, row in places.items():
             limit, kept, each = held.limits[row], self.groups[path], used[path]
             if limit is None:

@@ -15,7 +15,7 @@ from arbiter import Columns, Host
 from arbiter_host import progress
 from arbiter_host.faults import HostFault
 from arbiter_host.goals import Goals
-from arbiter_host.model import Model, planned, up_to_64_cpus
+from arbiter_host.model import Model, up_to_64_cpus
 from arbiter_host.owned import Range
 from arbiter_host.plan import Plan, asking, payers
 from arbiter_host.tune_settings import Raised
@@ -81,12 +81,12 @@ def owned_knob(goals: Goals, known: Raised, row: int, of: Range) -> Knob:
 def each_of(goals: Goals) -> list[Knob]:
     """Each setting of the group of the one goal, with its least value."""
     (goal,), before, source = goals.goals, goals.before, goals.before.model.owned
-    library, host = before.engine.library, before.model.host
+    library, host, least = before.engine.library, before.model.host, before.planned_host
     # Above 64 CPUs the planner's host has another period. The answer is of any number of CPUs.
     any_host = up_to_64_cpus(host)
     finds: list[Callable[[], Knob]] = [
-        partial(knob, goals, "weight", goal.group.weight, planned(host), library.least_weight),
-        partial(knob, goals, "limit", goal.group.limit, planned(host), library.least_limit),
+        partial(knob, goals, "weight", goal.group.weight, least, library.least_weight),
+        partial(knob, goals, "limit", goal.group.limit, least, library.least_limit),
         partial(knob, goals, "CPUs", host.processors, any_host, library.least_processors)]
     meant = source.meant(goal.group.path) if source else []
     if source is not None and len(meant) == 1:

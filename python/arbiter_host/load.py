@@ -36,9 +36,9 @@ def kind_of(path: str, data: bytes | None) -> str:
                  if each.is_one(name, b"" if is_named else data)), "script")
 
 
-def wish_of(options: argparse.Namespace) -> Wish:
+def wish_of(options: argparse.Namespace, library: Library) -> Wish:
     """What the options ask of a source."""
-    host, weights = by_options.of_host(options), options.node_weights
+    host, weights = by_options.of_host(options, library), options.node_weights
     tree = options.root if getattr(options, "asked", "") == "apply" else ""
     measured = None
     if options.used:
@@ -111,7 +111,7 @@ def model_of(options: argparse.Namespace, files: Sequence[Opened], engine: Engin
     check_read(options, kind, len(files))
     named = [(names.shown(path), data) for path, data in files if data is not None]
     if kind == "cgroup":
-        return finished(options, read_tree(options, [path for path, _ in files]))
+        return finished(options, read_tree(options, [path for path, _ in files], engine.library))
     if len(named) < len(files):
         raise HostFault(f"{names.shown(files[0][0])}: Is a directory")
     model = read_files(options, kind, named, engine.library)
@@ -123,7 +123,7 @@ def model_of(options: argparse.Namespace, files: Sequence[Opened], engine: Engin
     return model
 
 
-def read_tree(options: argparse.Namespace, paths: Sequence[str]) -> Model:
+def read_tree(options: argparse.Namespace, paths: Sequence[str], library: Library) -> Model:
     """A tree of cgroups, and later copies of it."""
     from arbiter_host.sources import cgroups
     want = options.want or "usage"
@@ -133,7 +133,7 @@ def read_tree(options: argparse.Namespace, paths: Sequence[str]) -> Model:
     if times.number == 1 and len(paths) == 1 and want in demands.OF_USE:
         raise UsageFault(f"--want {want}: use is measured from one reading to the next: --read"
                          " 2x1s")
-    return cgroups.read(paths, by_options.machine(options, want), times, want)
+    return cgroups.read(paths, by_options.machine(options, library, want), times, want)
 
 
 def read_files(options: argparse.Namespace, kind: str, files: Sequence[File],
@@ -142,7 +142,7 @@ def read_files(options: argparse.Namespace, kind: str, files: Sequence[File],
     reader = importlib.import_module(f"arbiter_host.sources.{READERS[kind].module}")
     if not READERS[kind].is_measured and options.used:
         raise UsageFault(f"--used belongs to pods and containers, and not to {kind}")
-    model: Model = reader.read(files, library, wish_of(options))
+    model: Model = reader.read(files, library, wish_of(options, library))
     return finished(options, model)
 
 

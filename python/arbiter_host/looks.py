@@ -107,11 +107,8 @@ class Span(NamedTuple):
 
     def reading(self, library: Library, host: Host, has_limit: bool) -> Reading:
         """What it used and asks for, and whether it would have used more, by the library."""
-        times = RoundTimes(int(self.seconds * 10**9), self.risen.usage or 0,
-                           self.risen.pressure or 0, len(self.after),
-                           has_limit and bool(self.risen.throttled))
-        return library.reading(up_to_64_cpus(host), times,
-                               list(hunger.rises(self.before, self.after)))
+        return reading_of(library, up_to_64_cpus(host), self.risen, int(self.seconds * 10**9),
+                          self.before, self.after, has_limit)
 
     def measured(self, tasks: int | None) -> Measured:
         """The same as two readings."""
@@ -119,23 +116,29 @@ class Span(NamedTuple):
         return Measured([first, self.risen], tasks=tasks)
 
 
-def risen(one: Counted, two: Counted, seconds: Fraction = Fraction(0)) -> Span:
-    """What was counted from one look to the next, which are so many seconds apart unless both have
-    times of their own."""
-    if one.at is not None and two.at is not None:
-        seconds = two.at - one.at
-    return Span(CounterReading(*map(rise, one.reading, two.reading)), seconds, one.threads,
-                two.threads)
+def reading_of(library: Library, host: Host, rose: CounterReading, passed: int,
+               before: hunger.Tasks, after: hunger.Tasks, has_limit: bool) -> Reading:
+    """What a group used in so many nanoseconds and asks for, by the library."""
+    times = RoundTimes(passed, rose.usage or 0, rose.pressure or 0, len(after),
+                       has_limit and bool(rose.throttled))
+    return library.reading(host, times, list(hunger.rises(before, after)) if after else ())
+
+
+def risen(one: Counted, two: Counted) -> CounterReading:
+    """By how much the counters of a group rose."""
+    return CounterReading(*map(rise, one.reading, two.reading))
 
 
 def span_of(one: Counted, two: Counted, seconds: Fraction) -> Span | str:
-    """What was counted from one look to the next, or why that says nothing."""
-    span = risen(one, two, seconds)
-    if span.seconds <= 0:
+    """What was counted from one look to the next, or why that says nothing. These are so many
+    seconds apart unless both have times of their own."""
+    if one.at is not None and two.at is not None:
+        seconds = two.at - one.at
+    if seconds <= 0:
         return STILL
     has_fallen = any(before is not None and after is not None and after < before
                      for before, after in zip(one.reading, two.reading))
-    return FELL if has_fallen else span
+    return FELL if has_fallen else Span(risen(one, two), seconds, one.threads, two.threads)
 
 
 def sum_of(spans: Sequence[Span]) -> Span:
@@ -212,9 +215,9 @@ class Tree:
             taken: set[str]) -> bool:
         """Adds one group and those below it. Returns whether it was there."""
         raw, notes, pod = entry.name, look.model.notes, self.pod_at(look, entry.path)
-        name = names.path_name(pod[2] or ":".join(filter(None, pod)) or raw, taken)
-        group = Group(names.joined(above, name), place=entry.path, pod=pod,
-                      title="/".join(filter(None, pod)))
+        parts = [] if pod is NO_POD else [part for part in pod if part]
+        name = names.path_name(pod[2] or ":".join(parts) or raw, taken)
+        group = Group(names.joined(above, name), place=entry.path, pod=pod, title="/".join(parts))
         try:
             has_more = self.read(look, group, entry)
         except OSError:

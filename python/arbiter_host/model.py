@@ -7,7 +7,7 @@ from dataclasses import dataclass, field, replace
 from fractions import Fraction
 from typing import TYPE_CHECKING
 
-from arbiter import Host, Library, Row
+from arbiter import Host, Library, Refused, Row
 from arbiter_host import names, units
 from arbiter_host.faults import HostFault
 from arbiter_host.units import Slices
@@ -37,38 +37,30 @@ def checked(host: Host) -> Host:
                         f" {host.period_us}, which it divides", 2)
     if not 1 <= host.processors <= MAX_CAPACITY:
         raise HostFault(f"CPUs {host.processors}: not 1 to {MAX_CAPACITY}", 2)
-    planned(host)
     return host
 
 
-def fine(host: Host, sample: int = 0) -> Host:
+def fine(library: Library, host: Host, sample: int = 0) -> Host:
     """A host of as many CPUs with slices of 1 ms and a period of 1 s, or else the longest that can
     be planned and divides a sample of so many microseconds. Use is in microseconds: a slice of 10m
     would hide what is below it."""
     for period in FINE:
         with suppress(HostFault):
             if sample % period == 0:
-                return checked(Host(host.processors, period, 1000))
+                finer = Host(host.processors, period, 1000)
+                planned(library, finer)
+                return finer
     return host
 
 
-def planned(host: Host) -> Host:
-    """The host itself up to 64 CPUs; else one of the same capacity that the planner takes.
-
-    A plan depends on the capacity, the rows and nothing else of a host. The other host has at most
-    64 CPUs, slices of 1000 microseconds and a longer period.
-    """
-    if host.processors <= MAX_PROCESSORS:
-        return host
-    if host.capacity > MAX_CAPACITY:
+def planned(library: Library, host: Host) -> Host:
+    """The host that the library plans in place of one of any number of CPUs, with its capacity."""
+    try:
+        return library.planned_host(host)
+    except Refused as refused:
         raise HostFault(f"{host.processors} CPUs have {host.capacity} slices in a period, and the"
-                        f" planner takes {MAX_CAPACITY}: a longer slice has fewer", 2)
-    for cpus in range(MAX_PROCESSORS, 0, -1):
-        each, rest = divmod(host.capacity, cpus)
-        if rest == 0 and each * 1000 <= units.MAX_PERIOD:
-            return Host(cpus, each * 1000, 1000)
-    raise HostFault(f"{host.capacity} slices of {host.processors} CPUs are no product of at most 64"
-                    " CPUs and at most 1000 slices: another slice has such a number", 2)
+                        f" planner takes {MAX_CAPACITY}, as 1 to {MAX_PROCESSORS} CPUs of 1 to 1000"
+                        " each: another slice has other numbers", 2) from refused
 
 
 def up_to_64_cpus(host: Host) -> Host:
@@ -170,8 +162,9 @@ class Model:
         place, rows = {"": 0}, [Row(None, units.DEFAULT_WEIGHT, None, 0)]
         for path, group in self.groups.items():
             place[path] = len(rows)
+            demand = slices.demand(group.usable) if group.demand else 0
             rows.append(Row(place[path.rpartition("/")[0]], group.weight,
-                            slices.limit(*group.bandwidth), slices.demand(group.usable)))
+                            slices.limit(*group.bandwidth), demand))
         return rows
 
     def with_host(self, host: Host) -> Model:

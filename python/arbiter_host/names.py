@@ -5,7 +5,7 @@ import itertools
 import os
 import re
 import unicodedata
-from collections.abc import Container, Sequence
+from collections.abc import Container, Iterable, Sequence
 
 from arbiter_host.faults import HostFault
 
@@ -137,8 +137,8 @@ def path_name(raw: str, taken: Container[str]) -> str:
     if len(name.encode()) > MAX_NAME:
         import hashlib  # (few names are so long)
         name = shortened(name, hashlib.sha256(name.encode()).hexdigest()[:KEPT])
-    marked = (shortened(name, str(number)) for number in range(2, MOST_ALIKE + 1))
-    for each in itertools.chain([name], marked):
+    for number in range(1, MOST_ALIKE + 1):
+        each = name if number == 1 else shortened(name, str(number))
         if each not in taken:
             return each
     raise HostFault(f"{shown(name)}: more than {MOST_ALIKE} groups of one name")
@@ -184,6 +184,16 @@ def joined(parent: str, name: str) -> str:
 def parent_path(path: str) -> str:
     """The path of the group above; `.` is the root."""
     return path.rpartition("/")[0] or "."
+
+
+def common_parent(paths: Iterable[str]) -> str:
+    """The group that all of some groups are below; empty for the root."""
+    return os.path.commonpath([parent_path(path) for path in paths] or [""])
+
+
+def below(path: str, prefix: str) -> str:
+    """A path without a group that it is below."""
+    return path.removeprefix(f"{prefix}/")
 
 
 def last_name(path: str) -> str:

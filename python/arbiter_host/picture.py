@@ -4,17 +4,18 @@ Groups that ask for nothing are left out. The scale is repeated every few rows.
 """
 from __future__ import annotations
 
+import bisect
 from collections.abc import Callable, Iterator, Sequence
 from dataclasses import dataclass, field
 
 from arbiter_host import explain, svg, text
 from arbiter_host.explain import View
 from arbiter_host.faults import HostFault
-from arbiter_host.names import cut, last_name, short, shown
+from arbiter_host.names import cut
 from arbiter_host.plan import Plan, Planned
 
 ROW, INDENT, BARS, EDGE, HEAD = 20, 14, 400, 16, 70
-NAME_CELLS, NOTE_CELLS = 40, 128
+NAME_CELLS, NOTE_CELLS = 48, 128
 # Rows from one scale to the next.
 SCALE_ROWS = 24
 # With more a picture is higher than common programs draw.
@@ -23,9 +24,12 @@ MOST_ROWS = 1500
 
 @dataclass
 class Entry:
-    """One row: a group in words, and the places of the rows right below it."""
+    """One row: a group in words, and the places of the rows right below it. `one` has its amounts:
+    the one container of a pod, else the group itself. `tight` has its limit."""
 
     group: Planned
+    one: Planned
+    tight: Planned
     name: str
     note: str
     title: str
@@ -34,20 +38,22 @@ class Entry:
 
 
 def entry_of(plan: Plan, group: Planned, view: View) -> Entry:
-    cells = view.cells(plan, group)
-    more = "" if group.limit is None or group.parent is None else f", at most {cells['limit']}"
+    one = explain.asking_one(group) if group.depth < view.depth else group
+    tight, cells = explain.tighter(group, one), view.cells(plan, one)
+    more = "" if tight.limit is None or one.parent is None else (
+        f", at most {text.amount(plan, tight.limit, view.unit)}")
     if cells.get("guaranteed", "-") != "-":
         more += f", guaranteed {cells['guaranteed']}"
-    name = "the host" if group.parent is None else short(shown(last_name(group.path)))
-    if group.title and "/" not in group.title:
-        name = f"{name}  {group.title}"
-    why = explain.why(plan, group, True)
-    return Entry(group, name, f"{cells['gets']} of {cells['wants']}{more}: {why}",
-                 f"{group.path}: {why}", group.row in plan.answer.limiting)
+    name = explain.row_name(group, one)
+    if one.title and "/" not in one.title:
+        name = f"{name}  {one.title}"
+    why = "; ".join([*explain.marks(plan, tight), explain.row_reason(plan, group, one).words])
+    return Entry(group, one, tight, name, f"{cells['gets']} of {cells['wants']}{more}: {why}",
+                 f"{one.path}: {why}", not {group.row, one.row}.isdisjoint(plan.answer.limiting))
 
 
 def entries(plan: Plan, view: View) -> list[Entry]:
-    groups = [group for group in explain.family(plan, view)
+    groups = [group for group in explain.rows(plan, view)
               if group.parent is None or group.want and group.depth <= view.depth]
     if len(groups) > MOST_ROWS:
         raise HostFault(f"{len(groups)} groups are too many for one picture: -g and --depth choose"
@@ -71,11 +77,17 @@ class Drawing:
         self.most = max(plan.capacity, 1)
         notes = max(svg.wide(cut(each.note, NOTE_CELLS), 11) for each in entries_)
         self.width = self.left + BARS + 24 + notes + EDGE
-        scales = (len(entries_) - 1) // SCALE_ROWS
-        self.height = HEAD + ROW * (len(entries_) + scales) + EDGE
+        # The rows that have a scale above them: not that of the first child, if it can be.
+        self.scaled = [0]
+        for place, each in enumerate(entries_):
+            since = place - self.scaled[-1]
+            is_first = each.group.depth > entries_[place - 1].group.depth
+            if since >= SCALE_ROWS or since >= SCALE_ROWS - 4 and not is_first:
+                self.scaled.append(place)
+        self.height = self.y(len(entries_)) + EDGE
 
     def y(self, place: int) -> float:
-        return HEAD + ROW * (place + place // SCALE_ROWS)
+        return HEAD + ROW * (place + bisect.bisect(self.scaled, place) - 1)
 
     def x(self, slices: float) -> float:
         """The place of an amount. What is above the capacity is cut."""
@@ -90,9 +102,9 @@ class Drawing:
             slices = round(cpus * (host.period_us // host.slice_us))
             written = text.amount(self.plan, slices, self.unit)
             written = written.rstrip("0").rstrip(".") if "." in written else written
-            for place in range(0, len(self.entries), SCALE_ROWS):
+            for place in self.scaled:
                 yield svg.words((x, self.y(place) - 8), written, svg.FAINT, 10, "middle")
-        for place in range(0, len(self.entries), SCALE_ROWS):
+        for place in self.scaled:
             yield svg.words((self.left + BARS + 24, self.y(place) - 8),
                             text.UNIT_WORDS[self.unit], svg.FAINT, 10)
 
@@ -108,8 +120,8 @@ class Drawing:
                 y = self.y(below) + ROW / 2
                 yield svg.line((x, y), (x + INDENT - 6, y), svg.BRANCH)
 
-    def bar(self, group: Planned, y: float, is_limiting: bool) -> Iterator[str]:
-        tall = ROW - 8
+    def bar(self, entry: Entry, y: float) -> Iterator[str]:
+        group, limit, tall = entry.one, entry.tight.limit, ROW - 8
         yield svg.box((self.left, y + 4), (self.x(group.want) - self.left, tall), svg.WANTS)
         gets = max(self.x(group.gets) - self.left, 1.5 if group.gets else 0)
         yield svg.box((self.left, y + 4), (gets, tall), svg.GETS)
@@ -117,17 +129,18 @@ class Drawing:
             x = self.left + BARS
             yield svg.shape([(x, y + 4), (x + 7, y + ROW / 2), (x, y + 4 + tall)], svg.WANTS, 1,
                             svg.WANTS)
-        if group.limit is not None and group.limit <= self.most:
-            x = self.x(group.limit)
-            colour, wide = (svg.MARK, 3) if is_limiting else (svg.LIMIT, 1.5)
+        if limit is not None and limit <= self.most:
+            x = self.x(limit)
+            colour, wide = (svg.MARK, 3) if entry.is_limiting else (svg.LIMIT, 1.5)
             yield svg.line((x, y + 1), (x, y + ROW - 1), colour, wide)
 
     def row(self, place: int, entry: Entry) -> Iterator[str]:
-        y, group, ink = self.y(place), entry.group, svg.MARK if entry.is_limiting else svg.INK
+        y, group = self.y(place), entry.group
+        ink = svg.MARK if entry.is_limiting else svg.INK
         yield svg.words((EDGE + INDENT * group.depth, y + 14), cut(entry.name, NAME_CELLS), ink, 12,
                         "start", entry.is_limiting, entry.title)
-        yield from self.bar(group, y, entry.is_limiting)
-        is_bad = group.is_starved or group.is_throttled_elsewhere
+        yield from self.bar(entry, y)
+        is_bad = entry.one.is_starved or entry.tight.is_throttled_elsewhere
         yield svg.words((self.left + BARS + 24, y + 14), cut(entry.note, NOTE_CELLS),
                         svg.MARK if is_bad else svg.INK, 11, title=entry.note)
 

@@ -42,16 +42,21 @@ class Booked(NamedTuple):
     counters: Counters
 
 
+def fault_of(what: str, error: Refused | OverflowError) -> HostFault:
+    """A refusal, or a number that a call cannot hold, as a fault."""
+    if isinstance(error, OverflowError):
+        return HostFault(f"{what}: {error}")
+    row = "" if error.row is None else f" (row {error.row})"
+    return HostFault(f"{what}: error {error.number} {error.name}{row}")
+
+
 @contextmanager
 def asking(what: str) -> Iterator[None]:
     """Makes a fault of a refusal, and of a number that a call cannot hold."""
     try:
         yield
-    except Refused as refused:
-        row = "" if refused.row is None else f" (row {refused.row})"
-        raise HostFault(f"{what}: error {refused.number} {refused.name}{row}") from refused
-    except OverflowError as error:
-        raise HostFault(f"{what}: {error}") from error
+    except (Refused, OverflowError) as error:
+        raise fault_of(what, error) from error
 
 
 class Engine:
@@ -62,7 +67,7 @@ class Engine:
 
     def plan(self, host: Host, rows: Sequence[Row] | Columns) -> Answer:
         """A plan that the proved check accepted for these rows."""
-        host = planned(host)
+        host = planned(self.library, host)
         with asking("no plan"):
             columns = Columns.of(rows)
             amounts, certificate = self.library.certify(host, columns)
@@ -213,9 +218,14 @@ class Plan:
             yield group
 
     @functools.cached_property
+    def planned_host(self) -> Host:
+        """The host of the library's calls."""
+        return planned(self.engine.library, self.model.host)
+
+    @functools.cached_property
     def reasons(self) -> list[arbiter.Reason]:
         with asking("arbiter_reasons"):
-            return self.engine.library.reasons(planned(self.model.host), self.columns)
+            return self.engine.library.reasons(self.planned_host, self.columns)
 
     @functools.cached_property
     def explanations(self) -> list[Explanation]:
@@ -225,7 +235,7 @@ class Plan:
     def guaranteed(self, row: int) -> int:
         """What a group gets whatever the groups that are not under it ask for, in slices."""
         with asking("guarantee"):
-            return self.engine.library.guarantee(planned(self.model.host), self.columns, row)
+            return self.engine.library.guarantee(self.planned_host, self.columns, row)
 
     def reason(self, group: Planned) -> Explanation:
         return self.explanations[group.row]

@@ -9,7 +9,7 @@ import csv
 import io
 import itertools
 import json
-from collections.abc import Callable, Iterator, Mapping, Sequence
+from collections.abc import Callable, Iterable, Iterator, Mapping, Sequence
 from dataclasses import dataclass
 from fractions import Fraction
 
@@ -278,32 +278,45 @@ def gapped(values: Sequence[float | None], x: Callable[[float], float],
         yield stairs([each or 0.0 for each in values[begin:end]], x, y, begin)
 
 
-def panel(series: Series, path: str, top: float) -> Iterator[str]:
+def lines_of(series: Series, path: str) -> tuple[list[float], list[float], list[float | None]]:
+    """What a group wants and gets in each sample, and its limit where that is near, in CPUs."""
     host, cells = series.plan.model.host, series.groups[path]
     one = host.slice_us / host.period_us
-    wants = [float(each.mean(each.wants)) * one for each in cells]
-    gets = [float(each.mean(each.gets)) * one for each in cells]
+    wants, gets = ([float(each.mean(getattr(each, key))) * one for each in cells]
+                   for key in ("wants", "gets"))
     most = max(*wants, *gets, one)
-    limits = [None if each.limit is None else float(each.mean(each.limit)) * one for each in cells]
-    limits = [None if each is None or each > 2 * most else each for each in limits]
-    most = max([most, *(each for each in limits if each is not None)])
+    limits = (None if each.limit is None else float(each.mean(each.limit)) * one for each in cells)
+    return wants, gets, [None if each is None or each > 2 * most else each for each in limits]
+
+
+def peak(lines: Iterable[Sequence[float | None]]) -> float:
+    """The greatest value of some lines."""
+    return max((each for line in lines for each in line if each is not None), default=0.0)
+
+
+def panel(series: Series, path: str, top: float, most: float, mark: str) -> Iterator[str]:
+    wants, gets, limits = lines_of(series, path)
+    most = most or 1.0
 
     def x(at: float) -> float:
-        return LEFT + WIDE * at / len(cells)
+        return LEFT + WIDE * at / len(wants)
 
     def y(value: float) -> float:
         return top + TALL - TALL * value / most
 
-    yield svg.words((EDGE, top - 8), cut(short(shown(path)), 100), svg.INK, 12, "start", True, path)
+    yield svg.words((EDGE, top - 8), cut(short(shown(path)), 100 - len(mark)), svg.INK, 12, "start",
+                    True, path)
+    if mark:
+        yield svg.words((LEFT + WIDE, top - 8), mark, svg.MARK, 11, "end")
     for value in svg.steps(most, 4):
         yield svg.line((LEFT, y(value)), (LEFT + WIDE, y(value)), svg.GRID)
         yield svg.words((LEFT - 6, y(value) + 4), f"{value:g}", svg.FAINT, 10, "end")
     for values, colour in ((wants, svg.WANTS), (gets, svg.GETS)):
-        edge = [(x(0), y(0)), *stairs(values, x, y), (x(len(cells)), y(0))]
+        edge = [(x(0), y(0)), *stairs(values, x, y), (x(len(wants)), y(0))]
         yield svg.shape(edge, "none", 0, colour)
     for points in gapped(limits, x, y):
         yield svg.shape(points, svg.LIMIT, 1.5, "none", "5 3")
-    yield from strips(cells, top, x)
+    yield from strips(series.groups[path], top, x)
 
 
 def strips(cells: Sequence[SampleCell], top: float, x: Callable[[float], float]) -> Iterator[str]:
@@ -341,7 +354,8 @@ def picture(series: Series) -> str:
     height = TOP + 16 + len(series.groups) * (TALL + GAP) + 12
     title = f"{len(series.names)} samples, CPUs in each: {text.host_words(series.plan)}"
     parts = [svg.words((EDGE, 24), title, svg.INK, 13, "start", True), *legend(46)]
-    for place, path in enumerate(series.groups):
-        parts += panel(series, path, TOP + 22 + place * (TALL + GAP))
+    tops = svg.tops([peak(lines_of(series, path)) for path in series.groups])
+    for place, (path, (most, mark)) in enumerate(zip(series.groups, tops)):
+        parts += panel(series, path, TOP + 22 + place * (TALL + GAP), most, mark)
     parts += time_labels(series, height - 10)
     return svg.document(LEFT + WIDE + 3 * EDGE, height, title, parts)

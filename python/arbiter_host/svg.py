@@ -12,6 +12,8 @@ LETTER = 7.3
 INK, FAINT, GRID, BRANCH = "#1f2933", "#616e7c", "#d9dee4", "#9aa5b1"
 GETS, WANTS, LIMIT, MARK = "#2b6cb0", "#bcd4ec", "#8a5a00", "#b4231f"
 Point = tuple[float, float]
+# A picture has its own scale where it is lower than this part of the highest one.
+FLAT = 8
 
 
 def number(value: float) -> str:
@@ -77,6 +79,15 @@ def steps(most: float, about: int) -> list[float]:
         step = next(step * more for more in (2, 5, 10)
                     if most / (step * more) <= about or more == 10)
     return [round(place * step, 6) for place in range(int(most / step + 1e-9) + 1)]
+
+
+def tops(peaks: Sequence[float]) -> list[tuple[float, str]]:
+    """The top of the scale of each of some pictures, and its mark: one scale for all, but its own
+    for a picture that would be flat on it."""
+    most = max(peaks, default=0.0)
+    return [(most, "") if peak * FLAT >= most or peak == 0
+            else (peak, f"own scale, to {peak:.2g}: the others go to {most:.2g}")
+            for peak in peaks]
 
 
 def head(width_: float, height: float, title: str, space: str = "", typeface: str = "") -> str:

@@ -44,6 +44,11 @@ def in_unit(host: Host, thousandths: Fraction, unit: str) -> Fraction:
                           "slices": Fraction(host.period_us, 1000 * host.slice_us)}[unit]
 
 
+def measured(host: Host, thousandths: Fraction, unit: str) -> str:
+    """An amount that need not be whole slices, in a unit."""
+    return f"{float(in_unit(host, thousandths, unit)):.{3 if unit == 'cpu' else 1}f}"
+
+
 @functools.lru_cache(maxsize=64)
 def places(one: int, period: int) -> int:
     """The number of decimals, 0 to 3, with which one slice of a period is exact, if there is

@@ -13,7 +13,6 @@ from arbiter import Columns, Unmet
 from arbiter.columns import U64
 from arbiter_host import progress, search, units
 from arbiter_host.goals import Goals, NewSetting, Way
-from arbiter_host.model import planned
 from arbiter_host.plan import Plan, Planned, asking
 
 # At most so many weights are put back, and ways down the tree are tried.
@@ -33,7 +32,7 @@ def tuned(goals: Goals, weights: Sequence[int],
     columns = Columns(was.parents, array(U64, weights), was.limits, was.demands)
     with progress.bar("weights for the goals", len(amounts), is_open=True), asking("tune"):
         return progress.in_thread(lambda: library.tune(
-            planned(goals.before.model.host), columns, amounts, goals.is_guaranteed))
+            goals.before.planned_host, columns, amounts, goals.is_guaranteed))
 
 
 def tuned_free(goals: Goals, weights: Sequence[int]) -> list[int] | Unmet:

@@ -17,6 +17,7 @@ MAX_DEMAND = 1000000
 MAX_KEPT = 65536
 # Number of a demand that is too large.
 TOO_LARGE = 9
+MOST_WORD = 2**64 - 1
 MAX_QUOTA = 10**15
 MIN_QUOTA = 1000
 MIN_PERIOD, MAX_PERIOD = 1000, 1000000
@@ -115,22 +116,21 @@ class Slices:
     def demand(self, thousandths: Fraction) -> int:
         """Slices that a demand takes, rounded up, at most 1000000."""
         key = thousandths.as_integer_ratio()
-        slices = self.demands.get(key)
-        if slices is None:
-            slices = self.demands[key] = self.asked_demand(*key)
-        return slices
+        if key not in self.demands:
+            self.demands[key] = self.asked_demand(thousandths / 1000)
+        return self.demands[key]
 
-    def asked_demand(self, thousandths: int, parts: int) -> int:
-        """Slices that so many parts of a thousandth take. The library takes whole thousandths. A
-        part of one is rounded up here."""
-        if parts > 1:
-            whole = 1000 * self.host.slice_us * parts
-            return min(-(-thousandths * self.host.period_us // whole), MAX_DEMAND)
+    def asked_demand(self, cpus: Fraction) -> int:
+        """Slices that CPUs take. A part that no word of the call holds is rounded up to millionths
+        of a slice, of which the slices are as many."""
+        if cpus.denominator > MOST_WORD:
+            parts = 10**6 * self.host.period_us
+            cpus = Fraction(math.ceil(cpus * parts), parts)
         try:
-            return self.library.demand(self.host, thousandths)
+            return self.library.demand(self.host, cpus.numerator, cpus.denominator)
         except (OverflowError, Refused) as error:
             if isinstance(error, Refused) and error.number != TOO_LARGE:
-                raise HostFault(f"{thousandths}m: error {error}") from error
+                raise HostFault(f"{cpus} CPUs: error {error}") from error
             return MAX_DEMAND
 
 

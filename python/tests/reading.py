@@ -5,11 +5,20 @@ from arbiter_host.sources import containers, hostfile, kubernetes, script, slurm
 from arbiter_host.sources.wish import Wish
 
 
+class Planner:
+    """What readers ask of the library: whether a host can be planned. Hosts of tests can."""
+
+    @staticmethod
+    def planned_host(host):
+        assert 1 <= host.processors <= 64
+        return host
+
+
 def wish_of(host=None, **words):
     """The wish for a host, where one is given."""
     if host is None:
-        return Wish(**words)
-    return Wish(host.processors, host.period_us, host.slice_us, **words)
+        return Wish(Planner(), **words)
+    return Wish(Planner(), host.processors, host.period_us, host.slice_us, **words)
 
 
 def pods(files, host, library, **words):

@@ -137,9 +137,9 @@ def test_slices_that_are_asked_for(ctl, folder):
     assert batch["cause"] == causes.SLICE
 
 
-def test_a_great_host_has_the_slices_of_its_source():
-    assert fine(Host(64, 100000, 1000)) == Host(64, SECOND, 1000)
-    assert fine(Host(65, 100000, 1000)) == Host(65, 500000, 1000)
+def test_a_great_host_has_the_slices_of_its_source(calls):
+    assert fine(calls, Host(64, 100000, 1000)) == Host(64, SECOND, 1000)
+    assert fine(calls, Host(65, 100000, 1000)) == Host(65, 500000, 1000)
 
 
 # holes
@@ -566,7 +566,7 @@ def kept_audit(engine, name):
     found = kept.kept()
     runs = [run for run in found["runs"] if run["host"] == name]
     model = firm.host_of(found["hosts"][name])
-    model = model.with_host(fine(model.host))
+    model = model.with_host(fine(engine.library, model.host))
     seen = [kept_look(at, model, runs) for at in range(len(runs) + 1)]
     return intervals.audited(engine, seen, "psi", set(), lambda: None), [
         {path: 100 * (had - share) for path, (share, had) in run["groups"].items()}
@@ -616,11 +616,32 @@ def test_page(ctl, folder):
     text = (folder / "a.html").read_text()
     assert not re.search(r"(src|href)=|url\(|@import|https?://", text)
     assert text.count("<figure>") == text.count("</figure>") == 2
-    drawn = re.findall(r"<svg.*?</svg>", text, re.S)
+    drawn = re.findall(r"<svg width.*?</svg>", text, re.S)
     # 1.35 CPUs are drawn from 146 down to 12 for 1.5: 1.2 at 38.8, 1.5 at 12, 1.4 at 20.9.
     assert 'd="M52 38.8 L240 38.8 L240 12 L428 12"' in drawn[0]
     assert 'd="M52 38.8 L240 38.8 L240 20.9 L428 20.9"' in drawn[0]
     assert 'data-head="worst off">-10.0</td>' in text
+    # As means 0.5 and 1.35 CPUs were planned, and 0.49 and 1.3 used.
+    assert re.findall("<dt>(.*?)</dt><dd>(.*?)</dd>", text) == [
+        ("planned", "1.850"), ("left", "0.150"), ("capacity", "2.000"), ("used", "1.790"),
+        ("capacity", "2.000")]
+
+
+def test_pictures_of_the_page(engine):
+    """What is off by less than a slice has none. The others have one scale, or say that they have
+    their own. The path that all share stands above them."""
+    model = Model(TWO)
+    for name in ("t", "t/a", "t/b", "t/c", "t/d"):
+        model.add(Group(name))
+    cells = {"t/a": cell(800, 10), "t/b": cell(400, 10), "t/c": cell(50, 10),
+             "t/d": cell(Fraction(5001, 10), 500)}
+    found = [Interval("0 s", Fraction(1), model, cells, {}, None)]
+    text = answer.page(answer.ranked(intervals.Audit(found, intervals.plan(engine, model))), "x")
+    names = [" ".join(re.sub("<.*?>", " ", each).split())
+             for each in re.findall("<figcaption>(.*?)</figcaption>", text)]
+    assert names == ["a not explained", "b not explained",
+                     "c not explained own scale, to 0.05: the others go to 0.8"]
+    assert text.count("Below t:") == 2 and text.count("t/a") == 1
 
 
 def told_of(names, cells=2):

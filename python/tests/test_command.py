@@ -100,9 +100,9 @@ def test_no_reason_is_cut(ctl, columns, words):
     ctl.environment["COLUMNS"] = str(columns)
     out, _ = ctl.run(*words, ROOT / "examples/node.script")
     assert "\u2026  " not in out
-    short = "THROTTLED*; " in out
+    short = "throttled*; " in out
     assert short == (columns < 200) == ("* throttled, not by its limit" in out)
-    assert ("THROTTLED, NOT BY ITS LIMIT; the host is full: weight 10 of 30" in out) == (not short)
+    assert ("throttled, not by its limit; the host is full: weight 10 of 30" in out) == (not short)
 
 
 def test_long_identifiers_are_short(ctl):

@@ -1,6 +1,7 @@
 """Pictures, the page and the live view."""
 import html
 import json
+import os
 import re
 import shutil
 import signal
@@ -12,7 +13,7 @@ from fractions import Fraction
 import pytest
 import trees
 from arbiter import Host
-from arbiter_host import explain, live, picture, report
+from arbiter_host import explain, live, picture, report, viewer
 from arbiter_host.explain import View
 from arbiter_host.faults import HostFault
 from arbiter_host.model import Group, Model
@@ -84,11 +85,12 @@ def test_picture_of_strange_names(engine):
 
 @pytest.mark.parametrize("count", [3, 1950])
 def test_page_asks_for_nothing(engine, count):
-    """One page without an address, with a row for each group."""
+    """One page without an address, with a row for each group. The last pod of 1950 groups has one
+    child, which is in its row."""
     found = plan(engine, wide_host(count))
     page = report.page(found)
     assert not re.search(r"(src|href)=|url\(|@import|https?://", page)
-    assert page.count("data-path=") == count + 1
+    assert page.count("data-path=") == count + 1 - (count == 1950)
     assert page.count("<details") == page.count("</details>")
 
 
@@ -101,10 +103,85 @@ def test_page_escapes_names(engine):
     assert "\x1b" not in page and "\u202e" not in page
 
 
-def test_page_before_and_after(ctl, folder):
+def rows_of(page):
+    """The texts of the rows of a page, without tags."""
+    return [" ".join(re.sub(r"<[^>]+>", " ", row).split())
+            for row in re.findall(r"<tr.*?</tr>", page, re.S)]
+
+
+def test_page_before_and_after(ctl):
+    """It says what was changed, and what is planned of the host before and after. Of two reasons
+    that begin alike the earlier one is told by its end alone."""
     page, _ = ctl.run("diff", ROOT / "examples/pod.script", "--set", "pod.max=75%", "-o", "html")
-    assert "Before and after" in page and "Groups that differ: 4" in page
-    assert "<code>pod.max=75%</code>" in page
+    assert "Before and after" in page and "groups that differ: 4" in page
+    assert "The change: <code>pod.max=75%</code>" in page
+    assert re.findall(r'role="img" aria-label="(.*?CPUs)"', page) == ["1.00 of 1.00 CPUs"] * 2
+    assert re.findall('<div class="when">(.*?)</div>', page) == ["before", "after"]
+    rows = rows_of(re.search('<details class="changes.*?</table>', page, re.S).group())
+    assert rows[:3] == [
+        "group before after change wants why",
+        "the host 1.00 1.00 0 1.75 was 1.50 the host is full",
+        "pod 0.50 0.50 0 2.00 throttled, not by its limit the host is full: weight 100 of 200"
+        " before: its own limit"]
+    page, _ = ctl.run("diff", ROOT / "examples/node.script", "--set", "kubepods.weight=900", "-o",
+                      "html")
+    assert ("kubepods 3.00 3.28 +0.28 6.10 the host is full: weight 900 of 1100 before: weight 137"
+            " of 337") in rows_of(page)
+
+
+def test_bar_of_the_host(ctl):
+    """Of 4 CPUs 1.95 are planned, 2.05 are left."""
+    page, _ = ctl.run("explain", *PODS, "-o", "html")
+    assert re.findall("<dt>(.*?)</dt><dd>(.*?)</dd>", page) == [
+        ("planned", "1.95"), ("left", "2.05"), ("capacity", "4.00"), ("wanted", "1.95")]
+    assert 'class="get" style="width:48.75%"' in page
+
+
+def test_a_pod_and_its_one_container_are_one_row(ctl, engine):
+    """Pause containers do not count. The row has the pod's weight, 79, the lower limit, and else
+    the container's cells."""
+    page, _ = ctl.run("explain", *PODS, "--want", "busy", "-o", "html")
+    rows = [row for row in rows_of(page) if "postgres" in row]
+    assert rows == ["prod:db-0 / postgres 79 1.000 1.00 4.00 1.00 its own limit"]
+    for limit, least in {None: "0.50", 50000: "0.50", 49000: "0.49"}.items():
+        model = Model(Host(2, 100000, 1000))
+        model.add(Group("a", 300, limit))
+        model.add(Group("a/b", 100, 50000, demand=Fraction(900)))
+        model.add(Group("c", 100, demand=Fraction(2000)))
+        found = plan(engine, model)
+        _, entry, _ = picture.entries(found, View())
+        assert (entry.name, entry.note) == (
+            "a / b", f"{least} of 0.90, at most {least}: its own limit")
+        cells = cells_of(report.page(found))
+        assert list(cells) == ["the host", "a / b", "c"]
+        assert [cells["a / b"][key] for key in ("weight", "limit", "wants", "gets", "why")] == [
+            "300", least, "0.90", least, "its own limit"]
+    # The one that asks in its pod is cut as the pod is.
+    model.groups["a"].quota, model.groups["a/b"].quota = None, 150000
+    model.groups["a/b"].demand = Fraction(2000)
+    model.groups["a"].weight = 1
+    row = cells_of(report.page(plan(engine, model)))["a / b"]["why"]
+    assert re.sub("<.*?>", "", row) == (
+        "throttled, not by its limit the host is full: weight 1 of 101")
+
+
+def test_a_shared_prefix_is_told_once(ctl):
+    """The pods of one namespace stand below one class, whose path no row repeats."""
+    page, _ = ctl.run("diff", *PODS, "--want", "busy", "--set", "prod/web*/nginx.request=500m",
+                      "-n", "prod", "-g", "kubepods/burstable", "-o", "html")
+    changes = re.search('<details class="changes.*?</details>', page, re.S).group()
+    assert "Below kubepods/burstable:" in changes
+    rows = rows_of(changes)
+    assert len(rows) == 5 and not any("kubepods" in row for row in rows)
+    assert rows[1].startswith("prod:proxy-1 2.08 1.75 -0.33")
+
+
+def test_marks_are_no_capitals(ctl):
+    """On the page, in the picture and in the table."""
+    words = ("explain", ROOT / "examples/node.script", "-o")
+    for form in ("html", "svg", "text"):
+        text = re.sub(r"<(style|script).*?</\1>|<[^>]+>", " ", ctl.run(*words, form)[0], flags=re.S)
+        assert set(re.findall(r"\b[A-Z]{3,}\b", text)) <= {"CPU"} and "throttled" in text
 
 
 def test_page_in_a_browser(ctl, folder):
@@ -116,8 +193,8 @@ def test_page_in_a_browser(ctl, folder):
     page = (folder / "p.html").read_text()
     probe = ("find.value='redis';find.dispatchEvent(new Event('input'));"
              "return inTree.filter(each=>!each.hidden).length")
-    # The host, kubepods, burstable, pod-cache and redis.
-    assert seen_in(chromium, folder, page, probe) == 5
+    # The host, kubepods, burstable, and pod-cache with its redis.
+    assert seen_in(chromium, folder, page, probe) == 4
     # The host and what is right below it.
     fold = ("document.getElementById('shut').click();"
             "return inTree.filter(each=>!each.hidden).length")
@@ -202,7 +279,7 @@ def cells_of(page):
     """The cells of each group of a page by its name, by their columns."""
     rows = re.findall(r"<tr data-path.*?</tr>", page, re.S)
     return {re.search(r'class="name">(.*?)<', row).group(1):
-            dict(re.findall(r'<td data-head="(\w+)"[^>]*>(.*?)</td>', row)) for row in rows}
+            dict(re.findall(r'<td data-head="(\w+)"[^>]*>(.*?)</td>', row, re.S)) for row in rows}
 
 
 def test_page_has_requests_and_names_once(ctl, folder):
@@ -213,8 +290,8 @@ def test_page_has_requests_and_names_once(ctl, folder):
     assert (found["nginx"]["request"], found["nginx"]["limit"]) == ("0.250", "1.00")
     assert found["metrics"]["request"] == "0.100" and found["prod:web-7c9f"]["request"] == ""
     row = re.search(r"<tr data-path[^>]*>\s*<th(?:(?!</tr>).)*>nginx<.*?</th>", page, re.S).group()
-    assert re.sub(r"<[^>]+>", " ", row).split() == ["nginx", "in",
-                                                    "kubepods/burstable/prod:web-7c9f"]
+    assert re.sub(r"<[^>]+>", " ", row).split() == ["nginx", "in", "burstable/prod:web-7c9f"]
+    assert page.count("Below kubepods:") == 1
     ctl.run("explain", ROOT / "examples/node.script", "-o", f"html={folder / 's.html'}")
     assert 'data-head="request"' not in (folder / "s.html").read_text()
 
@@ -237,25 +314,97 @@ def test_keys_of_the_page(ctl, folder):
     seen, reached, rows = seen_in(chromium, folder, page, script % json.dumps(keys))
     # The last ArrowLeft folds system.slice, so that its four services are hidden.
     assert seen == ["system.slice", "kubelet.service", "system.slice", "kubelet.service",
-                    "system.slice", "system.slice", "the host", "scanner", "find"]
+                    "system.slice", "system.slice", "the host", "pod-scan / scanner", "find"]
     assert (reached, rows) == (1, page.count("data-path=") - 4)
 
 
-@pytest.mark.parametrize("rows, first, folds", [
-    (200, "pod0", False), (40, "pod0 (+3 below)", True), (24, "pod5 (+3 below)", True),
-])
-def test_top_folds_what_has_no_room(engine, rows, first, folds):
-    """28 pods of 4: whole, folded to the pods, and these by what they lack where 28 are too many.
+def viewed(found, keys="", height=14, view=View(width=80), got=()):
+    """The lines of the view of a plan after keys."""
+    put = []
+    shown = viewer.Viewer(lambda plan: view, put.append, None)
+    shown.plan, shown.got = found, dict(got)
+    shown.history.take(found)
+    size = os.terminal_size((view.width, height))
+    with pytest.MonkeyPatch.context() as patch:
+        patch.setattr(shutil, "get_terminal_size", lambda: size)
+        shown.draw()
+        for key in re.findall("<.*?>|.", keys, re.DOTALL):
+            shown.draw({"<down>": "\x1b[B", "<page>": "\x1b[6~", "<left>": "\x1bOD",
+                        "<esc>": "\x1b", "<end>": "\x1b[F", "<back>": "\x7f"}.get(key, key))
+    return put[-1]
 
-    pod5 lacks most: it has the greatest want, 2.46, of those that get little.
-    """
+
+def cursor(lines):
+    """The name in the row of the cursor, and what the last line says."""
+    row, last = (line for line, style in lines if style == "reverse")
+    return row.split("  ")[-1].strip(), last.strip()
+
+
+@pytest.mark.parametrize("keys, name, row", [
+    ("", "the host (.)", 1), ("j", "pod0", 2), ("<down>jk", "pod0", 2), ("k", "the host (.)", 1),
+    # 9 of 14 lines are rows, and pods stand in rows 2, 6, 10 ..
+    ("<page>", "pod2", 10), (" b", "the host (.)", 1), ("<end>k", "1abababababa\u2026b", 111),
+    ("Gg", "the host (.)", 1), ("/pod3\r", "pod3", 14), ("/pod3\rn", "pod3", 14),
+    ("/POD2\rn", "pod20", 82), ("/pod2\rnN", "pod2", 10), ("/pod99<back><back>2\r", "pod2", 10),
+    ("j/pod3<esc>", "pod0", 2), ("j/pod3<esc>n", "pod0", 2), ("/zz\r", "the host (.)", 1),
+    ("/pod1j", "the host (.)", 0), ("jj<left>", "pod0", 2)])
+def test_rows_that_keys_lead_to(engine, keys, name, row):
+    """The row of the cursor is always on the screen, and the screen is full."""
+    lines = viewed(plan(engine, wide_host(111)), keys)
+    found, last = cursor(lines)
+    assert len(lines) == 13 and found == name
+    assert last.startswith(f"row {row} of 112  ?" if row else keys)
+
+
+def test_top_folds_a_row(engine):
+    """And not a level: the row of the cursor alone. Enter, + and the right arrow open it again."""
     found = plan(engine, wide_host(111))
-    lines = [line for line, _ in live.screen(found, explain.View(width=80), rows)]
-    assert len(lines) <= rows and lines[7].endswith(f"  {first}")
-    assert any("below)" in line for line in lines) == folds
-    assert ("no room here" in lines[-1]) == (rows == 24)
-    lacks = sorted((each.gets - each.want, each.path) for each in found.groups if each.depth == 1)
-    assert rows != 24 or lacks[0][1] == "pod5"
+
+    def names(keys):
+        return [line.split("  ")[-1].strip() for line, _ in viewed(found, keys)[3:-1]]
+
+    whole, folded = names(""), names("/pod1\r-")
+    assert whole[1:3] == ["pod0", "1abababababa\u2026b"]
+    assert folded[1:3] == whole[1:3] and "pod1 (+3 below)" in folded
+    assert names("/pod1\r-") == names("/pod1\r\r") == names("/pod1\r-+-")
+    assert names("/pod1\r-+") == names("/pod1\r\r\r") == names("/pod1\r")
+
+
+def test_top_shows_what_was_used(engine):
+    """`-` stands where nothing was measured. Two pods have 8 of 20 slices each."""
+    model = Model(Host(1, 100000, 5000))
+    for name in ("a", "b"):
+        model.add(Group(name, demand=Fraction(400)))
+    lines = [line for line, _ in viewed(plan(engine, model), got={".": Fraction(501),
+                                                                 "a": Fraction(1, 2)})]
+    assert lines[0][8:] == "  1 CPU: 0.80 planned, 0.20 left, 0.80 wanted, 0.501 used"
+    assert [line.split()[0] for line in lines[2:6]] == ["used", "0.501", "0.001", "-"]
+
+
+def test_keys_before_there_is_a_picture(engine):
+    """They change nothing, but that `q` ends it. So does `-` where no row is shown."""
+    put = []
+    shown = viewer.Viewer(lambda plan: View(), put.append, None)
+    shown.draw("-/\x1b[A")
+    assert shown.keys == live.Keys() and not put and not shown.is_typing
+    shown.draw("q")
+    assert shown.keys.is_ended
+    found = plan(engine, wide_host(11))
+    assert viewed(found, "f-jn\r")[:-1] == viewed(found, "f")[:-1]
+    assert viewed(found, "f-jn\r" + "f" * 5, 24)[2:] == viewed(found, "", 24)[2:]
+
+
+@pytest.mark.parametrize("width", [40, 60, 89, 90, 200])
+def test_keys_are_told(engine, width):
+    """By `?`, in any width; any key leads back. What was chosen is told too."""
+    found, view = plan(engine, wide_host(111)), View(width=width)
+    told = [line for line, _ in viewed(found, "?", 24, view)]
+    assert all(any(words in line for line in told) for _, words in viewer.KEYS)
+    assert [line for line, _ in viewed(found, "?x", 24, view)][2:] == [
+        line for line, _ in viewed(found, "", 24, view)][2:]
+    assert cursor(viewed(found, "sf", 24, view)[:-1] + [("x", "reverse")])[1] == "x"
+    assert "sort: lack" in viewed(found, "s", 24, view)[-1][0]
+    assert "only: starved" in viewed(found, "f", 24, view)[-1][0]
 
 
 def test_top_without_a_terminal(ctl, folder):
@@ -282,7 +431,7 @@ def test_top_on_a_terminal(ctl, folder, columns, lines, ending):
                f"fcntl.ioctl(fd,termios.TIOCSWINSZ,struct.pack('HHHH',{lines},{columns},0,0))\n"
                "os.write(say,b'x')\n"
                "out=b'';end=time.time()+50\n"
-               "while time.time()<end and out.count(b'CPUs, period')<3:\n"
+               "while time.time()<end and out.count(b' planned, ')<3:\n"
                "  if select.select([fd],[],[],.2)[0]:\n"
                "    try: out+=os.read(fd,65536)\n"
                "    except OSError: break\n"
@@ -302,12 +451,12 @@ def test_top_on_a_terminal(ctl, folder, columns, lines, ending):
                            check=False)
     assert ended.returncode == 0, ended.stdout[-500:]
     said = ended.stdout.decode()
-    assert said.count("CPUs, period") >= 2 and "Traceback" not in said
+    assert said.count(" planned, ") >= 2 and "Traceback" not in said
     assert said.rstrip().endswith("\x1b[?25h") or "\x1b[?1049l" in said
     plain = re.sub(r"\x1b\[[0-9;?]*H", "\n", said)
     plain = re.sub(r"\x1b\[[0-9;?]*[A-Za-z]", "", plain)
     assert max(map(len, plain.replace("\r", "").split("\n"))) <= columns
-    assert "lines that have no room here" in plain
+    assert "row 1 of 61" in plain
 
 
 def test_history_of_top(engine):
@@ -324,9 +473,9 @@ def test_history_of_top(engine):
     assert history.line("web") == "       \u2581\u2583\u2588" and history.line("gone") == " " * 10
     for view in (explain.View(), explain.View(sort="name"), explain.View(only=("asking",)),
                  explain.View(depth=1), explain.View(everything=True)):
-        lines = [line for line, _ in history.table(found, view)]
+        lines = [line for line, _ in viewed(found, view=view)]
         row = next(line for line in lines if line.endswith("web"))
-        assert row.startswith("       \u2581\u2583\u2588 ") and max(map(len, lines)) <= 120
+        assert row.startswith("         \u2588 ") and max(map(len, lines)) <= 120
 
 
 @pytest.mark.parametrize("letters, view", [
@@ -344,19 +493,6 @@ def test_keys_of_top(letters, view):
     assert not keys.is_ended
     keys.take("q", 3)
     assert keys.is_ended
-
-
-def test_top_folds_from_what_is_shown(engine):
-    """Where 40 rows have room for the pods alone, one `-` leaves the host. Idle groups count not.
-    """
-    found = plan(engine, wide_host(111))
-    assert live.folded(found, explain.View(), 200, explain.table)[0] == 2
-    depth, lines = live.folded(found, explain.View(), 40, explain.table)
-    keys = live.Keys()
-    keys.take("-", depth)
-    assert (depth, keys.view(explain.View()).depth) == (1, 0)
-    found.model.groups |= {"pod0/idle": Group("pod0/idle"), "pod0/idle/x": Group("pod0/idle/x")}
-    assert live.folded(plan(engine, found.model), explain.View(), 200, explain.table)[0] == 2
 
 
 class Tmux:
@@ -394,12 +530,16 @@ def test_top_in_tmux(ctl, folder):
                " --read x100ms; echo ended $?; cat")
     tmux.run("new-session", "-d", "-s", "top", "-x", "100", "-y", "30", command)
     try:
-        text = tmux.seen("q quit", "\u2588" * 10, "batch", "x")
+        text = tmux.seen("q quit", " used ", "\u2588" * 10, "batch", "x")
         rows = [line.split()[-1] for line in text.split("\n") if "\u2588" in line]
         assert rows == ["(.)", "batch", "x", "web"]
-        tmux.run("send-keys", "-t", "top", "-")
-        assert "(+1 below)" in tmux.seen("(+1 below)")
-        tmux.run("send-keys", "-t", "top", "+", "s")
+        tmux.run("send-keys", "-t", "top", "Down", "Left")
+        assert "(+1 below)" in tmux.seen("(+1 below)", "row 2 of 3")
+        tmux.run("send-keys", "-t", "top", "Enter", "/", "we", "Enter")
+        assert "row 4 of 4" in tmux.seen("row 4 of 4")
+        tmux.run("send-keys", "-t", "top", "?")
+        assert "fold a row" in tmux.seen("fold a row")
+        tmux.run("send-keys", "-t", "top", "?", "s")
         text = tmux.seen("sort: lack")
         tmux.run("send-keys", "-t", "top", "f")
         assert "no group is starved" in tmux.seen("only: starved")

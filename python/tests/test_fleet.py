@@ -342,6 +342,23 @@ def test_the_page_is_whole(ctl, fleet):
     assert "http" not in text and "a<b>" not in text
 
 
+def test_the_page_says_what_was_changed(ctl, folder):
+    """And what is planned of all hosts: they have 36 CPUs. Columns of words begin at the left."""
+    fleets.make(folder / "a", 2, 4)
+    words = ("diff", folder / "a", "--set", "t0/g1.weight=900", "--workers", "0", "-o")
+    page, _ = ctl.run(*words, "html")
+    told = json.loads(ctl.run(*words, "json")[0])
+    all_ = sum(each["cpus"] for each in told["hosts"])
+    assert "The change: <code>t0/g1.weight=900</code>" in page
+    assert [(key, text) for key, text in re.findall("<dt>(.*?)</dt><dd>(.*?)</dd>", page)
+            if key != "left"] == [
+        each for when in ("before", "after") for each in (
+            ("planned", f"{told['fleet'][f'{when}_cpus']:.2f}"), ("capacity", f"{all_}.00"))]
+    left = re.findall('<th scope="col" data-head="([a-z ]+)" class="left">', page)
+    assert {"host", "group", "gain most", "lose most"} >= set(left) >= {"host"}
+    assert "change" not in left and "served" not in left
+
+
 def test_rows_of_the_text(ctl, fleet):
     """Twenty hosts without --all, and how many more there are."""
     out, err = ctl.run("explain", fleet, "--workers", "0")

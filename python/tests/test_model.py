@@ -19,13 +19,12 @@ from hypothesis import strategies as st
     (Host(97, 100000, 1000), Host(50, 194000, 1000)),
     (Host(640, 100000, 1000), Host(64, 1000000, 1000)),
 ])
-def test_equal_host(host, wanted):
-    assert planned(host) == wanted
+def test_equal_host(calls, host, wanted):
+    assert planned(calls, host) == wanted
     assert wanted.capacity == host.capacity
 
 
 @pytest.mark.parametrize("host, words", [
-    (Host(641, 100000, 1000), "64100 slices"), (Host(1009, 1000, 1000), "no product"),
     (Host(0), "1 to 64000"), (Host(1, 999, 999), "1000 to 1000000"),
     (Host(1, 100000, 300), "slice"),
     (Host(1, 100000, 3000), "which it divides"),
@@ -33,6 +32,15 @@ def test_equal_host(host, wanted):
 def test_refused_hosts(host, words):
     with pytest.raises(HostFault, match=words) as fault:
         checked(host)
+    assert fault.value.status == 2
+
+
+@pytest.mark.parametrize("host, words", [
+    (Host(641, 100000, 1000), "64100 slices"), (Host(1009, 1000, 1000), "1009 slices"),
+])
+def test_hosts_of_no_capacity(calls, host, words):
+    with pytest.raises(HostFault, match=words) as fault:
+        planned(calls, host)
     assert fault.value.status == 2
 
 

@@ -7,7 +7,7 @@ from fractions import Fraction
 
 import pytest
 from arbiter import Host
-from arbiter_host import plain_files, series
+from arbiter_host import plain_files, series, svg
 from arbiter_host.faults import HostFault
 from arbiter_host.model import Group, Model
 from arbiter_host.sources import samples
@@ -17,7 +17,7 @@ from places import PACKAGE
 
 ROOT = PACKAGE.parent
 SVG = "{http://www.w3.org/2000/svg}"
-GETS, RED = "#2b6cb0", "#b4231f"
+GETS, WANTS, RED = "#2b6cb0", "#bcd4ec", "#b4231f"
 DAY = ["--slice", "1ms", "--unit", "slices"]
 PODS, NODE = (PACKAGE / "tests/fixtures" / name for name in ("pods.json", "node.json"))
 
@@ -287,6 +287,22 @@ def test_picture(ctl, folder):
     assert gets == ("M64 170 L64 153.2 L254 153.2 L254 107 L444 107 L444 128 L634 128 L634 170"
                     " L824 170 L824 170")
     assert "No such file" in ctl.run(*words, f"svg={folder}/no/day.svg", status=1)[1]
+
+
+def test_one_scale_for_all_panels(ctl, folder):
+    """b is as high as a part of a's panel. c would be flat: it has its own scale, and says so."""
+    (folder / "s").write_text(
+        "# arbiter run --processors 1 --period 100000 --slice 5000\nmkdir a\nmkdir b\nmkdir c\n")
+    (folder / "d.csv").write_text("time,a,b,c\n0,20,10,2\n")
+    boxes, texts, root = drawn(ctl.run("replay", folder / "s", "--used", folder / "d.csv", "--unit",
+                                       "slices", "-o", "svg")[0])
+    wants = [each.get("d").split(" ")[3] for each in root.iter(f"{SVG}path")
+             if each.get("fill") == WANTS]
+    assert wants == ["86", "256", "342"]
+    assert [each for each in texts if "scale" in each] == ["own scale, to 0.1: the others go to 1"]
+    assert svg.tops([8, 1, 0.99, 0]) == [
+        (8, ""), (8, ""), (0.99, "own scale, to 0.99: the others go to 8"), (8, "")]
+    assert svg.tops([]) == [] and svg.tops([0]) == [(0, "")]
 
 
 @pytest.mark.parametrize("name, text, words", [

@@ -113,7 +113,8 @@ PERIODS = st.one_of(st.sampled_from([1000, 100000, 10**6]), st.integers(1000, 10
 HOSTS = st.tuples(st.integers(1, 1000), st.integers(1, 1000)).map(
     lambda drawn: Host(1, 1000 * drawn[0] * min(drawn[1], 1000 // drawn[0]), 1000 * drawn[0]))
 DEMANDS = st.one_of(st.integers(0, 2000), st.integers(0, 10**12), st.integers(0, 2**70),
-                    st.fractions(0, 10**6, max_denominator=10**6))
+                    st.fractions(0, 10**6, max_denominator=10**6),
+                    st.fractions(0, 10**9, max_denominator=10**30))
 
 
 @given(usec=USECS, own=PERIODS, host=HOSTS)

@@ -325,8 +325,14 @@ static void numbers(void)
                 demand(host ? amounts[0] == 7 && amounts[2] == 7 : amounts[0] == ends[p] * (ends[u] / ends[s]), __LINE__);
                 uint32_t answer = arbiter_slices(ends[p], ends[u], ends[s], ends[(u + s) % many], ends[(p + s) % many], &number);
                 demand(host ? answer == host && number == 7 : answer == 0 || answer == 14 || answer == 15, __LINE__);
-                answer = arbiter_demand(ends[p], ends[u], ends[s], ends[(p * 3 + s) % many], &number);
-                demand(host ? answer == host : answer == 0 || answer == 9, __LINE__);
+                uint64_t parts = ends[(u * 2 + p) % many];
+                answer = arbiter_demand(ends[p], ends[u], ends[s], ends[(p * 3 + s) % many], parts, &number);
+                demand(host ? answer == host : parts ? answer == 0 || answer == 9 : answer == 11, __LINE__);
+                uint64_t cpus = 7, period = 7, slice = 7;
+                answer = arbiter_planned_host(ends[p], ends[u], ends[s], &cpus, &period, &slice);
+                demand(host == 1 && ends[p] ? answer < 4 : answer == host, __LINE__);
+                demand(answer ? cpus == 7 && period == 7 && slice == 7 : cpus * (period / slice) == ends[p] * (ends[u] / ends[s]), __LINE__);
+                demand(answer || arbiter_plan(cpus, period, slice, ALL(3), amounts, 3) == 0, __LINE__);
                 uint64_t ran[2] = {ends[u], ends[p]}, asked = 7, quota = 7, weight = 7;
                 uint32_t hungry = 7;
                 number = 7;

@@ -6,6 +6,7 @@ mod Claimed
 mod Closeness
 mod Fit
 mod ColumnsOfGroups
+mod PlannedHosts
 mod Questions
 mod RefusedRow
 mod Spelling

@@ -12,6 +12,7 @@ pub mod Limited
 pub mod Logarithm
 pub mod Numbers
 pub mod PeriodLimits
+pub mod PlannedHosts
 pub mod Questions
 pub mod Reasoned
 pub mod RefusedRow

@@ -23,11 +23,14 @@ slices_refusal shape period us =
     option_map_or host_fault_number (host_refusal shape)
     (refused_or (burst_in us) (refused_or (period_in period) 0))
 
--- the number of the first refusal of a host, then of a demand, 0 for none
-abbrev pub demand_refusal : Shape → ℕ → ℕ
-demand_refusal shape thousandths =
+-- the number of the first refusal of a host, then of a denominator of 0, then of a demand, 0 for
+-- none
+abbrev pub demand_refusal : Shape → ℕ → ℕ → ℕ
+demand_refusal shape numerator denominator =
     option_map_or host_fault_number (host_refusal shape)
-    (if nat_lt MAX_DEMAND (slices_for shape thousandths) then 9 else 0)
+    (if denominator == 0 then 11
+    else if nat_lt MAX_DEMAND (slices_for shape numerator denominator) then 9
+    else 0)
 
 -- the times of a round, in which a number other than 0 says that the group was throttled
 abbrev pub times_of : ℕ → ℕ → ℕ → ℕ → ℕ → RoundTimes

@@ -19,6 +19,7 @@ mod limiting_call;
 mod name_call;
 mod period_limit_call;
 mod plan_call;
+mod planned_host_call;
 mod reading_call;
 mod reasons_call;
 mod refused_row_call;

@@ -4,6 +4,8 @@
 #[cfg(test)]
 mod counter;
 #[cfg(test)]
+mod lend_cases;
+#[cfg(test)]
 mod lock_cases;
 #[cfg(test)]
 mod script_cases;

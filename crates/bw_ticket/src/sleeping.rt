@@ -122,6 +122,14 @@ pub(crate) fn glance<M: Machine>(board: &Board<M>, awake: &mut Awake) -> u64
     board.shared.peek(SERVING)
 }
 
+/// The number of tickets served, by one load that is no step of the table. It is not counted: the
+/// caller is no seat that waits.
+pub(crate) fn tickets_served<M: Machine>(board: &Board<M>) -> u64
+    requires { IsBoard board.now.shared.table_id }
+{
+    board.shared.peek(SERVING)
+}
+
 /// Spins once, and counts it.
 pub(crate) fn spin(awake: &mut Awake)
     requires { awake.old.steps < MOST_AWAKE }

@@ -5,7 +5,7 @@ ghost use Rattle.bw_workers.specs.Rounds.{draws_in};
 ghost use Rattle.bw_workers.specs.Working.{Asks, calls_of};
 
 use crate::gate::Gate;
-use bw_door::Door;
+use bw_lend::LendingSeat;
 use bw_pool::{PoolCall, PoolReply, SlicePool};
 use bw_ticket::{Seat, TicketLock};
 use std::rt::Clock;
@@ -19,7 +19,7 @@ struct Begun {
 }
 
 // Tells the gate that the seat's next draw comes. `nth` is the number of its draws so far.
-fn tell_before<G: Gate>(gate: &G, seat: &Seat<SlicePool>, nth: u64) -> Begun
+fn tell_before<G: Gate>(gate: &G, seat: &LendingSeat<SlicePool>, nth: u64) -> Begun
     requires nth { nth ≡ draws_in (calls_of seat.now) }
     ensures worker { result.worker ≡ seat.now.number }
     ensures nth { result.nth ≡ nth }
@@ -30,7 +30,7 @@ fn tell_before<G: Gate>(gate: &G, seat: &Seat<SlicePool>, nth: u64) -> Begun
 }
 
 // Tells the gate that this draw is answered: the seat made one draw since `tell_before`.
-fn tell_after<G: Gate>(gate: &G, seat: &Seat<SlicePool>, begun: Begun)
+fn tell_after<G: Gate>(gate: &G, seat: &LendingSeat<SlicePool>, begun: Begun)
     requires worker { begun.worker ≡ seat.now.number }
     requires drawn { draws_in (calls_of seat.now) ≡ begun.nth + 1 }
 {
@@ -38,12 +38,11 @@ fn tell_after<G: Gate>(gate: &G, seat: &Seat<SlicePool>, begun: Begun)
     gate.after(worker, nth);
 }
 
-// One call of a seat that has calls left, through the door.
+// One call of a seat that has calls left.
 fn ask<R: Wait + Clock>(
     rt: &R,
     lock: &TicketLock<SlicePool>,
-    door: &Door,
-    seat: &mut Seat<SlicePool>,
+    seat: &mut LendingSeat<SlicePool>,
     call: PoolCall,
 ) -> PoolReply
     requires lock { seat.old.lock_id ≡ lock.now.lock_id }
@@ -51,17 +50,15 @@ fn ask<R: Wait + Clock>(
     requires left { 0 < seat.old.calls_left }
     ensures { Asks seat.old call result seat.new }
 {
-    let Ok(answer) = door.call(rt, lock, seat, call) else {
+    let Ok(answer) = seat.call(rt, lock, call) else {
         unreachable!()
     };
     answer.reply
 }
 
-/// A worker's seat, the door of all workers, and the worker's gate. The gate is told of each draw,
-/// and of no other call.
+/// A worker's seat and its gate. The gate is told of each draw, and of no other call.
 pub(crate) struct Draws<'a, G: Gate> {
-    seat: Seat<SlicePool>,
-    door: &'a Door,
+    seat: LendingSeat<SlicePool>,
     gate: &'a G,
     // number of draws of the seat so far
     nth: u64,
@@ -69,19 +66,14 @@ pub(crate) struct Draws<'a, G: Gate> {
 
 impl<'a, G: Gate> Draws<'a, G> {
     /// The seat has made no call yet.
-    pub(crate) fn new(seat: Seat<SlicePool>, door: &'a Door, gate: &'a G) -> Draws<'a, G>
+    pub(crate) fn new(seat: LendingSeat<SlicePool>, gate: &'a G) -> Draws<'a, G>
         requires fresh { seat.own ≡ [] }
         ensures seat { result.seat ≡ seat }
         ensures gate { result.gate.now ≡ gate.now }
         ensures none { result.nth ≡ 0 }
         ensures counted { result.nth ≡ draws_in (calls_of result.seat) }
     {
-        Draws {
-            seat,
-            door,
-            gate,
-            nth: 0,
-        }
+        Draws { seat, gate, nth: 0 }
     }
 
     /// Draws one slice of the leaf. The gate is told before and after, with the number of the
@@ -104,7 +96,7 @@ impl<'a, G: Gate> Draws<'a, G> {
     {
         let begun = tell_before(self.gate, &self.seat, self.nth);
         let call = PoolCall::Draw { leaf, ask: 1 };
-        let reply = ask(rt, lock, self.door, &mut self.seat, call);
+        let reply = ask(rt, lock, &mut self.seat, call);
         tell_after(self.gate, &self.seat, begun);
         self.nth += 1;
         reply
@@ -127,7 +119,7 @@ impl<'a, G: Gate> Draws<'a, G> {
         ensures counted { self.new.nth ≡ draws_in (calls_of self.new.seat) }
     {
         let call = PoolCall::GiveBack { leaf, n: 1 };
-        ask(rt, lock, self.door, &mut self.seat, call)
+        ask(rt, lock, &mut self.seat, call)
     }
 
     /// Whether the leaf uses its slices.
@@ -143,10 +135,9 @@ impl<'a, G: Gate> Draws<'a, G> {
     {
         let Draws {
             seat,
-            door: _,
             gate: _,
             nth: _,
         } = self;
-        seat
+        seat.into_seat()
     }
 }

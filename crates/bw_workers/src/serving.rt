@@ -14,7 +14,7 @@ ghost use Rattle.bw_workers.specs.Serving.{AreSeatsOf, AreInRounds, IsMadeBy, ca
 use crate::fault::ServeFault;
 use crate::gate::Gate;
 use crate::threads::run_workers;
-use bw_door::Door;
+use bw_lend::lend;
 use bw_machine::Entry;
 use bw_model::Instance;
 use bw_model::limits::MAX_GROUPS;
@@ -73,7 +73,7 @@ fn calls_each(instance: &Instance, leaves: &[u32]) -> u32
 /// runs a worker for each seat.
 ///
 /// Each worker has a thread of its own, and all run at once. The only one of a host runs in the
-/// calling thread. They pass a door one at a time before they draw a ticket.
+/// calling thread. A worker that waits for its ticket lends its seat to those that leave the lock.
 ///
 /// A worker draws 1 slice from each leaf in row order, round and round. It gives back at once a
 /// slice of a leaf that the gate does not use. It does not ask again a leaf that answered short or
@@ -124,8 +124,8 @@ pub fn serve<G: Gate, R: Threads + Wait + Clock + Sync>(
         Err(OpenFault::OutOfMemory) => return Err(ServeFault::OutOfMemory),
         Err(_) => unreachable!(),
     };
-    let door = Door::new();
-    let seats = run_workers(rt, alloc, &lock, &door, seats, instance, &leaves, gate)?;
+    let lending = lend(alloc, &lock, seats)?;
+    let seats = run_workers(rt, alloc, &lock, lending, instance, &leaves, gate)?;
     let handed_back = Snapshot::of(&seats);
     let used = Snapshot::of(&lock);
     let Ok(Closed { machine, history }) = close(lock, seats) else {

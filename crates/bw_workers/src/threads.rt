@@ -7,7 +7,7 @@ ghost use Rattle.bw_workers.specs.Serving.{IsReady, AreReady, AreBack};
 use crate::fault::ServeFault;
 use crate::gate::Gate;
 use crate::worker::work;
-use bw_door::Door;
+use bw_lend::LendingSeat;
 use bw_model::Instance;
 use bw_model::limits::MAX_GROUPS;
 use bw_pool::SlicePool;
@@ -40,7 +40,7 @@ fn promise_of<'a, G: Gate>(
     lock: &'a TicketLock<SlicePool>,
     instance: &'a Instance,
     gate: &'a G,
-    seat: &Seat<SlicePool>,
+    seat: &LendingSeat<SlicePool>,
 ) -> WorkerPromise<'a, G>
     ensures lock { result.lock.now ≡ lock.now }
     ensures instance { result.instance.now ≡ instance.now }
@@ -60,8 +60,7 @@ fn at_once<G: Gate, R: Threads + Wait + Clock + Sync>(
     rt: &R,
     alloc: Global,
     lock: &TicketLock<SlicePool>,
-    door: &Door,
-    seats: Vec<Seat<SlicePool>>,
+    seats: Vec<LendingSeat<SlicePool>>,
     instance: &Instance,
     leaves: &[u32],
     gate: &G,
@@ -100,7 +99,7 @@ fn at_once<G: Gate, R: Threads + Wait + Clock + Sync>(
                     ensures { IsDrainedSeat (G.used gate.entry.now) instance.entry.now.rows
                         (slices_per_processor instance.entry.now.shape)
                         lock.entry.now.lock_id seat.number result }
-                { work(rt, lock, door, seat, instance, mine, gate) };
+                { work(rt, lock, seat, instance, mine, gate) };
                 let Ok(child) = scope.spawn_with(promise, run) else {
                     return Err(ServeFault::NotStarted);
                 };
@@ -119,8 +118,7 @@ fn worked<G: Gate, R: Wait + Clock>(
     rt: &R,
     alloc: Global,
     lock: &TicketLock<SlicePool>,
-    door: &Door,
-    seat: Seat<SlicePool>,
+    seat: LendingSeat<SlicePool>,
     instance: &Instance,
     leaves: &[u32],
     gate: &G,
@@ -133,7 +131,7 @@ fn worked<G: Gate, R: Wait + Clock>(
         (slices_per_processor instance.now.shape) lock.now.lock_id seat.number s) }
 {
     let mine = Vec::from_slice(alloc, leaves)?;
-    Ok(work(rt, lock, door, seat, instance, mine, gate))
+    Ok(work(rt, lock, seat, instance, mine, gate))
 }
 
 // Works the seats one after another in the calling thread.
@@ -141,8 +139,7 @@ fn in_this_thread<G: Gate, R: Wait + Clock>(
     rt: &R,
     alloc: Global,
     lock: &TicketLock<SlicePool>,
-    door: &Door,
-    seats: Vec<Seat<SlicePool>>,
+    seats: Vec<LendingSeat<SlicePool>>,
     instance: &Instance,
     leaves: &[u32],
     gate: &G,
@@ -158,7 +155,7 @@ fn in_this_thread<G: Gate, R: Wait + Clock>(
     let count = seats.len();
     let mut done = Vec::with_capacity(alloc, count)?;
     for seat in seats {
-        let seat = worked(rt, alloc, lock, door, seat, instance, leaves, gate)?;
+        let seat = worked(rt, alloc, lock, seat, instance, leaves, gate)?;
         done.push_reserved(seat);
     }
     Ok(done)
@@ -170,8 +167,7 @@ pub(crate) fn run_workers<G: Gate, R: Threads + Wait + Clock + Sync>(
     rt: &R,
     alloc: Global,
     lock: &TicketLock<SlicePool>,
-    door: &Door,
-    seats: Vec<Seat<SlicePool>>,
+    seats: Vec<LendingSeat<SlicePool>>,
     instance: &Instance,
     leaves: &[u32],
     gate: &G,
@@ -185,8 +181,8 @@ pub(crate) fn run_workers<G: Gate, R: Threads + Wait + Clock + Sync>(
         lock.now.lock_id v.items) }
 {
     if seats.len() == 1 {
-        in_this_thread(rt, alloc, lock, door, seats, instance, leaves, gate)
+        in_this_thread(rt, alloc, lock, seats, instance, leaves, gate)
     } else {
-        at_once(rt, alloc, lock, door, seats, instance, leaves, gate)
+        at_once(rt, alloc, lock, seats, instance, leaves, gate)
     }
 }

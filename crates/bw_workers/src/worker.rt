@@ -9,7 +9,7 @@ ghost use Rattle.bw_workers.specs.Working.{IsLeaves, Keeps, DropsLeaf, IsDrained
 
 use crate::draws::Draws;
 use crate::gate::Gate;
-use bw_door::Door;
+use bw_lend::LendingSeat;
 use bw_model::Instance;
 use bw_model::limits::MAX_GROUPS;
 use bw_pool::{PoolReply, SlicePool};
@@ -74,8 +74,7 @@ fn put_last(leaves: &mut VecDeque<u32>, leaf: u32)
 pub(crate) fn work<G: Gate, R: Wait + Clock>(
     rt: &R,
     lock: &TicketLock<SlicePool>,
-    door: &Door,
-    seat: Seat<SlicePool>,
+    seat: LendingSeat<SlicePool>,
     instance: &Instance,
     leaves: Vec<u32>,
     gate: &G,
@@ -96,7 +95,7 @@ pub(crate) fn work<G: Gate, R: Wait + Clock>(
     let slices = shape.per_processor();
     // the next leaf to be asked is first
     let mut leaves = VecDeque::from_vec(leaves);
-    let mut draws = Draws::new(seat, door, gate);
+    let mut draws = Draws::new(seat, gate);
     let mut kept = 0;
     while kept < slices && !leaves.is_empty() {
         let Some(leaf) = leaves.pop_front() else {

@@ -7,13 +7,13 @@ from fractions import Fraction
 from typing import Any
 
 from arbiter_host import svg, text, units
-from arbiter_host.audit.causes import NOTHING, Outlooks, cause_of
+from arbiter_host.audit.causes import NOTHING, SLICE, Outlooks, cause_of
 from arbiter_host.audit.intervals import Audit, Cell, Interval, Off
 from arbiter_host.demands import mean
-from arbiter_host.html import rendered
+from arbiter_host.html import bar, rendered
 from arbiter_host.model import Group
-from arbiter_host.names import cut, short, shown
-from arbiter_host.series import gapped
+from arbiter_host.names import below, common_parent, cut, short, shown
+from arbiter_host.series import gapped, peak
 
 HEADS = ("used", "plan", "mean off", "of plan", "worst off", "of plan then", "intervals",
          "likely cause", "group")
@@ -167,12 +167,16 @@ def as_data(ranked: Ranked) -> dict[str, Any]:
             "groups": [row_data(row, audit.intervals) for row in ranked.rows]}
 
 
-def picture(row: AuditRow, intervals: Sequence[Interval]) -> str:
+def lines_of(row: AuditRow) -> list[tuple[str, str, list[float | None]]]:
+    """The plan and the use of a group in CPUs, each with its colour and dashes."""
+    return [(colour, dash, [None if cell is None else float(getattr(cell, key)) / 1000
+                            for cell in row.cells])
+            for key, colour, dash in (("planned", PLANNED, "5 3"), ("used", USED, ""))]
+
+
+def picture(row: AuditRow, intervals: Sequence[Interval], most: float) -> str:
     """Plan and use of a group over time, in CPUs: stairs, with a gap where nothing was measured."""
-    lines = {(colour, dash): [None if cell is None else float(getattr(cell, key)) / 1000
-                              for cell in row.cells]
-             for key, colour, dash in (("planned", PLANNED, "5 3"), ("used", USED, ""))}
-    most = max([0.001, *(each for values in lines.values() for each in values if each is not None)])
+    most = max(most, 0.001)
     step = (WIDTH - LEFT - RIGHT) / len(intervals)
 
     def height(value: float) -> float:
@@ -187,22 +191,41 @@ def picture(row: AuditRow, intervals: Sequence[Interval]) -> str:
         ends = ((intervals[0], LEFT, "start"), (intervals[-1], WIDTH - RIGHT, "end"))
         for interval, x, anchor in ends[:len(intervals)]:
             yield svg.words((x, HEIGHT - 6), cut(interval.name, 24), FAINT, 12, anchor)
-        for (colour, dash), values in lines.items():
+        for colour, dash, values in lines_of(row):
             for points in gapped(values, lambda at: LEFT + step * at, height):
                 yield svg.shape(points, colour, 1.5, "none", dash)
 
     return svg.inside(WIDTH, HEIGHT, f"plan and use of {row.path}", [*parts()])
 
 
+def drawn(rows: Sequence[AuditRow], intervals: Sequence[Interval], prefix: str
+          ) -> list[dict[str, str]]:
+    """The pictures of the worst groups that are off by a slice or more, on one scale where that
+    shows each."""
+    worst = [row for row in rows if row.cause != SLICE][:MOST_DRAWN]
+    tops = svg.tops([peak(values for _, _, values in lines_of(row)) for row in worst])
+    return [{"name": short(shown(below(row.path, prefix))), "cause": row.cause, "mark": mark,
+             "picture": picture(row, intervals, most)} for row, (most, mark) in zip(worst, tops)]
+
+
+def bars(intervals: Sequence[Interval], capacity: Fraction) -> list[dict[str, Any]]:
+    """The plan and the use of all groups, as means, and what the plan leaves of the host."""
+    planned, used = (mean([sum((getattr(cell, key) for cell in each.cells.values()), Fraction(0))
+                           for each in intervals]) for key in ("planned", "used"))
+    return [bar("plan", "CPUs", planned=cpus(planned), left=cpus(capacity - planned),
+                capacity=cpus(capacity)),
+            bar("use", "CPUs", used=cpus(used), capacity=cpus(capacity))]
+
+
 def page(found: Ranked, title: str) -> str:
     """One HTML page: the table, which sorts, and plan and use over time of the worst groups."""
-    rows = []
+    intervals, host = found.audit.intervals, found.audit.plan.model.host
+    rows, prefix = [], common_parent(row.path for row in found.busy)
     for row in found.busy:
-        *cells, cause, name = cells_of(row)
-        rows.append({"name": name, "cause": cause, "cells": list(zip(HEADS, cells)),
-                     "is_bad": row.cause == NOTHING})
-    drawn = [{"name": short(shown(row.path)), "cause": row.cause,
-              "picture": picture(row, found.audit.intervals)} for row in found.busy[:MOST_DRAWN]]
-    return rendered("audit.html", title, head(found), rows=rows, drawn=drawn,
-                    foot=list(foot(found)),
+        *cells, cause, _ = cells_of(row)
+        rows.append({"name": short(shown(below(row.path, prefix))), "cause": cause,
+                     "cells": list(zip(HEADS, cells)), "is_bad": row.cause == NOTHING})
+    return rendered("audit.html", title, head(found), rows=rows, prefix=short(shown(prefix)),
+                    drawn=drawn(found.busy, intervals, prefix), foot=list(foot(found)),
+                    hosts=bars(intervals, Fraction(1000 * host.processors)),
                     notes=[shown(each) for each in found.audit.notes])

@@ -156,7 +156,8 @@ def answer(options: argparse.Namespace, fleet: Fleet) -> None:
         placing, _ = asked(options, replace(job, action="place", pods=pods), fleet)
         told = report.with_pending(told, fleet, placing, options.rank)
     write_forms(outputs, {"text": lambda: report.text(told, options.everything),
-                          "json": lambda: json_text(told.data), "html": lambda: report.page(told)})
+                          "json": lambda: json_text(told.data),
+                          "html": lambda: report.page(told, options.set)})
     check_answered(fleet, answers, missing)
 
 

@@ -9,7 +9,7 @@ from typing import Any
 from arbiter_host import text as layout
 from arbiter_host.fleet.answers import HostAnswer
 from arbiter_host.fleet.hosts import Fleet
-from arbiter_host.html import rendered
+from arbiter_host.html import bar, rendered
 from arbiter_host.names import short, shown
 from arbiter_host.series import COUNTS
 
@@ -34,16 +34,24 @@ class Table:
     heads: list[str]
     rows: list[list[str]]
 
+    @property
+    def left(self) -> list[int]:
+        """The columns of words. In one of numbers `-` stands for none."""
+        return [at for at, column in enumerate(zip(*self.rows)) if at == 0 or not all(
+            cell == "-" or cell.lstrip("+-")[:1].isdigit() for cell in column)]
+
 
 @dataclass(frozen=True)
 class Report:
-    """All that is told of a run: lines, tables, hosts without an answer, and the same as data."""
+    """All that is told of a run: lines, tables, hosts without an answer, the same as data, and the
+    bars of all hosts together."""
 
     action: str
     lines: list[str]
     tables: list[Table]
     missing: list[tuple[str, str]]
     data: dict[str, Any]
+    bars: list[dict[str, Any]]
 
 
 # Lines, tables, and the same as data.
@@ -254,6 +262,17 @@ ACTIONS: dict[str, Callable[[Sequence[HostAnswer], str], Parts]] = {
     "explain": of_plan, "diff": of_changes, "place": of_places, "replay": of_series}
 
 
+def bars(hosts: Sequence[HostAnswer], action: str) -> list[dict[str, Any]]:
+    """The bars of all hosts together: what is planned of their capacity, and what is left."""
+    all_ = total(hosts, "capacity")
+    sums = {"": total(hosts, "served")} if action == "explain" else {
+        name: total(hosts, name, "served") for name in ("before", "after") if action == "diff"}
+    if action == "replay":
+        sums = {"": sum((mean(host, "got") for host in hosts), Fraction(0))}
+    return [bar(name, "CPUs", planned=cpu(each), left=cpu(all_ - each), capacity=cpu(all_))
+            for name, each in sums.items()]
+
+
 def built(action: str, hosts: Sequence[HostAnswer], missing: Sequence[tuple[str, str]],
           rule: str) -> Report:
     """The report of a run. It depends on the answers alone, and not on who gave them when."""
@@ -264,7 +283,7 @@ def built(action: str, hosts: Sequence[HostAnswer], missing: Sequence[tuple[str,
                 {"host": name, "why": why} for name, why in missing],
             "fleet": sums, "hosts": [{"host": host.name, **host.answer} for host in hosts]}
     return Report(action, [first, *(lines if hosts else [])], tables if hosts else [],
-                  list(missing), data)
+                  list(missing), data, bars(hosts, action) if hosts else [])
 
 
 def pending(fleet: Fleet, hosts: Sequence[HostAnswer], rule: str) -> list[dict[str, Any]]:
@@ -314,13 +333,10 @@ def with_pending(to: Report, fleet: Fleet, hosts: Sequence[HostAnswer], rule: st
 
 
 def table_lines(table_: Table, has_all: bool) -> list[str]:
-    """A table as text, of at most MOST_ROWS rows unless all are asked for. Columns of numbers,
-    where `-` stands for none, end at the right."""
+    """A table as text, of at most MOST_ROWS rows unless all are asked for."""
     rows = table_.rows if has_all else table_.rows[:MOST_ROWS]
-    left = [at for at, column in enumerate(zip(*rows)) if at == 0 or not all(
-        cell == "-" or cell.lstrip("+-")[:1].isdigit() for cell in column)]
     more = len(table_.rows) - len(rows)
-    return layout.table([table_.heads, *rows], left) + ([f"and {more} more (--all)"]
+    return layout.table([table_.heads, *rows], table_.left) + ([f"and {more} more (--all)"]
                                                         if more else [])
 
 
@@ -335,11 +351,13 @@ def text(report: Report, has_all: bool) -> str:
     return "".join(f"{line}\n" for line in lines)
 
 
-def page(report: Report) -> str:
-    """The report as one HTML page, whose tables sort and can be searched."""
+def page(report: Report, words: Sequence[str] = ()) -> str:
+    """The report as one HTML page, whose tables sort and can be searched, with the words of a
+    change."""
     tables = [{"title": each.title, "heads": each.heads,
+               "left": [each.heads[at] for at in each.left],
                "rows": [[shown(cell) for cell in row] for row in each.rows]}
               for each in report.tables if each.rows]
     missing = [(shown(name), shown(why)) for name, why in report.missing]
     return rendered("fleet.html", f"Fleet: {report.action}", report.lines, tables=tables,
-                    missing=missing)
+                    hosts=report.bars, words=list(map(shown, words)), missing=missing)

@@ -194,7 +194,8 @@ def planned(job: Job, host: HostFile) -> Sent:
         plans, told = ACTIONS[job.action](job, model, engine)
     else:
         kind = options.kind or load.kind_of(host.path, host.data)
-        model = by_options.of_samples(options, kind, model, job.unit, job.sample_usec)
+        model = by_options.of_samples(options, engine.library, kind, model, job.unit,
+                                      job.sample_usec)
         plans, told = replayed(job, model, engine, host.history)
     return Sent(model.host, plans, told)
 

@@ -5,7 +5,7 @@ import argparse
 from dataclasses import replace
 from fractions import Fraction
 
-from arbiter import Host
+from arbiter import Host, Library
 from arbiter_host import looks, units
 from arbiter_host.faults import HostFault, UsageFault
 from arbiter_host.model import Model
@@ -21,30 +21,34 @@ def time_option(text: str, option: str) -> int:
         raise UsageFault(f"{option}: {shown(fault.message)}") from fault
 
 
-def of_host(options: argparse.Namespace) -> Wish:
+def period_and_slice(options: argparse.Namespace) -> tuple[int | None, int | None]:
+    """Microseconds of the period and of the slice; None for one that is not asked for."""
+    period, slice_ = (None if text is None else time_option(text, f"--{name}")
+                      for name, text in (("period", options.period), ("slice", options.slice)))
+    return period, slice_
+
+
+def of_host(options: argparse.Namespace, library: Library) -> Wish:
     """What is asked of the host alone."""
-    period, slice_ = (None if getattr(options, name) is None
-                      else time_option(getattr(options, name), f"--{name}")
-                      for name in ("period", "slice"))
-    return Wish(options.cpus, period, slice_)
+    return Wish(library, options.cpus, *period_and_slice(options))
 
 
-def of_samples(options: argparse.Namespace, kind: str, model: Model, unit: str,
+def of_samples(options: argparse.Namespace, library: Library, kind: str, model: Model, unit: str,
                sample: int) -> Model:
     """The model for samples of what was used: with slices as fine as can be, unless the source says
     its period itself or the demands are counted in it."""
     if kind in ("script", "toml", "json") or unit in ("slices", "us"):
         return model
-    after = model.with_host(of_host(options).of_use(model.host, sample))
+    after = model.with_host(of_host(options, library).of_use(model.host, sample))
     one = Fraction(1000 * after.host.slice_us, after.host.period_us)
     if one > 1:
         after.notes.append(f"a slice is {units.decimal(one)}m: each use is rounded up to it")
     return after
 
 
-def machine(options: argparse.Namespace, want: str = "") -> Host:
+def machine(options: argparse.Namespace, library: Library, want: str = "") -> Host:
     """This machine with slices of 1 ms, with the options in its place, for a rule of demands."""
-    return replace(of_host(options), want=want).machine()
+    return replace(of_host(options, library), want=want).machine()
 
 
 def times_of(options: argparse.Namespace) -> looks.Times:

@@ -14,6 +14,7 @@ from dataclasses import replace
 from datetime import datetime, timezone
 from fractions import Fraction
 
+from arbiter import Host
 from arbiter_host import demands, looks, options as table, plain_files, units
 from arbiter_host.faults import HostFault, UsageFault
 from arbiter_host.names import shown
@@ -139,7 +140,8 @@ def entries(options: argparse.Namespace) -> list[Used]:
                                  " it belongs to --want usage")
             return used
     unit = options.unit if options.asked == "recommend" else "cpu"
-    host, mapping = by_options.machine(options), mapped(options.map)
+    period, slice_ = by_options.period_and_slice(options)
+    host, mapping = Host(1, period or units.DEFAULT_PERIOD, slice_ or 1000), mapped(options.map)
     values: dict[str, list[tuple[str, Fraction]]] = {}
     for sample in history(options).samples:
         for column, demand in sample.demands(unit, host).items():

@@ -7,10 +7,10 @@ from dataclasses import dataclass, replace
 from fractions import Fraction
 from typing import TYPE_CHECKING
 
-from arbiter import Host
+from arbiter import Host, Library
 from arbiter_host import demands, units
 from arbiter_host.faults import UsageFault
-from arbiter_host.model import Model, checked, fine
+from arbiter_host.model import Model, checked, fine, planned
 
 if TYPE_CHECKING:
     from arbiter_host.owned import Owned
@@ -27,6 +27,8 @@ class Wish:
     """The host, the node, the conversions of shares, the driver, and the rule for demands. kubelet
     writes the weights of kubepods, classes and pods, the runtime those of containers."""
 
+    # What says which hosts can be planned.
+    library: Library
     # CPUs, and microseconds of the period and the slice; None for what the source tells.
     cpus: int | None = None
     period: int | None = None
@@ -55,12 +57,13 @@ class Wish:
         host = checked(Host(told.processors if self.cpus is None else self.cpus,
                             told.period_us if self.period is None else self.period,
                             told.slice_us if self.slice is None else self.slice))
+        planned(self.library, host)
         return self.of_use(host) if self.want in demands.OF_USE else host
 
     def of_use(self, host: Host, sample: int = 0) -> Host:
         """A host for use in samples of so many microseconds (0: of any time): with slices as fine
         as can be, unless others are asked for."""
-        return fine(host, sample) if self.period is self.slice is None else host
+        return fine(self.library, host, sample) if self.period is self.slice is None else host
 
     def machine(self) -> Host:
         """This machine with slices of 1 ms, with what is asked for in its place."""

@@ -73,7 +73,7 @@ def run(options: argparse.Namespace) -> None:
     root, way = safe_files.Root(options.root), apply.By(options.by)
     for each in forms:
         write_form(each, exports.Draft(models[0], after, root, by.library,
-                                       load.wish_of(options).runtime))
+                                       load.wish_of(options, by.library).runtime))
     if len(forms) < len(outputs):
         set_host(options, apply.changes(models[0], after, root), root, way)
 

@@ -4,6 +4,7 @@ from __future__ import annotations
 import argparse
 import os
 
+from arbiter import Library
 from arbiter_host import load, looks, options, progress, text
 from arbiter_host.audit import answer, intervals, ranges
 from arbiter_host.audit.answer import Ranked
@@ -13,12 +14,12 @@ from arbiter_host.looks import Look, Times
 from arbiter_host.model import Model
 from arbiter_host.names import shown
 from arbiter_host.output import json_text, write_forms
-from arbiter_host.plan import engine_of
+from arbiter_host.plan import Engine, engine_of
 from arbiter_host.sources import by_options, prometheus, used
 from arbiter_host.subcommands.base import source_name
 
 
-def of_range(asked: argparse.Namespace) -> tuple[list[Look], list[str], set[int]]:
+def of_range(asked: argparse.Namespace, by: Engine) -> tuple[list[Look], list[str], set[int]]:
     """The looks of a range of Prometheus, what is told of them, and those after a gap."""
     if not asked.source:
         raise UsageFault("--used: it belongs to a SOURCE whose groups were measured")
@@ -26,10 +27,10 @@ def of_range(asked: argparse.Namespace) -> tuple[list[Look], list[str], set[int]
                                prometheus.range_of(asked.range, asked.step))
     files = load.opened(asked, asked.source)
     kind = asked.kind or load.kind_of(*files[0])
-    model = load.model_of(used.without(asked, kind), files, engine_of(asked.library))
+    model = load.model_of(used.without(asked, kind), files, by)
     load.warn(model, source_name(asked.source))
     looks_, notes = ranges.looks(server, model.with_host(
-        by_options.of_host(asked).of_use(model.host)))
+        by_options.of_host(asked, by.library).of_use(model.host)))
     return intervals.collected(looks_), notes, ranges.gaps(looks_)
 
 
@@ -45,7 +46,7 @@ def times_of(asked: argparse.Namespace, is_live: bool) -> Times:
     return times
 
 
-def of_trees(asked: argparse.Namespace) -> list[Look]:
+def of_trees(asked: argparse.Namespace, library: Library) -> list[Look]:
     """The looks at copies of a tree, or at one tree again and again."""
     folders = asked.source or [looks.HOST_TREE]
     for folder in folders:
@@ -55,7 +56,7 @@ def of_trees(asked: argparse.Namespace) -> list[Look]:
             raise UsageFault(f"{shown(folder)}: no folder: a source that is no tree takes --used")
     options.check(asked, "cgroup")
     times = times_of(asked, len(folders) == 1)
-    host = by_options.machine(asked, "usage")
+    host = by_options.machine(asked, library, "usage")
     seen = looks.looks_at(folders, host, times, has_threads=True)
     return intervals.collected(seen, times.number or 0 if len(folders) == 1 else len(folders))
 
@@ -63,9 +64,9 @@ def of_trees(asked: argparse.Namespace) -> list[Look]:
 def audited(asked: argparse.Namespace) -> Ranked:
     by, away = engine_of(asked.library), set[int]()
     if asked.used:
-        seen, notes, away = of_range(asked)
+        seen, notes, away = of_range(asked, by)
     else:
-        seen = of_trees(asked)
+        seen = of_trees(asked, by.library)
         notes = [note for each in seen for note in each.model.notes]
     with progress.bar("intervals", len(seen) - 1) as tick:
         audit = intervals.audited(by, seen, asked.want, away, tick)

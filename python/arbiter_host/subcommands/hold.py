@@ -3,6 +3,7 @@ from __future__ import annotations
 
 import argparse
 import functools
+import gc
 import json
 import os
 import select
@@ -15,7 +16,7 @@ from dataclasses import replace
 from fractions import Fraction
 from typing import TYPE_CHECKING
 
-from arbiter import Host
+from arbiter import Host, Library
 from arbiter_host import hold, lines, looks, options, output, record, safe_files
 from arbiter_host.faults import HostFault, UsageFault
 from arbiter_host.model import MAX_CAPACITY, MAX_DEPTH
@@ -156,7 +157,7 @@ def locked(root: safe_files.Root, asked: argparse.Namespace, stack: ExitStack) -
     return kept
 
 
-def machine(asked: argparse.Namespace, root: safe_files.Root) -> Host:
+def machine(asked: argparse.Namespace, root: safe_files.Root, library: Library) -> Host:
     """The host. That of a real tree has no more CPUs than this machine. Without --slice one that
     has too many slices of 1 ms for the planner has slices of 10 ms."""
     there = os.cpu_count()
@@ -164,7 +165,7 @@ def machine(asked: argparse.Namespace, root: safe_files.Root) -> Host:
     fine = Host(there or 1, PERIOD, SLICE)
     if (asked.cpus or fine.processors) * period > MAX_CAPACITY * SLICE:
         fine = replace(fine, slice_us=10 * SLICE)
-    host = by_options.of_host(asked).host(fine)
+    host = by_options.of_host(asked, library).host(fine)
     if is_real(root) and there is not None and host.processors > there:
         raise UsageFault(f"--cpus {host.processors}: this machine has {there}")
     return host
@@ -200,9 +201,11 @@ def run(asked: argparse.Namespace) -> None:
     if not 1 <= asked.depth <= MAX_DEPTH:
         raise UsageFault(f"--depth: 1 to {MAX_DEPTH}")
     root = safe_files.Root(asked.root)
-    host = machine(asked, root)
-    times, engine = times_of(asked, host.period_us), engine_of(asked.library, changes=asked.yes)
+    engine = engine_of(asked.library, changes=asked.yes)
+    host = machine(asked, root, engine.library)
+    times = times_of(asked, host.period_us)
     ways = hold.Ways(asked.force, asked.weights, asked.depth)
+    gc.set_threshold(hold.MOST_OBJECTS)
     with ExitStack() as stack:
         kept = locked(root, asked, stack) if asked.yes else None
         stack.callback(root.close)

@@ -92,7 +92,7 @@ def chosen_of(options: argparse.Namespace, models: Sequence[tuple[str, Model]]
 def run(options: argparse.Namespace) -> None:
     rule = recommend.rule_of(options.target, options.headroom)
     by, outputs = engine_of(options.library), table.outputs(options)
-    models, wish = models_of(options, by), by_options.of_host(options)
+    models, wish = models_of(options, by), by_options.of_host(options, by.library)
     uses = [uses_of(options, model) for _, model in models]
     for name, model in models:
         load.warn(model, name)

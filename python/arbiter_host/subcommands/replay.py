@@ -34,7 +34,7 @@ def replayed(options: argparse.Namespace, by: Engine) -> Series:
     kind = options.kind or load.kind_of(*files[0])
     model = load.model_of(used.without(options, kind), files, by)
     sample = sample_of(options)
-    model = by_options.of_samples(options, kind, model, options.unit, sample)
+    model = by_options.of_samples(options, by.library, kind, model, options.unit, sample)
     load.warn(model, source_name(options.source))
     history = used.history(options)
     missing: list[str] = []

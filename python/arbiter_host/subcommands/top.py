@@ -13,7 +13,7 @@ import time
 from collections.abc import Callable, Sequence
 from typing import TYPE_CHECKING
 
-from arbiter_host import choosing, live, load, looks, options, output, progress, top
+from arbiter_host import (choosing, explain, load, looks, options, output, progress, top, viewer)
 from arbiter_host.explain import View
 from arbiter_host.faults import Alerted, HostFault, UsageFault, strerror
 from arbiter_host.model import PodNames
@@ -41,7 +41,7 @@ def reader(asked: argparse.Namespace, wanted: Sequence[top.Condition],
     if len(paths) == 1 and os.path.isdir(paths[0]) and asked.kind in (None, "cgroup"):
         options.check(asked, "cgroup")
         want = asked.want or "psi"
-        tree = looks.Tree(paths[0], by_options.machine(asked, want), time.monotonic)
+        tree = looks.Tree(paths[0], by_options.machine(asked, by.library, want), time.monotonic)
         ask = functools.partial(pod_names, asked) if asked.pod else None
         return top.Watched(by, tree, want, ask, warn).round, 1
     if "-" in paths:
@@ -123,8 +123,10 @@ class Watch:
         if self.form == "json":
             output.emit(json.dumps(top.line_of(state, found)) + "\n")
         elif self.form == "text":
-            lines = live.screen(found.plan, shown_view(self.asked, found.plan), 10**6)
-            output.emit("".join(f"{line}\n" for line, _ in lines) + "\n")
+            lines = explain.table(found.plan, shown_view(self.asked, found.plan))
+            output.emit("".join(f"{line}\n" for line in [
+                f"{time.strftime('%H:%M:%S')}  {lines[0][0]}", *(line for line, _ in lines[1:]),
+                ""]))
         if raised and self.command:
             run_command(self.command, raised)
         if raised and not self.command and not self.figured:
@@ -175,7 +177,7 @@ def run(asked: argparse.Namespace) -> None:
     rounds = functools.partial(top.rounds_of, read, times, first, watch.warn)
     if form == "live":
         progress.is_allowed = False
-        live.show(rounds, lambda plan: shown_view(asked, plan), watch.take)
+        viewer.show(rounds, lambda plan: shown_view(asked, plan), watch.take)
     else:
         for each in rounds():
             watch.take(each)

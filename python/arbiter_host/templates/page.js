@@ -22,6 +22,7 @@ function fitting(word, isFlat) {
 // Shows the groups that fit the search, or those that no folded group hides.
 function show() {
   const word = find.value.toLowerCase(), isFlat = groups.classList.contains("flat");
+  groups.classList.toggle("all", idle.checked);
   const isSearch = word !== "" || hurt.checked;
   const found = isSearch ? fitting(word, isFlat) : null;
   let count = 0;
@@ -63,10 +64,8 @@ function sortBy(head) {
     });
   }
   table.tBodies[0].append(...rows);
-  if (table === groups) {
-    groups.classList.toggle("flat", order !== "none");
-    show();
-  }
+  table.classList.toggle("flat", order !== "none" || "flat" in table.dataset);
+  if (table === groups) show();
 }
 
 // Shows the rows of all tables that contain a word.

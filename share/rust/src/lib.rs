@@ -609,14 +609,24 @@ pub fn book(
     Ok(carries)
 }
 
-/// The slices of one period that thousandths of a processor take, rounded up: a demand of a row.
+/// The slices of one period that a ratio of processors takes, rounded up: a demand of a row.
 ///
 /// # Errors
-/// The host is refused (1 to 3), or the demand takes more than 1000000 slices (9).
-pub fn demand(host: Host, thousandths: u64) -> Result<u64, Fault> {
+/// The host is refused (1 to 3), the denominator is 0 (11), or the demand takes more than 1000000 slices (9).
+pub fn demand(host: Host, numerator: u64, denominator: u64) -> Result<u64, Fault> {
     let mut slices = 0;
-    answered(raw::demand(host, thousandths, &mut slices), None)?;
+    answered(raw::demand(host, numerator, denominator, &mut slices), None)?;
     Ok(slices)
+}
+
+/// The host that is planned in place of one of any number of processors: itself up to 64, else one of the same capacity.
+///
+/// # Errors
+/// There is no processor (1), period or slice are refused (2, 3), or no host of at most 64 processors has the capacity (1).
+pub fn planned_host(host: Host) -> Result<Host, Fault> {
+    let mut planned = host;
+    answered(raw::planned_host(host, &mut planned), None)?;
+    Ok(planned)
 }
 
 /// The `cpu.weight`, 1 to 10000, that container runtimes write for `cpu.shares`.
@@ -1021,8 +1031,16 @@ mod tests {
         assert_eq!(period_limit(host, Some(50_000), 100_000, 25_000, 6), Ok(Some(15)));
         assert_eq!(period_limit(host, None, 100_000, 25_000, 6), Ok(None));
         assert_eq!(period_limit(host, Some(999), 0, 0, 0), Err(fault(13, None)));
-        assert_eq!(demand(host, 51), Ok(2));
-        assert_eq!(demand(host, 50_000_001), Err(fault(9, None)));
+        assert_eq!(demand(host, 51, 1000), Ok(2));
+        assert_eq!(demand(host, 1, 3), Ok(7));
+        assert_eq!(demand(host, 1, 0), Err(fault(11, None)));
+        assert_eq!(demand(host, 50_000_001, 1000), Err(fault(9, None)));
+        let many = Host { processors: 65, ..host };
+        let planned = Host { processors: 52, period_us: 25_000, slice_us: 1000 };
+        assert_eq!((planned_host(host), planned_host(many)), (Ok(host), Ok(planned)));
+        let prime = Host { processors: 67, period_us: 5000, slice_us: 5000 };
+        assert_eq!(planned_host(prime).map(|planned| planned.processors), Ok(1));
+        assert_eq!(planned_host(Host { processors: 1009, ..prime }), Err(fault(1, None)));
         assert_eq!(weight_of_shares(1024, Conversion::Linear), 39);
         assert_eq!(weight_of_shares(1024, Conversion::Logarithmic), 100);
         assert_eq!(version(), env!("CARGO_PKG_VERSION"));

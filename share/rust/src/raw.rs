@@ -112,7 +112,9 @@ extern "C" {
                     nr_periods: *mut u64, nr_periods_length: usize, nr_throttled: *mut u64, nr_throttled_length: usize,
                     throttled_usec: *mut u64, throttled_usec_length: usize, nr_bursts: *mut u64, nr_bursts_length: usize,
                     burst_usec: *mut u64, burst_usec_length: usize) -> u32;
-    fn arbiter_demand(processors: u64, period_us: u64, slice_us: u64, thousandths: u64, slices: *mut u64) -> u32;
+    fn arbiter_demand(processors: u64, period_us: u64, slice_us: u64, numerator: u64, denominator: u64, slices: *mut u64) -> u32;
+    fn arbiter_planned_host(processors: u64, period_us: u64, slice_us: u64, planned_processors: *mut u64,
+                            planned_period_us: *mut u64, planned_slice_us: *mut u64) -> u32;
     fn arbiter_weight_of_shares(shares: u64, conversion: u32) -> u64;
     fn arbiter_name(number: u32, name: *mut u8, name_length: usize) -> u32;
     fn arbiter_version(version: *mut u8, version_length: usize) -> u32;
@@ -607,9 +609,18 @@ pub(crate) fn period_limit(host: Host, quota_us: u64, own_period_us: u64, burst_
 }
 
 #[rustfmt::skip]
-pub(crate) fn demand(host: Host, thousandths: u64, slices: &mut u64) -> u32 {
+pub(crate) fn demand(host: Host, numerator: u64, denominator: u64, slices: &mut u64) -> u32 {
     // SAFETY: as above
-    unsafe { arbiter_demand(host.processors, host.period_us, host.slice_us, thousandths, slices) }
+    unsafe { arbiter_demand(host.processors, host.period_us, host.slice_us, numerator, denominator, slices) }
+}
+
+#[rustfmt::skip]
+pub(crate) fn planned_host(host: Host, planned: &mut Host) -> u32 {
+    // SAFETY: as above, and the three numbers are apart
+    unsafe {
+        arbiter_planned_host(host.processors, host.period_us, host.slice_us,
+                             &mut planned.processors, &mut planned.period_us, &mut planned.slice_us)
+    }
 }
 
 pub(crate) fn weight_of_shares(shares: u64, conversion: u32) -> u64 {

@@ -7,7 +7,7 @@ use Rattle.bw_pool.specs.Pool.{after, answer}
 use Rattle.bw_pool.specs.Drained.{opening, IsDrawnOut}
 use Rattle.bw_pool.proofs.CallerLemmas.{drained_workers_draw_the_plan, plan_is_planned}
 use Rattle.bw_workers.specs.Headline.{Headline}
-use Rattle.bw_workers.specs.Serving.{AreSeatsOf, AreInRounds, IsMadeBy, calls_by}
+use Rattle.bw_workers.specs.Serving.{AreReady, AreSeatsOf, AreInRounds, IsMadeBy, calls_by}
 use Rattle.bw_workers.specs.Working.{PoolSeat}
 use Rattle.bw_workers.proofs.Carried.{carried}
 use Rattle.bw_workers.proofs.DrainedHistories.{drained_history, seats_ready}
@@ -15,10 +15,11 @@ use Rattle.bw_workers.proofs.serving.serve.Goals as goal
 
 pub run_workers-requires-clause-ready : goal.run_workers-requires-clause-ready
 run_workers-requires-clause-ready g c κs within =
-    seats_ready c.in-Ok.made.0.lock_id
-    (slices_per_processor c.args.instance.now.shape + 2 * length c.deref-2.result.now) _ _
-    c.in-Ok.made.1.items
-    c.in-Ok.ensures.seats c.in-Ok.ensures.each.0 (search rules)
+    let calls : ℕ = slices_per_processor c.args.instance.now.shape
+    + 2 * length c.deref-2.result.now in
+    subst (AreReady c.in-Ok.made.0.lock_id calls) (sym c.in_ok-lending.ensures)
+    (seats_ready c.in-Ok.made.0.lock_id calls _ _ c.in-Ok.made.1.items
+    c.in-Ok.ensures.seats c.in-Ok.ensures.each.0 (search rules))
 
 pub returns-clause-drained : goal.returns-clause-drained
 returns-clause-drained g c =

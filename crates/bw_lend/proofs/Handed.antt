@@ -1,0 +1,31 @@
+-- Unused places that are handed out one after another.
+use Rattle.std.proofs.Common.{◌≡◌, ℕ, zero, suc, ◌+◌, ◌<◌, List, [], ◌∷◌, ◌++◌, length, refl, ap, arith}
+use Rattle.atomic_table.specs.Seated.{TableId}
+use Rattle.bw_lend.specs.declared.stake.Part.TheVariants.{Fresh}
+use Rattle.bw_lend.specs.Rule.{stake, stakes_from}
+use Rattle.bw_lend.specs.Plays.{others, first_one}
+
+module _ {X : Type 0} where
+  pub snoc_append : (xs ys : List X) (x : X) → (xs ++ x ∷ []) ++ ys ≡ xs ++ x ∷ ys
+  snoc_append [] ys x = refl
+  snoc_append (z ∷ xs) ys x = ap (λ l. z ∷ l) (snoc_append xs ys x)
+
+  pub append_nothing : (xs ys : List X) → ys ≡ [] → xs ++ ys ≡ xs
+  append_nothing [] ys e = e
+  append_nothing (z ∷ xs) ys e = ap (λ l. z ∷ l) (append_nothing xs ys e)
+
+  pub none_left : (xs : List X) → length xs ≡ 0 → xs ≡ []
+  none_left [] e = refl
+  none_left (z ∷ xs) e = absurd (omega arith)
+
+module _ (S : Type 0) where
+  pub first_place : (lock : TableId) (k n : ℕ) → 0 < n
+      → first_one (stakes_from {S = S} lock k n) ≡ stake lock k Fresh ∷ []
+  first_place lock k zero h = absurd (omega arith)
+  first_place lock k (suc n) h = refl
+
+  pub other_places : (lock : TableId) (k n m : ℕ) → n ≡ m + 1
+      → others (stakes_from {S = S} lock k n) ≡ stakes_from lock (k + 1) m
+  other_places lock k zero m h = absurd (omega arith)
+  other_places lock k (suc n) m h =
+      let e : n ≡ m = omega arith in ap (λ (x : ℕ). stakes_from lock (k + 1) x) e

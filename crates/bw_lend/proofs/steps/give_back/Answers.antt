@@ -1,0 +1,13 @@
+-- The rule allows the step give back.
+use Rattle.std.proofs.Common.{arith}
+use Rattle.bw_lend.proofs.Kept.{may_give_back}
+use Rattle.bw_lend.proofs.steps.give_back.Goals as goal
+
+pub store-requires : goal.store-requires
+store-requires g c = let w = c.requires.helper in (
+  c.requires.table.0,
+  omega (arith, c.requires.table.1.0, c.requires.place),
+  may_give_back c.args.table.now.key.value.lock_id _ _ w.0 _ _ w.2.0 w.2.1 w.1.0 w.1.1 _ w.2.2
+      c.requires.place (omega (arith, c.requires.table.1.1, c.requires.place))
+      c.returned_state.ensures w.2.3,
+)

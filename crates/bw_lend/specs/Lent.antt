@@ -1,0 +1,34 @@
+-- A seat that was lent, and what comes back.
+use Rattle.std.specs.Prelude.{◌≡◌, ℕ, ◌+◌, ◌≤◌, List, [], ◌∷◌, ◌++◌, None, IsSome, MatchOption}
+use Rattle.atomic_table.specs.Seated.{TableId}
+use Rattle.bw_machine.specs.History.{made}
+use Rattle.bw_ticket.specs.Holder.{Holder}
+use Rattle.bw_ticket.specs.declared.lock.Answer.{Answer}
+use Rattle.bw_lend.specs.declared.table.Place.{Place}
+use Rattle.bw_lend.specs.declared.table.Place.TheVariants.{Empty, Lent, Made}
+
+-- the content of a place, of seats with these calls and replies
+abbrev pub Content : Type 0 → Type 0 → Type 0
+Content C R = Place (Holder C R) (Answer R)
+
+module _ {C R : Type 0} where
+  -- the seat after its pending call was made with this answer, as `finish` of the lock promises
+  abbrev pub IsFinished : Holder C R → Answer R → Holder C R → Type 0
+  IsFinished lent answer seat = MatchOption lent.pending ⊥ (λ p.
+      (answer.at ≡ p.0) × (lent.reached ≤ answer.at)
+      × (seat ≡ record lent {
+        pending = None;
+        reached = p.0 + 1;
+        own = lent.own ++ made p.1 answer.reply answer.at ∷ [];
+      }))
+
+  -- the content is the seat that was lent, as it was or finished
+  abbrev pub Returns : Holder C R → Content C R → Type 0
+  Returns lent Empty = ⊥
+  Returns lent (Lent seat) = seat ≡ lent
+  Returns lent (Made seat answer) = IsFinished lent answer seat
+
+  -- the content returns what was lent, a seat of the lock with a pending call
+  abbrev pub Brings : TableId → Holder C R → Content C R → Type 0
+  Brings lock lent content =
+      (lent.lock_id ≡ lock) × IsSome lent.pending × Returns lent content

@@ -1,0 +1,5 @@
+-- The files that say what places are, and what a step on the table of places does.
+pub mod Lent
+pub mod Rule
+pub mod Plays
+pub mod Parts

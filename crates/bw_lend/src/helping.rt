@@ -1,0 +1,157 @@
+//! The help of a seat that leaves: it makes the calls of the next tickets that are lent.
+ghost use Rattle.std.specs.Prelude.{◌≡◌, ℕ, ◌<◌, IfSome};
+ghost use Rattle.bw_lend.specs.Lent.{Brings};
+ghost use Rattle.bw_lend.specs.Parts.{IsTable, IsOwner, IsHelper};
+
+use crate::steps::{claim, give_back, hinted};
+use crate::table::{Content, PLACES, Place, Shared, Token};
+use bw_machine::Machine;
+use bw_ticket::TicketLock;
+use std::rt::Clock;
+use std::sync::Wait;
+
+// Greatest number of calls that a seat makes for others when it leaves.
+const MOST_HELPED: u64 = 64;
+
+// The places whose owners have to be woken.
+#[derive(Clone, Copy)]
+struct Owners {
+    set: u64,
+}
+
+impl Owners {
+    fn none() -> Owners {
+        Owners { set: 0 }
+    }
+
+    fn with(self, place: usize) -> Owners
+        requires { place < 64 }
+    {
+        Owners {
+            set: self.set | 1 << place,
+        }
+    }
+
+    fn has(self, place: usize) -> bool
+        requires { place < 64 }
+    {
+        self.set >> place & 1 == 1
+    }
+}
+
+// Makes the pending call of a lent seat.
+fn make<M: Machine, R: Wait + Clock>(
+    rt: &R,
+    lock: &TicketLock<M>,
+    content: Content<M>,
+) -> (Content<M>, bool)
+    requires { (lent : _) × Brings lock.now.lock_id lent content }
+    ensures { (lent : _) → Brings lock.now.lock_id lent content →
+        Brings lock.now.lock_id lent result.0 }
+{
+    match content {
+        Place::Lent(seat) => {
+            let mut seat = seat;
+            let answer = seat.finish(rt, lock);
+            (Place::Made(seat, answer), true)
+        }
+        other => (other, false),
+    }
+}
+
+// Makes the call of the seat in the place of another one, or leaves it. Returns whether it is made.
+fn make_at<M: Machine, R: Wait + Clock>(
+    rt: &R,
+    lock: &TicketLock<M>,
+    table: &Shared<M>,
+    token: &mut Token<M>,
+    place: usize,
+    makes: bool,
+) -> bool
+    requires table { token.old.table_id ≡ table.now.table_id }
+    requires helper { (before : _) × IsHelper lock.now.lock_id place before token.old.me }
+    ensures table { token.new.table_id ≡ token.old.table_id }
+    ensures helper { (before : _) → IsHelper lock.now.lock_id place before token.old.me →
+        IsHelper lock.now.lock_id place before token.new.me }
+{
+    if !makes {
+        return false;
+    }
+    let content = table.exchange(token, place, Place::Empty);
+    let (content, made) = make(rt, lock, content);
+    let _empty = table.exchange(token, place, content);
+    made
+}
+
+// Makes the call of the ticket, if its seat is lent, or gives the seat back as it is. Returns the
+// place.
+fn help_one<M: Machine, R: Wait + Clock>(
+    rt: &R,
+    lock: &TicketLock<M>,
+    table: &Shared<M>,
+    token: &mut Token<M>,
+    ticket: u64,
+    makes: bool,
+) -> Option<usize>
+    requires table { (token.old.table_id ≡ table.now.table_id) × IsTable table.now.table_id }
+    requires owner { (mine : _) × IsOwner lock.now.lock_id mine token.old.me }
+    ensures table { token.new.table_id ≡ token.old.table_id }
+    ensures same { token.new.me ≡ token.old.me }
+    ensures place { IfSome result (λ place. place < 64) }
+{
+    let place = hinted(table, ticket)?;
+    if !claim(lock, table, token, place, ticket) {
+        return None;
+    }
+    let made = make_at(rt, lock, table, token, place, makes);
+    give_back(table, token, place, ticket, made);
+    Some(place)
+}
+
+// Helps the seats of the tickets after `served`, as long as they are lent.
+fn help_next<M: Machine, R: Wait + Clock>(
+    rt: &R,
+    lock: &TicketLock<M>,
+    table: &Shared<M>,
+    token: &mut Token<M>,
+    served: u64,
+) -> Owners
+    requires table { (token.old.table_id ≡ table.now.table_id) × IsTable table.now.table_id }
+    requires owner { (mine : _) × IsOwner lock.now.lock_id mine token.old.me }
+    ensures table { token.new.table_id ≡ token.old.table_id }
+    ensures same { token.new.me ≡ token.old.me }
+{
+    let mut owners = Owners::none();
+    for nth in 0..=MOST_HELPED {
+        let ticket = served.wrapping_add(nth).wrapping_add(1);
+        let makes = nth < MOST_HELPED;
+        let Some(place) = help_one(rt, lock, table, token, ticket, makes) else {
+            return owners;
+        };
+        owners = owners.with(place);
+    }
+    owners
+}
+
+/// Makes the calls of the tickets after `served` that are lent, and then wakes their owners.
+///
+/// After 64 calls the next seat goes back as it is. Its owner makes its call, and helps on.
+pub(crate) fn help<M: Machine, R: Wait + Clock>(
+    rt: &R,
+    lock: &TicketLock<M>,
+    table: &Shared<M>,
+    token: &mut Token<M>,
+    served: u64,
+)
+    requires table { (token.old.table_id ≡ table.now.table_id) × IsTable table.now.table_id }
+    requires owner { (mine : _) × IsOwner lock.now.lock_id mine token.old.me }
+    ensures table { token.new.table_id ≡ token.old.table_id }
+    ensures same { token.new.me ≡ token.old.me }
+{
+    let owners = help_next(rt, lock, table, token, served);
+    for place in 0..PLACES {
+        if owners.has(place) {
+            table.wake_one(place);
+        }
+    }
+}

@@ -1,0 +1,123 @@
+//! The wait of a seat, which lends itself until its call is made.
+ghost use Rattle.std.specs.Prelude.{◌≡◌, ◌%◌, ◌<◌, ◌≤◌, [], ◌∷◌, IsSome, IsTrue};
+ghost use Rattle.bw_lend.specs.declared.stake.Part.TheVariants.{Lends};
+ghost use Rattle.bw_lend.specs.Lent.{IsFinished, Returns};
+ghost use Rattle.bw_lend.specs.Parts.{IsTable, IsOwner};
+ghost use Rattle.bw_lend.specs.Rule.{stake};
+
+use crate::helping::help;
+use crate::steps::{post, take_back};
+use crate::table::{Content, POSTED, Place, Shared, Token, code_of, low_half};
+use bw_machine::Machine;
+use bw_ticket::{Answer, Seat, TicketLock};
+use std::hint::spin_loop;
+use std::rt::Clock;
+use std::snapshot::Snapshot;
+use std::sync::Wait;
+
+// Greatest number of looks before a seat lends itself.
+const LOOKS: u32 = 50;
+
+// Looks whether the ticket is served, some times.
+fn is_served_soon<M: Machine>(lock: &TicketLock<M>, ticket: u64) -> bool {
+    for _look in 0..LOOKS {
+        if lock.served() == ticket {
+            return true;
+        }
+        spin_loop();
+    }
+    false
+}
+
+// Whether the owner may take its place back: a helper is done with it, or its ticket is served and
+// no helper has come.
+fn may_take_back<M: Machine>(lock: &TicketLock<M>, state: u64, ticket: u64) -> bool
+    ensures { IsTrue result → 3 ≤ state % 8 }
+{
+    let code = code_of(state);
+    code > POSTED || (code == POSTED && lock.served() == ticket)
+}
+
+// Waits until the place can be taken back, and takes it.
+fn wait_for_place<M: Machine, R: Wait>(
+    rt: &R,
+    lock: &TicketLock<M>,
+    table: &Shared<M>,
+    token: &mut Token<M>,
+    place: usize,
+    lent: &Snapshot<Seat<M>>,
+    ticket: u64,
+) -> Content<M>
+    requires table { (token.old.table_id ≡ table.now.table_id) × IsTable table.now.table_id }
+    requires lends { token.old.me ≡
+        (stake lent.now.value.lock_id place (Lends lent.now.value) ∷ [], []) }
+    requires place { place < 64 }
+    ensures table { token.new.table_id ≡ token.old.table_id }
+    ensures owner { IsOwner lent.now.value.lock_id place token.new.me }
+    ensures back { Returns lent.now.value result }
+{
+    for _ in rt.forever() {
+        let state = table.peek(place);
+        if !may_take_back(lock, state, ticket) {
+            table.park(rt, place, low_half(state));
+        } else if let Some(content) = take_back(table, token, place, lent, state) {
+            return content;
+        }
+    }
+    unreachable!()
+}
+
+// Makes the seat's own call, and then helps the next ones.
+fn finish_and_help<M: Machine, R: Wait + Clock>(
+    rt: &R,
+    lock: &TicketLock<M>,
+    table: &Shared<M>,
+    token: &mut Token<M>,
+    seat: Seat<M>,
+) -> (Seat<M>, Answer<M::Reply>)
+    requires table { (token.old.table_id ≡ table.now.table_id) × IsTable table.now.table_id }
+    requires owner { (mine : _) × IsOwner lock.now.lock_id mine token.old.me }
+    requires lock { seat.lock_id ≡ lock.now.lock_id }
+    requires pending { IsSome seat.pending }
+    ensures table { token.new.table_id ≡ token.old.table_id }
+    ensures same { token.new.me ≡ token.old.me }
+    ensures finished { IsFinished seat result.1 result.0 }
+{
+    let mut seat = seat;
+    let answer = seat.finish(rt, lock);
+    help(rt, lock, table, token, answer.at);
+    (seat, answer)
+}
+
+/// Makes the pending call of the seat, or lends the seat until a helper has made it.
+pub(crate) fn finish_or_lend<M: Machine, R: Wait + Clock>(
+    rt: &R,
+    lock: &TicketLock<M>,
+    table: &Shared<M>,
+    token: &mut Token<M>,
+    place: usize,
+    seat: Seat<M>,
+) -> (Seat<M>, Answer<M::Reply>)
+    requires table { (token.old.table_id ≡ table.now.table_id) × IsTable table.now.table_id }
+    requires owner { IsOwner lock.now.lock_id place token.old.me }
+    requires place { place < 64 }
+    requires lock { seat.lock_id ≡ lock.now.lock_id }
+    requires pending { IsSome seat.pending }
+    ensures table { token.new.table_id ≡ token.old.table_id }
+    ensures owner { IsOwner lock.now.lock_id place token.new.me }
+    ensures finished { IsFinished seat result.1 result.0 }
+{
+    let Some(ticket) = seat.pending() else {
+        unreachable!()
+    };
+    if is_served_soon(lock, ticket) {
+        return finish_and_help(rt, lock, table, token, seat);
+    }
+    let lent = Snapshot::of(&seat);
+    post(table, token, place, seat, ticket);
+    match wait_for_place(rt, lock, table, token, place, &lent, ticket) {
+        Place::Made(seat, answer) => (seat, answer),
+        Place::Lent(seat) => finish_and_help(rt, lock, table, token, seat),
+        Place::Empty => unreachable!(),
+    }
+}

@@ -1,0 +1,277 @@
+//! Seats that may lend themselves.
+ghost use Rattle.std.specs.Prelude.{◌≡◌, ◌+◌, ◌-◌, ◌<◌, ◌≤◌, ◌∷◌, [], ◌++◌, All, None, Some, length};
+ghost use Rattle.std.specs.Prelude.{IfOk, IfErr, IsSome, MatchOption};
+ghost use Rattle.bw_machine.specs.History.{made};
+ghost use Rattle.bw_ticket.specs.Holder.{ticket_pending};
+ghost use Rattle.bw_lend.specs.Parts.{IsTable, IsOwner};
+ghost use Rattle.bw_lend.specs.Rule.{stakes_from};
+ghost use Rattle.std.specs.Arc.{arc_value};
+ghost use Rattle.bw_ticket.specs.declared.limits.TheConstants.{MAX_SEATS};
+
+use crate::lending::finish_or_lend;
+use crate::plays::HandOut;
+use crate::steps::open_place;
+use crate::table::{Content, PLACES, Place, Places, Token, WORDS};
+use atomic_table::Table;
+use bw_machine::Machine;
+use bw_ticket::{Answer, CallsSpent, Seat, TicketLock};
+use std::alloc::{AllocError, Global};
+use std::marker::Model;
+use std::rt::Clock;
+use std::snapshot::Snapshot;
+use std::sync::{Arc, Wait};
+
+/// A seat of a ticket lock that lends itself while it waits. One thread holds it at a time. Contracts
+/// see it as the seat of the lock.
+#[derive(Drop)]
+pub struct LendingSeat<M: Machine> {
+    // none only while it is lent
+    seat: Option<Seat<M>>,
+    places: Arc<Places<M>, Global>,
+    token: Token<M>,
+    place: usize,
+}
+
+impl<M: Machine> Model for LendingSeat<M> {
+    ghost use Rattle.std.specs.Prelude.{◌≡◌, ◌<◌};
+    ghost use Rattle.std.specs.Arc.{arc_value};
+    ghost use Rattle.bw_ticket.specs.Holder.{Holder};
+    ghost use Rattle.bw_lend.specs.Parts.{IsTable, seat_in, HasSeat};
+
+    ghost Value = { Holder M.Call M.Reply };
+
+    ghost view = { λ s. seat_in s.token.table_id s.seat };
+
+    ghost invariant = { λ s. IsTable s.token.table_id ×
+        (s.token.table_id ≡ (arc_value s.places).shared.table_id) × (s.place < 64) ×
+        HasSeat s.place s.token.me s.seat };
+}
+
+impl<M: Machine> LendingSeat<M> {
+    fn of(
+        seat: Seat<M>,
+        places: Arc<Places<M>, Global>,
+        token: Token<M>,
+        place: usize,
+    ) -> LendingSeat<M>
+        requires table { (token.table_id ≡ (arc_value places).shared.table_id) ×
+            IsTable token.table_id }
+        requires owner { IsOwner seat.lock_id place token.me }
+        requires place { place < 64 }
+        ensures { result ≡ seat }
+    {
+        LendingSeat {
+            seat: Some(seat),
+            places,
+            token,
+            place,
+        }
+    }
+
+    /// The seat of the lock.
+    pub fn into_seat(self) -> Seat<M>
+        ensures { result ≡ self }
+    {
+        let LendingSeat {
+            seat,
+            places: _,
+            token: _,
+            place: _,
+        } = self;
+        let Some(seat) = seat else { unreachable!() };
+        seat
+    }
+
+    fn seat(&self) -> &Seat<M>
+        ensures { result.now ≡ self.now }
+    {
+        let Some(seat) = &self.seat else {
+            unreachable!()
+        };
+        seat
+    }
+
+    /// The number of the seat.
+    pub fn number(&self) -> u32
+        ensures { result ≡ self.now.number }
+    {
+        self.seat().number()
+    }
+
+    /// Number of calls that the seat may still begin, 0 to 65536.
+    pub fn calls_left(&self) -> u32
+        ensures { result ≡ self.now.calls_left }
+    {
+        self.seat().calls_left()
+    }
+
+    /// The ticket that was drawn and is not finished.
+    pub fn pending(&self) -> Option<u64>
+        ensures { result ≡ ticket_pending self.now.pending }
+    {
+        self.seat().pending()
+    }
+
+    /// The number of tickets served, which never falls. Never waits.
+    pub fn front(&mut self, lock: &TicketLock<M>) -> u64
+        requires { self.old.lock_id ≡ lock.now.lock_id }
+        ensures seen { self.new ≡ record self.old { reached = result } }
+        ensures rises { self.old.reached ≤ result }
+        ensures own { All (λ m. m.at < result) self.old.own }
+    {
+        let Some(seat) = &mut self.seat else {
+            unreachable!()
+        };
+        seat.front(lock)
+    }
+
+    /// Draws a ticket for the call. Never waits. All later tickets wait for the `finish` of this
+    /// one.
+    ///
+    /// # Errors
+    ///
+    /// - [`CallsSpent`]: no call is left. The lock is not touched.
+    pub fn take(&mut self, lock: &TicketLock<M>, call: M::Call) -> Result<u64, CallsSpent>
+        requires lock { self.old.lock_id ≡ lock.now.lock_id }
+        requires idle { self.old.pending ≡ None }
+        ensures ok { IfOk result (λ ticket.
+            (0 < self.old.calls_left) × (self.old.reached ≤ ticket) ×
+            (self.new ≡ record self.old {
+              calls_left = self.old.calls_left - 1;
+              pending = Some (ticket, call);
+            })) }
+        ensures err { IfErr result (λ _. (self.old.calls_left ≡ 0) × (self.new ≡ self.old)) }
+    {
+        let Some(seat) = &mut self.seat else {
+            unreachable!()
+        };
+        seat.take(lock, call)
+    }
+
+    /// Makes the pending call, once all earlier tickets are served.
+    pub fn finish<R: Wait + Clock>(&mut self, rt: &R, lock: &TicketLock<M>) -> Answer<M::Reply>
+        requires lock { self.old.lock_id ≡ lock.now.lock_id }
+        requires pending { IsSome self.old.pending }
+        ensures later { self.old.reached ≤ result.at }
+        ensures made { MatchOption self.old.pending ⊥ (λ p. (result.at ≡ p.0) ×
+            (self.new ≡ record self.old {
+              pending = None;
+              reached = p.0 + 1;
+              own = self.old.own ++ made p.1 result.reply result.at ∷ [];
+            })) }
+    {
+        let Some(seat) = self.seat.take() else {
+            unreachable!()
+        };
+        let (seat, answer) = finish_or_lend(
+            rt,
+            lock,
+            &self.places.shared,
+            &mut self.token,
+            self.place,
+            seat,
+        );
+        self.seat = Some(seat);
+        answer
+    }
+
+    /// One call: `take`, then `finish`.
+    ///
+    /// # Errors
+    ///
+    /// - [`CallsSpent`]: no call is left. The lock is not touched.
+    pub fn call<R: Wait + Clock>(
+        &mut self,
+        rt: &R,
+        lock: &TicketLock<M>,
+        call: M::Call,
+    ) -> Result<Answer<M::Reply>, CallsSpent>
+        requires lock { self.old.lock_id ≡ lock.now.lock_id }
+        requires idle { self.old.pending ≡ None }
+        ensures ok { IfOk result (λ a. (0 < self.old.calls_left) × (self.old.reached ≤ a.at) ×
+            (self.new ≡ record self.old {
+              calls_left = self.old.calls_left - 1;
+              reached = a.at + 1;
+              own = self.old.own ++ made call a.reply a.at ∷ [];
+            })) }
+        ensures err { IfErr result (λ _. (self.old.calls_left ≡ 0) × (self.new ≡ self.old)) }
+    {
+        self.take(lock, call)?;
+        Ok(self.finish(rt, lock))
+    }
+}
+
+// The contents of unused places.
+fn unused<M: Machine>(alloc: Global) -> Result<Vec<Content<M>>, AllocError>
+    ensures { IfOk result (λ v. length v.items ≡ 64) }
+{
+    let mut contents = Vec::with_capacity(alloc, PLACES)?;
+    for _place in 0..PLACES {
+        contents.push_reserved(Place::Empty);
+    }
+    Ok(contents)
+}
+
+// A table of unused places, and the seat of the table that will own them all.
+fn lay<M: Machine>(alloc: Global, lock: &TicketLock<M>) -> Result<(Places<M>, Token<M>), AllocError>
+    ensures table { IfOk result (λ t. IsTable t.0.shared.table_id ×
+        (t.1.table_id ≡ t.0.shared.table_id) × (t.0.shared.key.value ≡ lock.now)) }
+    ensures fresh { IfOk result (λ t. t.1.me ≡ (stakes_from lock.now.lock_id 0 64, [])) }
+{
+    let contents = unused(alloc)?;
+    match Table::new(alloc, &[0; WORDS], contents, &Snapshot::of(lock)) {
+        Ok(laid) => Ok(laid),
+        Err(refused) => {
+            drop(refused);
+            Err(AllocError)
+        }
+    }
+}
+
+// Hands an unused place to a seat, which may lend itself from now on.
+fn lend_one<M: Machine>(
+    places: &Arc<Places<M>, Global>,
+    rest: &mut Token<M>,
+    seat: Seat<M>,
+    place: usize,
+) -> Result<LendingSeat<M>, AllocError>
+    requires table { (rest.old.table_id ≡ (arc_value places.now).shared.table_id) ×
+        IsTable rest.old.table_id }
+    requires key { (arc_value places.now).shared.key.value.lock_id ≡ seat.lock_id }
+    requires parts { rest.old.me ≡ (stakes_from seat.lock_id place (64 - place), []) }
+    requires place { place < 64 }
+    ensures table { rest.new.table_id ≡ rest.old.table_id }
+    ensures parts { rest.new.me ≡ (stakes_from seat.lock_id (place + 1) (64 - (place + 1)), []) }
+    ensures seat { IfOk result (λ s. s ≡ seat) }
+{
+    let mut token = places.shared.split_seat::<HandOut>(rest);
+    open_place(&places.shared, &mut token, place);
+    let places = Arc::try_clone(places)?;
+    Ok(LendingSeat::of(seat, places, token, place))
+}
+
+/// Makes seats of one lock lend themselves to one another. Each keeps its number, its calls and its
+/// ticket. No later call allocates.
+///
+/// # Errors
+///
+/// - [`AllocError`]: the seats are dropped.
+pub fn lend<M: Machine>(
+    alloc: Global,
+    lock: &TicketLock<M>,
+    seats: Vec<Seat<M>>,
+) -> Result<Vec<LendingSeat<M>>, AllocError>
+    requires lock { All (λ s. s.lock_id ≡ lock.now.lock_id) seats.items }
+    requires few { length seats.items ≤ MAX_SEATS }
+    ensures { IfOk result (λ v. v.items ≡ seats.items) }
+{
+    let (places, mut rest) = lay(alloc, lock)?;
+    let places = Arc::new(alloc, places)?;
+    let mut lending = Vec::with_capacity(alloc, seats.len())?;
+    for seat in seats {
+        let place = lending.len();
+        let seat = lend_one(&places, &mut rest, seat, place)?;
+        lending.push_reserved(seat);
+    }
+    Ok(lending)
+}

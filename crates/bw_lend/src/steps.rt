@@ -1,0 +1,118 @@
+//! The steps on the table of places.
+ghost use Rattle.std.specs.Prelude.{◌≡◌, ◌%◌, ◌<◌, ◌≤◌, [], ◌∷◌, drop, ℕ, IsSome, IfSome, IfNone, MatchBool};
+ghost use Rattle.bw_lend.specs.declared.stake.Part.TheVariants.{Owns, Lends, Helps, Fresh};
+ghost use Rattle.bw_lend.specs.Lent.{Brings, Returns};
+ghost use Rattle.bw_lend.specs.Rule.{stake};
+ghost use Rattle.bw_lend.specs.Parts.{IsTable, IsOwner, IsHelper};
+
+use crate::plays::{Claim, GiveBack, Hint, Open, Post, TakeBack};
+use crate::table::{
+    AWAY, CLAIMED, Content, POSTED, Place, Shared, Token, hint_of, hint_word, hinted_place,
+    returned_state, state_of,
+};
+use bw_machine::Machine;
+use bw_ticket::{Seat, TicketLock};
+use std::snapshot::Snapshot;
+
+/// Takes an unused place, which the seat of the table owns from now on.
+pub(crate) fn open_place<M: Machine>(table: &Shared<M>, token: &mut Token<M>, place: usize)
+    requires table { (token.old.table_id ≡ table.now.table_id) × IsTable table.now.table_id }
+    requires fresh { token.old.me ≡ (stake table.now.key.value.lock_id place Fresh ∷ [], []) }
+    requires place { place < 64 }
+    ensures table { token.new.table_id ≡ token.old.table_id }
+    ensures owner { IsOwner table.now.key.value.lock_id place token.new.me }
+{
+    table.store::<Open>(token, place, AWAY);
+}
+
+/// Lends the seat through its place, and hints at it.
+pub(crate) fn post<M: Machine>(
+    table: &Shared<M>,
+    token: &mut Token<M>,
+    place: usize,
+    seat: Seat<M>,
+    ticket: u64,
+)
+    requires table { (token.old.table_id ≡ table.now.table_id) × IsTable table.now.table_id }
+    requires owner { IsOwner seat.lock_id place token.old.me }
+    requires place { place < 64 }
+    requires pending { IsSome seat.pending }
+    ensures table { token.new.table_id ≡ token.old.table_id }
+    ensures lent { token.new.me ≡ (stake seat.lock_id place (Lends seat) ∷ [], []) }
+{
+    let _empty = table.exchange(token, place, Place::Lent(seat));
+    table.store::<Post>(token, place, state_of(ticket, POSTED));
+    table.store::<Hint>(token, hint_word(ticket), hint_of(ticket, place));
+}
+
+/// Takes the place back, where this seat is lent, if its state is still this one.
+pub(crate) fn take_back<M: Machine>(
+    table: &Shared<M>,
+    token: &mut Token<M>,
+    place: usize,
+    lent: &Snapshot<Seat<M>>,
+    state: u64,
+) -> Option<Content<M>>
+    requires table { (token.old.table_id ≡ table.now.table_id) × IsTable table.now.table_id }
+    requires lends { token.old.me ≡
+        (stake lent.now.value.lock_id place (Lends lent.now.value) ∷ [], []) }
+    requires place { place < 64 }
+    requires home { 3 ≤ state % 8 }
+    ensures table { token.new.table_id ≡ token.old.table_id }
+    ensures none { IfNone result (token.new.me ≡ token.old.me) }
+    ensures back { IfSome result (λ y. Returns lent.now.value y ×
+        IsOwner lent.now.value.lock_id place token.new.me) }
+{
+    let _ = lent;
+    let found = table.compare_exchange::<TakeBack>(token, place, state, AWAY);
+    if found != state {
+        return None;
+    }
+    Some(table.exchange(token, place, Place::Empty))
+}
+
+/// Takes the place where the seat of the ticket is lent, if it is.
+pub(crate) fn claim<M: Machine>(
+    lock: &TicketLock<M>,
+    table: &Shared<M>,
+    token: &mut Token<M>,
+    place: usize,
+    ticket: u64,
+) -> bool
+    requires table { (token.old.table_id ≡ table.now.table_id) × IsTable table.now.table_id }
+    requires owner { (mine : _) × IsOwner lock.now.lock_id mine token.old.me }
+    requires place { place < 64 }
+    ensures table { token.new.table_id ≡ token.old.table_id }
+    ensures claimed { MatchBool result
+        (IsHelper lock.now.lock_id place token.old.me token.new.me)
+        (token.new.me ≡ token.old.me) }
+{
+    let posted = state_of(ticket, POSTED);
+    let found = table.compare_exchange::<Claim>(token, place, posted, state_of(ticket, CLAIMED));
+    found == posted
+}
+
+/// Gives the place of another seat back, with the seat that was lent in it.
+pub(crate) fn give_back<M: Machine>(
+    table: &Shared<M>,
+    token: &mut Token<M>,
+    place: usize,
+    ticket: u64,
+    made: bool,
+)
+    requires table { (token.old.table_id ≡ table.now.table_id) × IsTable table.now.table_id }
+    requires helper { (lock : _) × (before : _) × IsHelper lock place before token.old.me }
+    requires place { place < 64 }
+    ensures table { token.new.table_id ≡ token.old.table_id }
+    ensures back { token.new.me ≡ (drop 1 token.old.me.0, drop 1 token.old.me.1) }
+{
+    table.store::<GiveBack>(token, place, returned_state(ticket, made));
+}
+
+/// The place where the seat of the ticket is lent, as far as its hint tells.
+pub(crate) fn hinted<M: Machine>(table: &Shared<M>, ticket: u64) -> Option<usize>
+    requires { IsTable table.now.table_id }
+    ensures { IfSome result (λ place. place < 64) }
+{
+    hinted_place(table.peek(hint_word(ticket)), ticket)
+}
