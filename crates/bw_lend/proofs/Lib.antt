@@ -4,3 +4,17 @@ pub mod Moved
 pub mod Kept
 pub mod Handed
 pub mod Finished
+mod CrowdInvariant
+mod CrowdKept
+mod CrowdWalks
+mod CrowdErrands
+mod CrowdHands
+mod CrowdLeaves
+mod CrowdTurns
+mod CrowdRuns
+mod CrowdGoesOn
+mod CrowdEffects
+mod CrowdStages
+mod CrowdRaises
+mod CrowdComes
+mod CrowdRises

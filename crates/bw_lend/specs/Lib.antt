@@ -3,3 +3,6 @@ pub mod Lent
 pub mod Rule
 pub mod Plays
 pub mod Parts
+pub mod Crowd
+pub mod CrowdLaws
+pub mod CrowdRounds

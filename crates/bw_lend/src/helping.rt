@@ -83,8 +83,18 @@ fn make_at<M: Machine, R: Wait + Clock>(
     made
 }
 
-// Makes the call of the ticket, if its seat is lent, or gives the seat back as it is. Returns the
-// place.
+// Wakes the owner of a place at once whose call is not made: its ticket is served, and all wait.
+fn wake_unmade<M: Machine>(table: &Shared<M>, place: usize, made: bool)
+    requires table { IsTable table.now.table_id }
+    requires place { place < 64 }
+{
+    if !made {
+        table.wake_one(place);
+    }
+}
+
+// Makes the call of the ticket, if its seat is lent, or gives the seat back as it is and wakes its
+// owner. Returns the place.
 fn help_one<M: Machine, R: Wait + Clock>(
     rt: &R,
     lock: &TicketLock<M>,
@@ -105,6 +115,7 @@ fn help_one<M: Machine, R: Wait + Clock>(
     }
     let made = make_at(rt, lock, table, token, place, makes);
     give_back(table, token, place, ticket, made);
+    wake_unmade(table, place, made);
     Some(place)
 }
 

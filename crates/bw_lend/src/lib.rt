@@ -8,6 +8,7 @@
 //! Each call keeps the contract that it has without lending.
 #![tactic(auto)]
 
+mod crowd_laws;
 mod helping;
 mod lending;
 mod plays;
@@ -16,4 +17,9 @@ mod stake;
 mod steps;
 mod table;
 
+pub use crowd_laws::{
+    at_most_one_is_inside, awake_lent_seats_can_step, drawn_tickets_are_left,
+    no_lent_seat_is_stuck, no_lent_wake_is_lost, only_the_served_ticket_is_inside,
+    seventeen_rounds_raise_serving,
+};
 pub use seat::{LendingSeat, lend};

@@ -1,0 +1,56 @@
+//! Laws of lent seats: each is the contract of a function that does nothing.
+ghost use Rattle.bw_lend.specs.CrowdLaws.{NoWakeIsLost, NoneIsStuck, AwakeSeatsCanStep};
+ghost use Rattle.bw_lend.specs.CrowdLaws.{OnlyTheServedTicketIsInside, AtMostOneIsInside};
+ghost use Rattle.bw_lend.specs.CrowdRounds.{SeventeenRoundsRaiseServing, DrawnTicketsAreLeft};
+
+/// A seat that sleeps has its wake under way.
+///
+/// While nobody has claimed it and its ticket is served, a seat comes for it. Who has claimed it
+/// holds it, and who has given it back owes it a wake. The law assumes a hint word for each seat.
+pub fn no_lent_wake_is_lost()
+    ensures { NoWakeIsLost }
+{}
+
+/// While a ticket is drawn and not yet left, some seat is neither idle nor asleep.
+///
+/// The law assumes a hint word for each seat.
+pub fn no_lent_seat_is_stuck()
+    ensures { NoneIsStuck }
+{}
+
+/// In every state, a seat that is neither idle nor asleep can make an event.
+pub fn awake_lent_seats_can_step()
+    ensures { AwakeSeatsCanStep }
+{}
+
+/// Only a seat with the ticket that is served is inside, and it is there for the seat that drew it.
+///
+/// The law assumes a hint word for each seat.
+pub fn only_the_served_ticket_is_inside()
+    ensures { OnlyTheServedTicketIsInside }
+{}
+
+/// At most one seat is inside, for itself or for another.
+///
+/// The law assumes a hint word for each seat.
+pub fn at_most_one_is_inside()
+    ensures { AtMostOneIsInside }
+{}
+
+/// Seventeen rounds raise the ticket that is served, in each state where it is drawn.
+///
+/// A round is a list of events in which each seat that is neither idle nor asleep at its beginning
+/// makes one. Tickets may be drawn in it, and seats may wake without a wake. The law assumes a hint
+/// word for each seat. It holds for every number of seats, and of calls in one visit.
+pub fn seventeen_rounds_raise_serving()
+    ensures { SeventeenRoundsRaiseServing }
+{}
+
+/// Each drawn ticket is served and left within seventeen rounds for itself and for each ticket
+/// before it that is not yet left.
+///
+/// The law assumes a hint word for each seat. It leaves to the system that rounds are made: that
+/// each thread runs which can run.
+pub fn drawn_tickets_are_left()
+    ensures { DrawnTicketsAreLeft }
+{}
