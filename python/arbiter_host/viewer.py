@@ -108,14 +108,14 @@ class Viewer(live.Screen):
         elif key in ("-", "+", "\r", "\n") and groups:
             self.fold(groups[at], key)
         elif key in ("s", "f", "a"):
-            self.keys.take(key, 0)
+            self.keys.take(key)
 
     def draw(self, letters: str = "") -> None:
         """Takes keys, and shows the round."""
         for found in SEQUENCE.findall(letters):
             key = SAME.get(found[1:], found) if found[0] == "\x1b" else found
             if key in live.ENDS and not self.is_typing:
-                self.keys.take(key, 0)
+                self.keys.take(key)
             elif self.plan is not None:
                 self.take(self.plan, key)
         if self.plan is not None:

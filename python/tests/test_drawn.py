@@ -480,18 +480,15 @@ def test_history_of_top(engine):
 
 @pytest.mark.parametrize("letters, view", [
     ("", {}), ("s", {"sort": "lack"}), ("s" * 6, {}), ("f", {"only": ("starved",)}),
-    ("-", {"depth": 2}), ("---+", {"depth": 1}), ("-" * 9, {"depth": 0}),
     ("a", {"everything": True}), ("xsz", {"sort": "lack"}),
-    # There is no more to unfold than there is room for, so one `-` folds again.
-    ("++++", {"depth": 4}), ("++++-", {"depth": 2}),
 ])
 def test_keys_of_top(letters, view):
     keys = live.Keys()
     for letter in letters:
-        keys.take(letter, 3)
+        keys.take(letter)
     assert keys.view(explain.View()) == explain.View()._replace(**view)
     assert not keys.is_ended
-    keys.take("q", 3)
+    keys.take("q")
     assert keys.is_ended
 
 
