@@ -37,6 +37,10 @@ impl Owners {
     {
         self.set >> place & 1 == 1
     }
+
+    fn is_none(self) -> bool {
+        self.set == 0
+    }
 }
 
 // Makes the pending call of a lent seat.
@@ -144,6 +148,20 @@ fn help_next<M: Machine, R: Wait + Clock>(
     owners
 }
 
+// Wakes the owners. Most visits have none.
+fn wake_all<M: Machine>(table: &Shared<M>, owners: Owners)
+    requires { IsTable table.now.table_id }
+{
+    if owners.is_none() {
+        return;
+    }
+    for place in 0..PLACES {
+        if owners.has(place) {
+            table.wake_one(place);
+        }
+    }
+}
+
 /// Makes the calls of the tickets after `served` that are lent, and then wakes their owners.
 ///
 /// After 64 calls the next seat goes back as it is. Its owner makes its call, and helps on.
@@ -160,9 +178,5 @@ pub(crate) fn help<M: Machine, R: Wait + Clock>(
     ensures same { token.new.me ≡ token.old.me }
 {
     let owners = help_next(rt, lock, table, token, served);
-    for place in 0..PLACES {
-        if owners.has(place) {
-            table.wake_one(place);
-        }
-    }
+    wake_all(table, owners);
 }
