@@ -202,7 +202,7 @@ int main(void)
     /* A quota of 10 slices and a burst of 5: with 6 left of the last period the next has 15. */
     if (arbiter_period_limit(1, 100000, 5000, 999, 999, 0, 0, &slices) != 13 || arbiter_period_limit(1, 100000, 5000, 50000, 999, UINT64_MAX, 0, &slices) != 15)
         return 56;
-    if (arbiter_period_limit(1, 100000, 5000, 50000, 100000, UINT64_MAX, 0, &slices) != 14 || slices != 2)
+    if (arbiter_period_limit(1, 100000, 5000, 50000, 100000, UINT64_MAX, 0, &slices) != 14 || slices != 7)
         return 57;
     if (arbiter_period_limit(1, 100000, 5000, 50000, 100000, 25000, 6, &slices) != 0 || slices != 15)
         return 58;

@@ -105,7 +105,9 @@ def of_no_tree():
     yield from (("check_text", (each,)) for each in
                 (text, text.replace(b"13 0", b"14 0"), text[:-9], text + b"\n", b"", b"\xff\0"))
     for host in (*HOSTS, *NO_HOSTS):
-        yield from (("demand", (host, number)) for number in (0, 1, 999, 1500, 10**9, MOST))
+        yield "planned_host", (host,)
+        yield from (("demand", (host, number, denominator)) for denominator in (0, 3, 1000)
+                    for number in (0, 1, 999, 1500, 10**9, MOST))
         yield from (("slices", (host, number, period)) for number in (0, 4999, 5000, 10**15, MOST)
                     for period in (100000, 1000, 999))
         yield from (("period_limit", (host, quota, 100000, 5000, 3))
