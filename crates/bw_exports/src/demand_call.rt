@@ -16,8 +16,8 @@ use bw_model::{HostShape, InstanceFault};
 /// The answer is 0 if `slices` is written. A refusal leaves it unchanged.
 ///
 /// # Errors
-/// The answer is the number of the first refusal: 1 to 3 of the host, 11 if the denominator is 0, or
-/// 9 if the demand takes more than 1000000 slices.
+/// The answer is the number of the first refusal: 1 to 3 of the host, 11 if the denominator is 0,
+/// or 9 if the demand takes more than 1000000 slices.
 #[unsafe(no_mangle)]
 pub extern "C" fn arbiter_demand(
     processors: u64,

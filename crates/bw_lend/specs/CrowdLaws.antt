@@ -43,8 +43,8 @@ Comes _ t i = ⊥
 abbrev pub SomeoneComes : Crowd → ℕ → ℕ → Type 0
 SomeoneComes s t i = (h : ℕ) × Comes (s.phase h) t i
 
--- The wake under way for the seat i, which sleeps with the ticket t, by the word of its place. While
--- nobody has claimed it, its ticket is not left; if it is served, someone comes. Who has claimed it
+-- The wake under way for the seat i, which sleeps with the ticket t, by the word of its place.
+-- While nobody has claimed it, its ticket is not left; if it is served, someone comes. Who has claimed it
 -- holds it. Once it is back, who gave it back owes it a wake; if its call is not made, that wake is
 -- the next.
 abbrev pub WakeIsUnderWay : Crowd → ℕ → ℕ → Place → Type 0

@@ -1,5 +1,6 @@
 //! Seats that may lend themselves.
-ghost use Rattle.std.specs.Prelude.{◌≡◌, ◌+◌, ◌-◌, ◌<◌, ◌≤◌, ◌∷◌, [], ◌++◌, All, None, Some, length};
+ghost use Rattle.std.specs.Prelude.{◌≡◌, ◌+◌, ◌-◌, ◌<◌, ◌≤◌, ◌∷◌, [], ◌++◌};
+ghost use Rattle.std.specs.Prelude.{All, None, Some, length};
 ghost use Rattle.std.specs.Prelude.{IfOk, IfErr, IsSome, MatchOption};
 ghost use Rattle.bw_machine.specs.History.{made};
 ghost use Rattle.bw_ticket.specs.Holder.{ticket_pending};
@@ -21,8 +22,8 @@ use std::rt::Clock;
 use std::snapshot::Snapshot;
 use std::sync::{Arc, Wait};
 
-/// A seat of a ticket lock that lends itself while it waits. One thread holds it at a time. Contracts
-/// see it as the seat of the lock.
+/// A seat of a ticket lock that lends itself while it waits. One thread holds it at a time.
+/// Contracts see it as the seat of the lock.
 #[derive(Drop)]
 pub struct LendingSeat<M: Machine> {
     // none only while it is lent

@@ -1,5 +1,6 @@
 //! The steps on the table of places.
-ghost use Rattle.std.specs.Prelude.{◌≡◌, ◌%◌, ◌<◌, ◌≤◌, [], ◌∷◌, drop, ℕ, IsSome, IfSome, IfNone, MatchBool};
+ghost use Rattle.std.specs.Prelude.{◌≡◌, ◌%◌, ◌<◌, ◌≤◌, [], ◌∷◌, drop, ℕ};
+ghost use Rattle.std.specs.Prelude.{IsSome, IfSome, IfNone, MatchBool};
 ghost use Rattle.bw_lend.specs.declared.stake.Part.TheVariants.{Owns, Lends, Helps, Fresh};
 ghost use Rattle.bw_lend.specs.Lent.{Brings, Returns};
 ghost use Rattle.bw_lend.specs.Rule.{stake};
