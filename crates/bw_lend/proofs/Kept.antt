@@ -1,14 +1,14 @@
 -- What each step on the table of places requires: whatever the table is, the step keeps the rule,
 -- and tells what its play says.
-use Rattle.std.proofs.Common.{◌≡◌, ◌≢◌, ℕ, zero, suc, ◌+◌, ◌^◌, ◌%◌, ◌<◌, ◌≤◌, ◌==◌, List, [], ◌∷◌}
+use Rattle.std.proofs.Common.{◌≡◌, ◌≢◌, ℕ, zero, suc, ◌+◌, ◌%◌, ◌<◌, ◌≤◌, ◌==◌, List, [], ◌∷◌}
 use Rattle.std.proofs.Common.{◌++◌, length, set, slice_index, refl, sym, ap, ◌∙◌, subst, arith}
-use Rattle.std.proofs.Common.{IsSome, None, replicate, map, if◌then◌else◌, eq-eqb, ne_eqb, ⊎_elim, ◌⊎◌}
+use Rattle.std.proofs.Common.{IsSome, None, replicate, if◌then◌else◌, eq-eqb, ne_eqb, ⊎_elim}
 use Rattle.std.proofs.lemmas.List.{length-set, length-replicate}
-use mathlib.Core.Option.{Option, none, some, some-ne-none}
+use mathlib.Core.Option.{none, some, some-ne-none}
 use lib.ListN.{get_elem?}
 use prog.Atomic.{either}
 use Rattle.atomic_table.specs.Seated.{TableId}
-use Rattle.atomic_table.specs.Table.{State, Me, Act, step, keeps, takes, gives, Valid, stepped}
+use Rattle.atomic_table.specs.Table.{State, Act, step, keeps, takes, gives, Valid, stepped}
 use Rattle.atomic_table.specs.Table.{carried_after, Allows, Splits, opening}
 use Rattle.atomic_table.proofs.Lists.{set_here, set_else, set_again, at_snoc, some_there, exchanged}
 use Rattle.bw_ticket.specs.Holder.{Holder}
@@ -18,7 +18,7 @@ use Rattle.bw_wake.proofs.CallerLemmas.{index_here, index_else}
 use Rattle.bw_lend.specs.declared.stake.Part.{Part}
 use Rattle.bw_lend.specs.declared.stake.Part.TheVariants.{Fresh, Owns, Lends, Helps}
 use Rattle.bw_lend.specs.declared.stake.Stake.{Stake}
-use Rattle.bw_lend.specs.declared.table.Place.TheVariants.{Empty, Lent, Made}
+use Rattle.bw_lend.specs.declared.table.Place.TheVariants.{Lent}
 use Rattle.bw_lend.specs.Lent.{Brings, Content}
 use Rattle.bw_lend.specs.Rule.{weigh, weigh_all, Each, EachIn, stake, stakes_from}
 use Rattle.bw_lend.specs.Rule.{helper_at, owns, helps, Suits, Fits, Ruled}

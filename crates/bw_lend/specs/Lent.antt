@@ -1,5 +1,5 @@
 -- A seat that was lent, and what comes back.
-use Rattle.std.specs.Prelude.{◌≡◌, ℕ, ◌+◌, ◌≤◌, List, [], ◌∷◌, ◌++◌, None, IsSome, MatchOption}
+use Rattle.std.specs.Prelude.{◌≡◌, ◌+◌, ◌≤◌, [], ◌∷◌, ◌++◌, None, IsSome, MatchOption}
 use Rattle.atomic_table.specs.Seated.{TableId}
 use Rattle.bw_machine.specs.History.{made}
 use Rattle.bw_ticket.specs.Holder.{Holder}

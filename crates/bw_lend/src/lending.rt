@@ -18,11 +18,19 @@ use std::sync::Wait;
 // Greatest number of looks before a seat lends itself.
 const LOOKS: u32 = 50;
 
-// Looks whether the ticket is served, some times.
+// Greatest number of tickets ahead at which a seat looks again. With more ahead it lends itself at
+// once, so that few seats look at the lock's words.
+const NEAR: u64 = 1;
+
+// Looks whether the ticket is served, some times while it is the next one.
 fn is_served_soon<M: Machine>(lock: &TicketLock<M>, ticket: u64) -> bool {
     for _look in 0..LOOKS {
-        if lock.served() == ticket {
+        let ahead = ticket.saturating_sub(lock.served());
+        if ahead == 0 {
             return true;
+        }
+        if ahead > NEAR {
+            return false;
         }
         spin_loop();
     }
