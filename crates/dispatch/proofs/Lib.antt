@@ -1,0 +1,4 @@
+-- The files of lemmas.
+mod Counts
+mod Happens
+mod Leads

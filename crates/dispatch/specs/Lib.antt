@@ -1,0 +1,3 @@
+-- The files of definitions.
+pub mod Rule
+pub mod Runs

@@ -1,0 +1,78 @@
+-- Runs of the dispatcher from a common start, and what the rule promises of them. A use and a lead
+-- are in nanoseconds. No promise divides: a use over an amount is compared by products.
+use Rattle.std.specs.Prelude.{◌≡◌, ◌≢◌, ℕ, ◌+◌, ◌-◌, ◌*◌, ◌<◌, ◌≤◌, ◌==◌, Bool, List, [], ◌∷◌, length}
+use Rattle.std.specs.Prelude.{Option, None, Some, slice_get, if◌then◌else◌}
+use Rattle.std.specs.List.{sum_by, All}
+use Rattle.dispatch.specs.declared.leaves.Leaf.{Leaf}
+use Rattle.dispatch.specs.declared.events.Event.{Event}
+use Rattle.dispatch.specs.declared.events.Event.TheVariants.{Wake, Pick, End}
+use Rattle.dispatch.specs.Rule.{DispatchState, leaf_at, after, Allows}
+
+-- 1 if the processor runs a task of the leaf
+abbrev pub one_run : ℕ → Option ℕ → ℕ
+one_run i None = 0
+one_run i (Some k) = if k == i then 1 else 0
+
+-- the number of processors that run a task of the leaf
+abbrev pub runs_of : ℕ → List (Option ℕ) → ℕ
+runs_of i [] = 0
+runs_of i (q ∷ qs) = one_run i q + runs_of i qs
+
+-- A common start: all clocks are 0, nothing is used, and no processor runs a task. Tasks may wait.
+pub record IsStart (s : DispatchState) : Type 0 where
+  pub clocks : (k : ℕ) → (leaf_at s k).charged ≡ 0
+  pub uses : (k : ℕ) → (leaf_at s k).used ≡ 0
+  pub free : (k : ℕ) → runs_of k s.processors ≡ 0
+
+-- the state after all events
+abbrev pub after_all : DispatchState → List Event → DispatchState
+after_all s [] = s
+after_all s (e ∷ es) = after_all (after s e) es
+
+-- a task that ends its run has used at most this time
+abbrev pub UsesAtMost : ℕ → Event → Type 0
+UsesAtMost most (Wake i tasks) = Unit {0}
+UsesAtMost most (Pick p i) = Unit {0}
+UsesAtMost most (End p used remains) = used ≤ most
+
+-- the rule allows each event, and no task runs longer than the slice and this overrun
+abbrev pub IsRun : ℕ → DispatchState → List Event → Type 0
+IsRun overrun s [] = Unit {0}
+IsRun overrun s (e ∷ es) =
+    Allows s e × UsesAtMost (s.slice + overrun) e × IsRun overrun (after s e) es
+
+-- at a pick the leaf has a waiting task, and a wake does not lift it
+abbrev pub WaitsAt : ℕ → DispatchState → Event → Type 0
+WaitsAt j s (Wake i tasks) =
+    (leaf_at (after s (Wake i tasks)) j).charged ≡ (leaf_at s j).charged
+WaitsAt j s (Pick p i) = 0 < (leaf_at s j).waiting
+WaitsAt j s (End p used remains) = Unit {0}
+
+-- the leaf has a waiting task at each pick of the run, and is never lifted
+abbrev pub WaitsThroughout : ℕ → DispatchState → List Event → Type 0
+WaitsThroughout j s [] = Unit {0}
+WaitsThroughout j s (e ∷ es) = WaitsAt j s e × WaitsThroughout j (after s e) es
+
+-- A leaf of amount a may be ahead of one of amount b that waits throughout by one slice of its own,
+-- and by the slices of the other that run on all processors but one. An overrun counts for each
+-- processor. All is times both amounts.
+abbrev pub most_ahead : (slice overrun processors a b : ℕ) → ℕ
+most_ahead slice overrun processors a b =
+    slice * b + (processors - 1) * (slice * a) + processors * (overrun * b)
+
+-- what the leaf has used, and what its running tasks may still use
+abbrev pub use_at_most : ℕ → DispatchState → ℕ → ℕ
+use_at_most overrun s i =
+    (leaf_at s i).used + (s.slice + overrun) * runs_of i s.processors
+
+-- No leaf gets far ahead of one that waits throughout, whatever the others do: used_i / a_i is at
+-- most used_j / a_j + slice / a_i + (processors - 1) * slice / a_j, where no task overruns its
+-- slice. It holds even if the running tasks of i have used all that they may, and those of j
+-- nothing.
+abbrev pub LeadIsBounded : Type 0
+LeadIsBounded = (s : DispatchState) (overrun i j : ℕ) (events : List Event) → IsStart s
+    → IsRun overrun s events → j < length s.leaves → WaitsThroughout j s events → i ≢ j →
+    let t = after_all s events in
+    let a = (leaf_at s i).amount in let b = (leaf_at s j).amount in
+    use_at_most overrun t i * b
+    ≤ (leaf_at t j).used * a + most_ahead s.slice overrun (length s.processors) a b
