@@ -2,3 +2,4 @@
 mod Counts
 mod Happens
 mod Leads
+mod Lines

@@ -1,3 +1,6 @@
 -- The files of definitions.
+pub mod Faults
+pub mod Input
+pub mod Replay
 pub mod Rule
 pub mod Runs

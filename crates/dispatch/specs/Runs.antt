@@ -6,7 +6,7 @@ use Rattle.std.specs.List.{sum_by, All}
 use Rattle.dispatch.specs.declared.leaves.Leaf.{Leaf}
 use Rattle.dispatch.specs.declared.events.Event.{Event}
 use Rattle.dispatch.specs.declared.events.Event.TheVariants.{Wake, Pick, End}
-use Rattle.dispatch.specs.Rule.{DispatchState, leaf_at, after, Allows}
+use Rattle.dispatch.specs.Rule.{DispatchState, leaf_at, after, Allows, MayPick}
 
 -- 1 if the processor runs a task of the leaf
 abbrev pub one_run : ℕ → Option ℕ → ℕ
@@ -76,3 +76,52 @@ LeadIsBounded = (s : DispatchState) (overrun i j : ℕ) (events : List Event) �
     let a = (leaf_at s i).amount in let b = (leaf_at s j).amount in
     use_at_most overrun t i * b
     ≤ (leaf_at t j).used * a + most_ahead s.slice overrun (length s.processors) a b
+
+-- the use of all leaves together
+abbrev pub used_by_all : DispatchState → ℕ
+used_by_all s = sum_by (λ l. l.used) s.leaves
+
+-- the amounts of all leaves together
+abbrev pub amount_of_all : DispatchState → ℕ
+amount_of_all s = sum_by (λ l. l.amount) s.leaves
+
+-- A leaf of amount b may be short by its part of a slice for each other leaf, and by a slice for each
+-- processor but one, in the others' part. An overrun counts for each other leaf and processor. All is
+-- times the amounts of all.
+abbrev pub most_short : (slice overrun processors leaves all b : ℕ) → ℕ
+most_short slice overrun processors leaves all b =
+    (leaves - 1) * (slice * b) + (processors - 1) * (slice * (all - b))
+    + (leaves - 1) * (processors * (overrun * b))
+
+-- A leaf that waits throughout has at least its part of the use of all, but for this, whatever the
+-- others do.
+abbrev pub ShareIsKept : Type 0
+ShareIsKept = (s : DispatchState) (overrun j : ℕ) (events : List Event) → IsStart s
+    → IsRun overrun s events → j < length s.leaves → WaitsThroughout j s events →
+    let t = after_all s events in
+    let b = (leaf_at t j).amount in let all = amount_of_all t in
+    used_by_all t * b
+    ≤ (leaf_at t j).used * all
+    + most_short s.slice overrun (length s.processors) (length s.leaves) all b
+
+-- each leaf has an amount
+abbrev pub AreAmounts : DispatchState → Type 0
+AreAmounts s = (k : ℕ) → k < length s.leaves → 0 < (leaf_at s k).amount
+
+-- No processor idles while a leaf waits: a free processor may take a task then, and nothing but a
+-- pick may be the next event of a free processor.
+pub record NoProcessorIdles : Type 0 where
+  pub may_pick : (s : DispatchState) (p k : ℕ) → AreAmounts s
+      → slice_get s.processors p ≡ Some None → 0 < (leaf_at s k).waiting → (i : ℕ) × MayPick s p i
+  pub only_a_pick : (s : DispatchState) (p used : ℕ) (remains : Bool)
+      → slice_get s.processors p ≡ Some None → Allows s (End p used remains) → ⊥
+
+-- Of a level, num / den of use for each unit of amount: no leaf that has reached it is picked while a
+-- leaf waits that is short of it, even if its running tasks use their slices.
+abbrev pub NoneIsPickedPastItsPlan : Type 0
+NoneIsPickedPastItsPlan = (s : DispatchState) (overrun j p i num den : ℕ) (events : List Event)
+    → IsStart s → AreAmounts s → IsRun overrun s events → j < length s.leaves
+    → WaitsThroughout j s events →
+    let t = after_all s events in
+    0 < (leaf_at t j).waiting → use_at_most 0 t j * den < num * (leaf_at t j).amount
+    → MayPick t p i → (leaf_at t i).used * den < num * (leaf_at t i).amount

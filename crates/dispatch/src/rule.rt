@@ -82,16 +82,16 @@ impl Dispatcher {
         Ok(())
     }
 
-    /// Adds a processor that is free.
+    /// Sets the number of processors. All are free.
     ///
     /// # Errors
     ///
     /// `AllocError` if an allocation failed.
-    pub fn add_processor(&mut self) -> Result<(), AllocError>
+    pub fn set_processors(&mut self, alloc: Global, count: u64) -> Result<(), AllocError>
         ensures { OnOk result (self.new
-            ≡ record self.old { processors = self.old.processors ++ None ∷ [] }) }
+            ≡ record self.old { processors = replicate count None }) }
     {
-        self.processors.push(None)?;
+        self.processors = vec![in alloc; None; count as usize]?;
         Ok(())
     }
 
