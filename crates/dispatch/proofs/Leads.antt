@@ -21,6 +21,13 @@ apart k x is e =
     let t : (x == x) ≡ true = eq-eqb x x refl in
     absurd (let clash : true ≡ false = sym t ∙ f in cc clash)
 
+-- by whether two indexes are one
+pub by_index : (P : ℕ → Type 0) (i j : ℕ) → P j → (i ≢ j → P i) → P i
+by_index P i j same other = by_test (i == j) refl where
+  by_test : (b : Bool) → (i == j) ≡ b → P i
+  by_test true is = subst P (sym (eqb-true i j is)) same
+  by_test false is = other (apart i j is)
+
 -- a leaf after one at an index was set
 pub leaf_set : (ls : List Leaf) (k x : ℕ) (l d : Leaf) → k < length ls
     → ((x ≡ k) × (get_or (slice_set ls k l) x d ≡ l))
@@ -61,18 +68,18 @@ lead_ended ui ri used b slice overrun most short before =
 -- ---- states
 
 -- what holds of the uses, the runs and the charges of a leaf i and of one j that waits
-record Numbers (slice overrun processors a b ui ri ci uj rj cj : ℕ) : Type 0 where
-  charge_i : ui + slice * ri ≤ ci
-  charge_j : cj ≡ uj + slice * rj
-  lead : (ui + (slice + overrun) * ri) * b ≤ uj * a + most_ahead slice overrun processors a b
+pub record Numbers (slice overrun processors a b ui ri ci uj rj cj : ℕ) : Type 0 where
+  pub charge_i : ui + slice * ri ≤ ci
+  pub charge_j : cj ≡ uj + slice * rj
+  pub lead : (ui + (slice + overrun) * ri) * b ≤ uj * a + most_ahead slice overrun processors a b
 
 -- what holds of each state of a run
-record Leads (slice overrun processors a b i j : ℕ) (t : DispatchState) : Type 0 where
-  slice_is : t.slice ≡ slice
-  processors_are : length t.processors ≡ processors
-  amount_i : (leaf_at t i).amount ≡ a
-  amount_j : (leaf_at t j).amount ≡ b
-  numbers : Numbers slice overrun processors a b
+pub record Leads (slice overrun processors a b i j : ℕ) (t : DispatchState) : Type 0 where
+  pub slice_is : t.slice ≡ slice
+  pub processors_are : length t.processors ≡ processors
+  pub amount_i : (leaf_at t i).amount ≡ a
+  pub amount_j : (leaf_at t j).amount ≡ b
+  pub numbers : Numbers slice overrun processors a b
       (leaf_at t i).used (runs_of i t.processors) (leaf_at t i).charged
       (leaf_at t j).used (runs_of j t.processors) (leaf_at t j).charged
 
@@ -202,7 +209,7 @@ record IsNotPicked (s : DispatchState) (p k x : ℕ) : Type 0 where
 
 by_pick : (s : DispatchState) (p k x : ℕ) → MayPick s p k
     → IsPicked s p k x ⊎ IsNotPicked s p k x
-by_pick s p k x may = by_case (leaf_set s.leaves k x w (new_leaf 0) may.known) where
+by_pick s p k x may = by_case (leaf_set s.leaves k x w (new_leaf 0) may.leaf.known) where
   w : Leaf
   w = picked s.slice (leaf_at s k)
   count : runs_of x (slice_set s.processors p (Some k)) + 0
@@ -320,7 +327,7 @@ module _ (slice overrun processors a b i j : ℕ) (ne : i ≢ j) where
             (subst (λ (n : ℕ). (leaf_at s i).charged * (leaf_at s j).amount
             ≤ (leaf_at s j).charged * n) l.amount_i
             (subst (λ (x : ℕ). (leaf_at s x).charged * (leaf_at s j).amount
-            ≤ (leaf_at s j).charged * (leaf_at s x).amount) c.same (may.least j waits))) in
+            ≤ (leaf_at s j).charged * (leaf_at s x).amount) c.same (may.leaf.least j waits))) in
         record {
           slice_is = l.slice_is;
           processors_are = procs;
@@ -441,12 +448,46 @@ starts s overrun i j start = record {
       });
 }
 
+pub leads_of : (s : DispatchState) (overrun i j : ℕ) (events : List Event) → IsStart s
+    → IsRun overrun s events → WaitsThroughout j s events → i ≢ j
+    → Leads s.slice overrun (length s.processors) (leaf_at s i).amount (leaf_at s j).amount i j
+    (after_all s events)
+leads_of s overrun i j events start run waits ne =
+    run_keeps s.slice overrun (length s.processors) (leaf_at s i).amount
+    (leaf_at s j).amount i j ne s events run waits (starts s overrun i j start)
+
 pub lead_is_bounded : LeadIsBounded
 lead_is_bounded s overrun i j events start run known waits ne =
-    let l = run_keeps s.slice overrun (length s.processors) (leaf_at s i).amount
-        (leaf_at s j).amount i j ne s events run waits (starts s overrun i j start) in
+    let l = leads_of s overrun i j events start run waits ne in
     let t = after_all s events in
-    subst (λ (n : ℕ). ((leaf_at t i).used + (n + overrun) * runs_of i t.processors)
+    subst (λ (a : ℕ). ((leaf_at t i).used + (t.slice + overrun) * runs_of i t.processors)
+    * (leaf_at t j).amount ≤ (leaf_at t j).used * a
+    + most_ahead s.slice overrun (length s.processors) a (leaf_at t j).amount) (sym l.amount_i)
+    (subst (λ (b : ℕ). ((leaf_at t i).used + (t.slice + overrun) * runs_of i t.processors) * b
+    ≤ (leaf_at t j).used * (leaf_at s i).amount
+    + most_ahead s.slice overrun (length s.processors) (leaf_at s i).amount b) (sym l.amount_j)
+    (subst (λ (n : ℕ). ((leaf_at t i).used + (n + overrun) * runs_of i t.processors)
     * (leaf_at s j).amount ≤ (leaf_at t j).used * (leaf_at s i).amount
     + most_ahead s.slice overrun (length s.processors) (leaf_at s i).amount (leaf_at s j).amount)
-    (sym l.slice_is) l.numbers.lead
+    (sym l.slice_is) l.numbers.lead))
+
+-- ---- the number of leaves
+
+leaves_at_end : (s : DispatchState) (p used : ℕ) (remains : Bool) → Runs s p
+    → length (after s (End p used remains)).leaves ≡ length s.leaves
+leaves_at_end s p used remains on =
+    ap (λ (u : DispatchState). length u.leaves) (end_state s p used remains on.leaf on.runs)
+    ∙ length_set s.leaves on.leaf (ended s.slice used remains (leaf_at s on.leaf))
+
+leaves_after : (s : DispatchState) (e : Event) → Allows s e
+    → length (after s e).leaves ≡ length s.leaves
+leaves_after s (Wake k tasks) may =
+    length_set s.leaves k (woken s.leaves tasks (leaf_at s k))
+leaves_after s (Pick p k) may = length_set s.leaves k (picked s.slice (leaf_at s k))
+leaves_after s (End p used remains) may = leaves_at_end s p used remains may
+
+pub leaves_kept : (s : DispatchState) (overrun : ℕ) (es : List Event) → IsRun overrun s es
+    → length (after_all s es).leaves ≡ length s.leaves
+leaves_kept s overrun [] run = refl
+leaves_kept s overrun (e ∷ es) run =
+    leaves_kept (after s e) overrun es run.2 ∙ leaves_after s e run.0

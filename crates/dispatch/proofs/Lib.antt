@@ -2,4 +2,7 @@
 mod Counts
 mod Happens
 mod Leads
+mod Least
 mod Lines
+mod Plans
+mod Shares

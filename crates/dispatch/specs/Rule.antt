@@ -111,13 +111,22 @@ after s (Wake i tasks) = with_leaf s i (woken s.leaves tasks (leaf_at s i))
 after s (Pick p i) = state_picked s p i
 after s (End p used remains) = state_ended s p used remains (slice_get s.processors p)
 
+-- The leaf has a waiting task, and no leaf that has one has a lesser clock.
+pub record IsLeast (ls : List Leaf) (i : ℕ) : Type 0 where
+  pub known : i < length ls
+  pub waits : 0 < (get_or ls i (new_leaf 0)).waiting
+  pub least : (k : ℕ) → 0 < (get_or ls k (new_leaf 0)).waiting
+      → (get_or ls i (new_leaf 0)).charged * (get_or ls k (new_leaf 0)).amount
+      ≤ (get_or ls k (new_leaf 0)).charged * (get_or ls i (new_leaf 0)).amount
+
+-- no leaf has a waiting task
+abbrev pub NoneWaits : List Leaf → Type 0
+NoneWaits ls = (k : ℕ) → (get_or ls k (new_leaf 0)).waiting ≡ 0
+
 -- The rule allows a pick: of a waiting leaf with the least clock, for a free processor.
 pub record MayPick (s : DispatchState) (p i : ℕ) : Type 0 where
   pub free : slice_get s.processors p ≡ Some None
-  pub known : i < length s.leaves
-  pub waits : 0 < (leaf_at s i).waiting
-  pub least : (k : ℕ) → 0 < (leaf_at s k).waiting
-      → (leaf_at s i).charged * (leaf_at s k).amount ≤ (leaf_at s k).charged * (leaf_at s i).amount
+  pub leaf : IsLeast s.leaves i
 
 -- the processor runs a task of a leaf
 pub record Runs (s : DispatchState) (p : ℕ) : Type 0 where
@@ -209,3 +218,8 @@ happens s e = if is_ok (allowed s e) then after s e else s
 -- each leaf has an amount
 abbrev pub HasAmounts : Fields → Type 0
 HasAmounts a = All (λ l. 0 < l.amount) a.leaves.items
+
+-- A free processor picks, unless no leaf waits.
+abbrev pub Dispatches : DispatchState → ℕ → DispatchState → Option ℕ → Type 0
+Dispatches s p t None = NoneWaits s.leaves × (t ≡ s)
+Dispatches s p t (Some i) = MayPick s p i × (t ≡ after s (Pick p i))

@@ -73,7 +73,7 @@ abbrev pub LeadIsBounded : Type 0
 LeadIsBounded = (s : DispatchState) (overrun i j : ℕ) (events : List Event) → IsStart s
     → IsRun overrun s events → j < length s.leaves → WaitsThroughout j s events → i ≢ j →
     let t = after_all s events in
-    let a = (leaf_at s i).amount in let b = (leaf_at s j).amount in
+    let a = (leaf_at t i).amount in let b = (leaf_at t j).amount in
     use_at_most overrun t i * b
     ≤ (leaf_at t j).used * a + most_ahead s.slice overrun (length s.processors) a b
 

@@ -1,5 +1,6 @@
 //! Laws of the rule: each is the contract of a function that does nothing.
-ghost use Rattle.dispatch.specs.Runs.{LeadIsBounded};
+ghost use Rattle.dispatch.specs.Runs.{LeadIsBounded, ShareIsKept, NoProcessorIdles};
+ghost use Rattle.dispatch.specs.Runs.{NoneIsPickedPastItsPlan};
 
 /// No leaf gets far ahead of one that waits throughout, whatever the others do.
 ///
@@ -8,4 +9,30 @@ ghost use Rattle.dispatch.specs.Runs.{LeadIsBounded};
 /// waits is never lifted.
 pub fn lead_is_bounded()
     ensures { LeadIsBounded }
+{}
+
+/// A leaf that waits throughout has at least its part of what all leaves used, whatever the others
+/// do.
+///
+/// It may be short by its part of a slice for each other leaf, and by a slice for each processor but
+/// one in the others' part. The premises are those of [`lead_is_bounded`].
+pub fn share_is_kept()
+    ensures { ShareIsKept }
+{}
+
+/// No processor idles while a leaf waits: some pick is allowed for a processor that is free, and its
+/// next event can be nothing else.
+///
+/// The law assumes that each leaf has an amount.
+pub fn no_processor_idles()
+    ensures { NoProcessorIdles }
+{}
+
+/// No leaf that has used its plan is picked while a leaf waits that is short of its own.
+///
+/// The plan may be any time for each unit of amount. A leaf is short if its use is below its plan,
+/// with a whole slice for each of its tasks that run. The premises are those of
+/// [`lead_is_bounded`].
+pub fn none_is_picked_past_its_plan()
+    ensures { NoneIsPickedPastItsPlan }
 {}
