@@ -457,7 +457,7 @@ leads_of s overrun i j events start run waits ne =
     (leaf_at s j).amount i j ne s events run waits (starts s overrun i j start)
 
 pub lead_is_bounded : LeadIsBounded
-lead_is_bounded s overrun i j events start run known waits ne =
+lead_is_bounded s overrun i j events start run waits ne =
     let l = leads_of s overrun i j events start run waits ne in
     let t = after_all s events in
     subst (λ (a : ℕ). ((leaf_at t i).used + (t.slice + overrun) * runs_of i t.processors)

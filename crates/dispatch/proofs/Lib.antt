@@ -1,5 +1,6 @@
 -- The files of lemmas.
 mod Counts
+mod Exact
 mod Happens
 mod Leads
 mod Least

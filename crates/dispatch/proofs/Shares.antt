@@ -108,7 +108,7 @@ share_is_kept s overrun j events start run known waits = result where
   each i less = by_index (λ (k : ℕ). f (leaf_at t k) ≤ g (leaf_at t k)) i j
       (omega arith)
       (λ ne. trim (leaf_at t i).used ((t.slice + overrun) * runs_of i t.processors) b (g (leaf_at t i))
-      (lead_is_bounded s overrun i j events start run known waits ne))
+      (lead_is_bounded s overrun i j events start run waits ne))
   own : f (leaf_at t j) + (slice * b + p * (slice * b) + over) ≤ g (leaf_at t j)
   own = omega arith
   summed : sum_by f t.leaves + (slice * b + p * (slice * b) + over) ≤ sum_by g t.leaves

@@ -1,6 +1,6 @@
 -- The rule of the dispatcher: its state, the events that the rule allows, and the state after each.
-use Rattle.std.specs.Prelude.{◌≡◌, ℕ, ◌+◌, ◌-◌, ◌*◌, ◌/◌, ◌<◌, ◌≤◌, ◌^◌, ◌==◌, ◌&&◌, ◌||◌, nat_lt}
-use Rattle.std.specs.Prelude.{min, max, Bool, true, false, List, [], ◌∷◌, length, get_or, Option}
+use Rattle.std.specs.Prelude.{◌≡◌, ℕ, ◌+◌, ◌-◌, ◌*◌, ◌/◌, ◌<◌, ◌≤◌, ◌^◌, ◌==◌, ◌&&◌, ◌||◌, ◌↔◌}
+use Rattle.std.specs.Prelude.{nat_lt, min, max, Bool, true, false, List, [], ◌∷◌, length, get_or, Option}
 use Rattle.std.specs.Prelude.{None, Some, slice_get, slice_set, if◌then◌else◌, Result, Ok, Err, is_ok}
 use Rattle.std.specs.List.{list_any, All}
 use Rattle.dispatch.specs.declared.leaves.Leaf.{Leaf}
@@ -223,3 +223,26 @@ HasAmounts a = All (λ l. 0 < l.amount) a.leaves.items
 abbrev pub Dispatches : DispatchState → ℕ → DispatchState → Option ℕ → Type 0
 Dispatches s p t None = NoneWaits s.leaves × (t ≡ s)
 Dispatches s p t (Some i) = MayPick s p i × (t ≡ after s (Pick p i))
+
+-- room below 2^64 for each number of a leaf that an event makes greater, where it makes one greater
+abbrev pub HasRoomAtEnd : DispatchState → ℕ → Bool → Option (Option ℕ) → Type 0
+HasRoomAtEnd s used remains (Some (Some i)) =
+    ((ended s.slice used remains (leaf_at s i)).charged < 2 ^ 64)
+    × ((ended s.slice used remains (leaf_at s i)).used < 2 ^ 64)
+    × ((ended s.slice used remains (leaf_at s i)).waiting < 2 ^ 64)
+HasRoomAtEnd s used remains _ = Unit {0}
+
+abbrev pub HasRoom : DispatchState → Event → Type 0
+HasRoom s (Wake i tasks) =
+    ((woken s.leaves tasks (leaf_at s i)).charged < 2 ^ 64)
+    × ((woken s.leaves tasks (leaf_at s i)).waiting < 2 ^ 64)
+HasRoom s (Pick p i) =
+    ((picked s.slice (leaf_at s i)).charged < 2 ^ 64)
+    × ((picked s.slice (leaf_at s i)).running < 2 ^ 64)
+HasRoom s (End p used remains) = HasRoomAtEnd s used remains (slice_get s.processors p)
+
+-- An event is refused unless the rule allows it and its numbers have room; of an end, its processor
+-- runs a known leaf.
+abbrev pub RefusalIsExact : Type 0
+RefusalIsExact = (s : DispatchState) (e : Event)
+    → (allowed s e ≡ Ok tt) ↔ (Allows s e × HasRoom s e)

@@ -71,7 +71,7 @@ use_at_most overrun s i =
 -- nothing.
 abbrev pub LeadIsBounded : Type 0
 LeadIsBounded = (s : DispatchState) (overrun i j : ℕ) (events : List Event) → IsStart s
-    → IsRun overrun s events → j < length s.leaves → WaitsThroughout j s events → i ≢ j →
+    → IsRun overrun s events → WaitsThroughout j s events → i ≢ j →
     let t = after_all s events in
     let a = (leaf_at t i).amount in let b = (leaf_at t j).amount in
     use_at_most overrun t i * b

@@ -1,6 +1,7 @@
 //! Laws of the rule: each is the contract of a function that does nothing.
 ghost use Rattle.dispatch.specs.Runs.{LeadIsBounded, ShareIsKept, NoProcessorIdles};
 ghost use Rattle.dispatch.specs.Runs.{NoneIsPickedPastItsPlan};
+ghost use Rattle.dispatch.specs.Rule.{RefusalIsExact};
 
 /// No leaf gets far ahead of one that waits throughout, whatever the others do.
 ///
@@ -35,4 +36,9 @@ pub fn no_processor_idles()
 /// [`lead_is_bounded`].
 pub fn none_is_picked_past_its_plan()
     ensures { NoneIsPickedPastItsPlan }
+{}
+
+/// An event is refused if and only if the rule does not allow it, or a number has no room.
+pub fn refusal_is_exact()
+    ensures { RefusalIsExact }
 {}
