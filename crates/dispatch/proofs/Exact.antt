@@ -108,7 +108,7 @@ some_not zero is = absurd (let clash : true ≡ false = is in cc clash)
 some_not (suc n) is = omega arith
 
 -- no leaf is found behind
-behind_false : (l m : Leaf) → waits_behind l m ≡ false → 0 < m.waiting
+pub behind_false : (l m : Leaf) → waits_behind l m ≡ false → 0 < m.waiting
     → l.charged * m.amount ≤ m.charged * l.amount
 behind_false l m is waits = by_test (nat_lt (m.charged * l.amount) (l.charged * m.amount)) refl where
   by_test : (b : Bool) → nat_lt (m.charged * l.amount) (l.charged * m.amount) ≡ b
@@ -121,7 +121,7 @@ behind_false l m is waits = by_test (nat_lt (m.charged * l.amount) (l.charged * 
           ∙ test in
       absurd (let clash : true ≡ false = sym both ∙ is in cc clash)
 
-in_range : (ls : List Leaf) (k : ℕ) → 0 < (get_or ls k (new_leaf 0)).waiting → k < length ls
+pub in_range : (ls : List Leaf) (k : ℕ) → 0 < (get_or ls k (new_leaf 0)).waiting → k < length ls
 in_range [] k waits = absurd (let clash : ⊥ = omega (arith, waits) in clash)
 in_range (l ∷ ls) zero waits = omega arith
 in_range (l ∷ ls) (suc k) waits = omega (arith, in_range ls k waits)
@@ -187,7 +187,7 @@ free_is None ok = absurd (cc ok)
 free_is (Some None) ok = refl
 free_is (Some (Some i)) ok = absurd (cc ok)
 
-pick_sound : (s : DispatchState) (p i : ℕ) → allowed s (Pick p i) ≡ Ok tt
+pub pick_sound : (s : DispatchState) (p i : ℕ) → allowed s (Pick p i) ≡ Ok tt
     → MayPick s p i × HasRoom s (Pick p i)
 pick_sound s p i ok = by_case (found s.leaves i) where
   both : (free_processor (slice_get s.processors p) ≡ Ok tt)

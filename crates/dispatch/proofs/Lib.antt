@@ -3,7 +3,9 @@ mod Counts
 mod Exact
 mod Happens
 mod Leads
+mod LeastBelow
 mod Least
+mod Lifts
 mod Lines
 mod Plans
 mod Shares

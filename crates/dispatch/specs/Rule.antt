@@ -246,3 +246,8 @@ HasRoom s (End p used remains) = HasRoomAtEnd s used remains (slice_get s.proces
 abbrev pub RefusalIsExact : Type 0
 RefusalIsExact = (s : DispatchState) (e : Event)
     → (allowed s e ≡ Ok tt) ↔ (Allows s e × HasRoom s e)
+
+-- whether a leaf comes before the least one so far
+abbrev pub is_new_least : List Leaf → Option ℕ → Leaf → Bool
+is_new_least ls None m = nat_lt 0 m.waiting
+is_new_least ls (Some i) m = waits_behind (get_or ls i (new_leaf 0)) m

@@ -1,12 +1,12 @@
 -- Runs of the dispatcher from a common start, and what the rule promises of them. A use and a lead
 -- are in nanoseconds. No promise divides: a use over an amount is compared by products.
-use Rattle.std.specs.Prelude.{◌≡◌, ◌≢◌, ℕ, ◌+◌, ◌-◌, ◌*◌, ◌<◌, ◌≤◌, ◌==◌, Bool, List, [], ◌∷◌, length}
+use Rattle.std.specs.Prelude.{◌≡◌, ◌≢◌, ℕ, ◌+◌, ◌-◌, ◌*◌, ◌<◌, ◌≤◌, ◌==◌, Bool, true, List, [], ◌∷◌, length}
 use Rattle.std.specs.Prelude.{Option, None, Some, slice_get, if◌then◌else◌}
 use Rattle.std.specs.List.{sum_by, All}
 use Rattle.dispatch.specs.declared.leaves.Leaf.{Leaf}
 use Rattle.dispatch.specs.declared.events.Event.{Event}
 use Rattle.dispatch.specs.declared.events.Event.TheVariants.{Wake, Pick, End}
-use Rattle.dispatch.specs.Rule.{DispatchState, leaf_at, after, Allows, MayPick}
+use Rattle.dispatch.specs.Rule.{DispatchState, leaf_at, has_tasks, after, Allows, MayPick}
 
 -- 1 if the processor runs a task of the leaf
 abbrev pub one_run : ℕ → Option ℕ → ℕ
@@ -125,3 +125,18 @@ NoneIsPickedPastItsPlan = (s : DispatchState) (overrun j p i num den : ℕ) (eve
     let t = after_all s events in
     0 < (leaf_at t j).waiting → use_at_most 0 t j * den < num * (leaf_at t j).amount
     → MayPick t p i → (leaf_at t i).used * den < num * (leaf_at t i).amount
+
+-- A wake does not lift a leaf that has a task, nor any leaf while all clocks are 0.
+pub record IsLiftedOnlyFromSleep : Type 0 where
+  pub awake : (s : DispatchState) (j i tasks : ℕ) → i < length s.leaves
+      → has_tasks (leaf_at s j) ≡ true → WaitsAt j s (Wake i tasks)
+  pub at_start : (s : DispatchState) (j i tasks : ℕ) → i < length s.leaves
+      → ((k : ℕ) → (leaf_at s k).charged ≡ 0) → WaitsAt j s (Wake i tasks)
+
+-- A lifted clock is at most that of each leaf that has a task.
+abbrev pub LiftIsAtMostTheLeast : Type 0
+LiftIsAtMostTheLeast = (s : DispatchState) (i k tasks : ℕ) → i < length s.leaves → AreAmounts s
+    → has_tasks (leaf_at s k) ≡ true →
+    let woken = leaf_at (after s (Wake i tasks)) i in
+    (leaf_at s i).charged < woken.charged
+    → woken.charged * (leaf_at s k).amount ≤ (leaf_at s k).charged * woken.amount

@@ -1,7 +1,9 @@
 //! The leaves of the plan, and their clocks.
-ghost use Rattle.std.specs.Prelude.{◌≡◌, ◌<◌, ◌+◌, IfOk, if◌then◌else◌};
+ghost use Rattle.std.specs.Prelude.{◌≡◌, ◌<◌, ◌+◌, Some, IfOk, IfSome, MatchOption, length, get_or};
+ghost use Rattle.std.specs.Prelude.{if◌then◌else◌};
 ghost use Rattle.std.specs.List.{list_any, All};
 ghost use Rattle.dispatch.specs.Rule.{new_leaf, has_tasks, is_behind, waits_behind, level, at_most};
+ghost use Rattle.dispatch.specs.Rule.{is_new_least, NoneWaits, IsLeast};
 ghost use Rattle.dispatch.specs.Rule.{number, lifted, leaf_woken, leaf_picked, leaf_ended};
 
 use crate::events::Refusal;
@@ -64,6 +66,34 @@ fn has_lesser(leaves: &[Leaf], leaf: Leaf) -> bool
     ensures { result ≡ list_any (waits_behind leaf) leaves.now }
 {
     leaves.iter().any(|other| leaf.waits_behind(other))
+}
+
+// The least leaf so far, or the one at `at`, which comes next.
+fn lesser(leaves: &[Leaf], least: Option<usize>, at: usize) -> Option<usize>
+    requires known { at < length leaves.now }
+    requires least { IfSome least (λ i. i < at) }
+    ensures { result ≡ (if is_new_least leaves.now least (get_or leaves.now at (new_leaf 0))
+        then Some at else least) }
+{
+    let leaf = leaves[at];
+    let is_new = match least {
+        None => leaf.waiting > 0,
+        Some(i) => leaves[i].waits_behind(&leaf),
+    };
+    if is_new { Some(at) } else { least }
+}
+
+/// The leaf with the least clock among those that wait, and of several the first. `None` if none
+/// waits.
+pub fn least(leaves: &[Leaf]) -> Option<usize>
+    requires { All (λ l. 0 < l.amount) leaves.now }
+    ensures { MatchOption result (NoneWaits leaves.now) (IsLeast leaves.now) }
+{
+    let mut least = None;
+    for at in 0..leaves.len() {
+        least = lesser(leaves, least, at);
+    }
+    least
 }
 
 // The lesser of a charge and another, if there is another.

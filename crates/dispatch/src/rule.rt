@@ -2,9 +2,10 @@
 ghost use Rattle.std.specs.Prelude.{◌≡◌, ◌<◌, [], ◌++◌, ◌∷◌, OnOk, OnErr, IfOk, slice_get, length};
 ghost use Rattle.std.specs.Prelude.{Some, None, replicate};
 ghost use Rattle.dispatch.specs.Rule.{allowed, happens, free_processor, leaf_run, new_leaf};
+ghost use Rattle.dispatch.specs.Rule.{Dispatches};
 
 use crate::events::{Event, Refusal};
-use crate::leaves::{Leaf, leaf_ended, leaf_picked, leaf_woken};
+use crate::leaves::{Leaf, leaf_ended, leaf_picked, leaf_woken, least};
 use std::alloc::{AllocError, Global};
 use std::marker::Model;
 
@@ -169,6 +170,27 @@ impl Dispatcher {
         self.leaves[leaf as usize] = picked;
         self.processors[processor as usize] = Some(leaf);
         Ok(())
+    }
+
+    /// A free processor takes a task of the leaf with the least clock among those that wait, and of
+    /// several the first. `None` if none waits: then alone the processor stays free.
+    ///
+    /// # Errors
+    ///
+    /// The first that applies; the state is unchanged:
+    /// - [`Refusal::UnknownProcessor`], [`Refusal::ProcessorBusy`].
+    /// - [`Refusal::TooGreat`] if a number would be above `u64::MAX`.
+    pub fn dispatch(&mut self, processor: u64) -> Result<Option<u64>, Refusal>
+        ensures ok { IfOk result (Dispatches self.old processor self.new) }
+        ensures err { OnErr result (self.new ≡ self.old) }
+    {
+        self.free_processor(processor)?;
+        let Some(leaf) = least(&self.leaves) else {
+            return Ok(None);
+        };
+        let leaf = leaf as u64;
+        self.pick(processor, leaf)?;
+        Ok(Some(leaf))
     }
 
     /// The task on a processor ends its run. The processor is then free.
