@@ -130,7 +130,7 @@ NoneIsPickedPastItsPlan = (s : DispatchState) (overrun j p i num den : ℕ) (eve
 pub record IsLiftedOnlyFromSleep : Type 0 where
   pub awake : (s : DispatchState) (j i tasks : ℕ) → i < length s.leaves
       → has_tasks (leaf_at s j) ≡ true → WaitsAt j s (Wake i tasks)
-  pub at_start : (s : DispatchState) (j i tasks : ℕ) → i < length s.leaves
+  pub at_start : (s : DispatchState) (j i tasks : ℕ) → i < length s.leaves → AreAmounts s
       → ((k : ℕ) → (leaf_at s k).charged ≡ 0) → WaitsAt j s (Wake i tasks)
 
 -- A lifted clock is at most that of each leaf that has a task.

@@ -1,6 +1,7 @@
 //! Laws of the rule: each is the contract of a function that does nothing.
 ghost use Rattle.dispatch.specs.Runs.{LeadIsBounded, ShareIsKept, NoProcessorIdles};
-ghost use Rattle.dispatch.specs.Runs.{NoneIsPickedPastItsPlan};
+ghost use Rattle.dispatch.specs.Runs.{NoneIsPickedPastItsPlan, IsLiftedOnlyFromSleep};
+ghost use Rattle.dispatch.specs.Runs.{LiftIsAtMostTheLeast};
 ghost use Rattle.dispatch.specs.Rule.{RefusalIsExact};
 
 /// No leaf gets far ahead of one that waits throughout, whatever the others do.
@@ -41,4 +42,13 @@ pub fn none_is_picked_past_its_plan()
 /// An event is refused if and only if the rule does not allow it, or a number has no room.
 pub fn refusal_is_exact()
     ensures { RefusalIsExact }
+{}
+
+/// A wake lifts neither a leaf that has a task, nor any leaf at a common start. A lifted clock is at
+/// most that of each leaf that has a task.
+///
+/// The second and the third assume that each leaf has an amount.
+pub fn only_sleepers_are_lifted()
+    ensures sleepers { IsLiftedOnlyFromSleep }
+    ensures least { LiftIsAtMostTheLeast }
 {}
