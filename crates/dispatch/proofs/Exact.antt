@@ -103,7 +103,7 @@ wake_complete s i tasks p =
 
 -- ---- pick
 
-some_not : (n : ℕ) → (n == 0) ≡ false → 0 < n
+pub some_not : (n : ℕ) → (n == 0) ≡ false → 0 < n
 some_not zero is = absurd (let clash : true ≡ false = is in cc clash)
 some_not (suc n) is = omega arith
 

@@ -1,4 +1,5 @@
 -- The files of lemmas.
+mod Accepts
 mod Counts
 mod Exact
 mod Happens

@@ -1,6 +1,6 @@
 -- The replay of a trace, line by line.
-use Rattle.std.specs.Prelude.{ℕ, ◌+◌, ◌==◌, ◌||◌, not, nat_lt, List, [], ◌∷◌, ◌++◌, length, replicate}
-use Rattle.std.specs.Prelude.{Bool, true, false, Option, None, Some, Result, Ok, Err, codes, is_none}
+use Rattle.std.specs.Prelude.{◌≡◌, ◌<◌, ◌≤◌, ◌↔◌, ℕ, ◌+◌, ◌==◌, ◌||◌, nat_lt, List, [], ◌∷◌, ◌++◌, length, replicate}
+use Rattle.std.specs.Prelude.{Bool, true, false, Option, None, Some, Result, Ok, Err, codes}
 use Rattle.std.specs.Prelude.{if◌then◌else◌}
 use Rattle.std.specs.List.{slice_split}
 use Rattle.std.specs.Fmt.{decimal}
@@ -24,7 +24,7 @@ use Rattle.dispatch.specs.declared.replay.Finding.{Finding}
 use Rattle.dispatch.specs.declared.replay.Finding.TheVariants.{Allowed, Refused}
 use Rattle.dispatch.specs.Faults.{input_fault_number, input_fault_name}
 use Rattle.dispatch.specs.Input.{input_of}
-use Rattle.dispatch.specs.Rule.{DispatchState, new_leaf, allowed, happens}
+use Rattle.dispatch.specs.Rule.{DispatchState, new_leaf, allowed, after, Allows, HasRoom}
 
 -- the fault of a refused event: the input is bad, or the rule does not allow it
 abbrev pub fault_of : Refusal → LineFault
@@ -64,7 +64,7 @@ abbrev pub input_after : DispatchState → Input → DispatchState
 input_after s (lines.Processors n) = record s { processors = replicate n None }
 input_after s (lines.Slice n) = record s { slice = n }
 input_after s (lines.Leaf i a) = record s { leaves = s.leaves ++ new_leaf a ∷ [] }
-input_after s (lines.Event e) = happens s e
+input_after s (lines.Event e) = after s e
 
 -- 1 for a pick
 abbrev pub picks_in : Input → ℕ
@@ -116,3 +116,35 @@ fault_text (NotAllowed r) = codes "not allowed:" ++ (codes " " ++ reason r ++ 10
 abbrev pub finding_text : Finding → List ℕ
 finding_text (Allowed picks) = (codes "allowed: " ++ decimal picks) ++ (codes " picks" ++ 10 ∷ [])
 finding_text (Refused n f) = (codes "line " ++ decimal n) ++ (codes ": " ++ fault_text f)
+
+-- ---- the lines that are accepted
+
+-- the parts of a text are the lines of these inputs, and nothing behind the last newline
+abbrev pub Spells : List (List ℕ) → List Input → Type 0
+Spells [] is = ⊥
+Spells (part ∷ parts) [] = (part ≡ []) × (parts ≡ [])
+Spells (part ∷ parts) (i ∷ is) = (input_of (words part) ≡ Ok i) × Spells parts is
+
+-- the input may come next: an event, if the rule allows it and its numbers have room
+abbrev pub MayFollow : DispatchState → Input → Type 0
+MayFollow s (lines.Processors n) = (s.processors ≡ []) × (0 < n) × (n ≤ MAX_PROCESSORS)
+MayFollow s (lines.Slice n) = (s.slice ≡ 0) × (0 < n) × (n ≤ MAX_SLICE_NS)
+MayFollow s (lines.Leaf i a) = (i ≡ length s.leaves) × (0 < a) × (a ≤ MAX_AMOUNT)
+MayFollow s (lines.Event e) = (0 < s.slice) × Allows s e × HasRoom s e
+
+-- each input may come next, after those before it
+abbrev pub AllFollow : DispatchState → List Input → Type 0
+AllFollow s [] = Unit {0}
+AllFollow s (i ∷ is) = MayFollow s i × AllFollow (input_after s i) is
+
+-- the number of picks
+abbrev pub picks_of : List Input → ℕ
+picks_of [] = 0
+picks_of (i ∷ is) = picks_in i + picks_of is
+
+-- A text is accepted, with so many picks, if and only if it spells inputs that may each follow those
+-- before it.
+abbrev pub AcceptsExactly : Type 0
+AcceptsExactly = (text : List ℕ) (picks : ℕ) → (finding_of text ≡ Allowed picks)
+    ↔ ((is : List Input) × Spells (slice_split (λ b. b == 10) text) is
+    × AllFollow nothing_set is × (picks ≡ picks_of is))

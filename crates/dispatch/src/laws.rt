@@ -3,6 +3,7 @@ ghost use Rattle.dispatch.specs.Runs.{LeadIsBounded, ShareIsKept, NoProcessorIdl
 ghost use Rattle.dispatch.specs.Runs.{NoneIsPickedPastItsPlan, IsLiftedOnlyFromSleep};
 ghost use Rattle.dispatch.specs.Runs.{LiftIsAtMostTheLeast};
 ghost use Rattle.dispatch.specs.Rule.{RefusalIsExact};
+ghost use Rattle.dispatch.specs.Replay.{AcceptsExactly};
 
 /// No leaf gets far ahead of one that waits throughout, whatever the others do.
 ///
@@ -51,4 +52,10 @@ pub fn refusal_is_exact()
 pub fn only_sleepers_are_lifted()
     ensures sleepers { IsLiftedOnlyFromSleep }
     ensures least { LiftIsAtMostTheLeast }
+{}
+
+/// A trace is accepted if and only if each of its lines may follow those before it: of an event, if
+/// the rule allows it and its numbers have room.
+pub fn accepts_exactly()
+    ensures { AcceptsExactly }
 {}
