@@ -1,12 +1,11 @@
 -- A text is accepted if and only if each of its lines may follow those before it.
-use Rattle.std.proofs.Common.{◌≡◌, ◌↔◌, ℕ, zero, suc, ◌+◌, ◌<◌, ◌≤◌, ◌==◌, ◌||◌, List, [], ◌∷◌, length}
+use Rattle.std.proofs.Common.{◌≡◌, ◌↔◌, ℕ, suc, ◌+◌, ◌<◌, ◌≤◌, ◌==◌, ◌||◌, List, [], ◌∷◌, length}
 use Rattle.std.proofs.Common.{Bool, true, false, Option, None, Some, Result, Ok, Err, refl, ap, sym}
-use Rattle.std.proofs.Common.{subst, ◌∙◌, arith, if◌then◌else◌, nat_lt, slice_get, is_ok}
+use Rattle.std.proofs.Common.{◌∙◌, arith, if◌then◌else◌, nat_lt}
 use Rattle.std.specs.List.{slice_split}
-use Rattle.std.proofs.lemmas.Bool.{eqb-true, eq-eqb, ne_eqb, ltb-true, ltb-false, lt-ltb, le-ltb}
+use Rattle.std.proofs.lemmas.Bool.{eqb-true, eq-eqb, ne_eqb, ltb-false, lt-ltb, le-ltb}
 use Rattle.std.proofs.lemmas.List.Splits.{length-slice_split}
 use Rattle.bw_text.specs.Words.{words}
-use Rattle.dispatch.specs.declared.events.Event.{Event}
 use Rattle.dispatch.specs.declared.events.Refusal.{Refusal}
 use Rattle.dispatch.specs.declared.fault.InputFault.{InputFault}
 use Rattle.dispatch.specs.declared.fault.InputFault.TheVariants.{BadLine, BadField, CutShort}
@@ -20,7 +19,7 @@ use Rattle.dispatch.specs.Input.{input_of}
 use Rattle.dispatch.specs.Replay.{input_fault, input_after, picks_in, at_input, at_line, finding_from}
 use Rattle.dispatch.specs.Replay.{event_fault, is_out, Spells, MayFollow, AllFollow, picks_of}
 use Rattle.dispatch.specs.Replay.{AcceptsExactly, nothing_set}
-use Rattle.dispatch.specs.Rule.{DispatchState, allowed, happens, after}
+use Rattle.dispatch.specs.Rule.{DispatchState, allowed}
 use Rattle.dispatch.specs.declared.limits.TheConstants.{MAX_PROCESSORS, MAX_SLICE_NS, MAX_AMOUNT}
 use Rattle.dispatch.proofs.Exact.{refusal_is_exact, some_not}
 
@@ -38,7 +37,7 @@ within most n is =
 no_out : (most n : ℕ) → 0 < n → n ≤ most → is_out most n ≡ false
 no_out most n some less =
     ap (λ (b : Bool). b || nat_lt most n)
-      (ne_eqb n 0 (λ e. let clash : ⊥ = omega (arith, e, some) in clash))
+    (ne_eqb n 0 (λ e. let clash : ⊥ = omega (arith, e, some) in clash))
     ∙ le-ltb most n less
 
 empty_of : {X : Type 0} (xs : List X) → nat_lt 0 (length xs) ≡ false → xs ≡ []
@@ -89,7 +88,7 @@ zero_from n is = let none = ltb-false 0 n is in omega (arith, none)
 follows : (s : DispatchState) (i : Input) → input_fault s i ≡ None → MayFollow s i
 follows s (lines.Processors n) ok =
     let p = two_tests (nat_lt 0 (length s.processors)) (is_out MAX_PROCESSORS n) (Bad BadLine)
-        (Bad BadField) ok in
+    (Bad BadField) ok in
     let q = within MAX_PROCESSORS n p.1 in
     (empty_of s.processors p.0, q.0, q.1)
 follows s (lines.Slice n) ok =
@@ -98,7 +97,7 @@ follows s (lines.Slice n) ok =
     (zero_from s.slice p.0, q.0, q.1)
 follows s (lines.Leaf i a) ok =
     let p = leaf_tests (i == length s.leaves) (is_out MAX_AMOUNT a) (Bad BadLine) (Bad BadField)
-        ok in
+    ok in
     let q = within MAX_AMOUNT a p.1 in
     (eqb-true i (length s.leaves) p.0, q.0, q.1)
 follows s (lines.Event e) ok =
@@ -119,7 +118,7 @@ may_follow s (lines.Leaf i a) m =
     (eq-eqb i (length s.leaves) m.0) (no_out MAX_AMOUNT a m.1 m.2)
 may_follow s (lines.Event e) m =
     ap (λ (b : Bool). if◌then◌else◌ {A = Option LineFault} b (Some (Bad BadLine))
-      (event_fault (allowed s e)))
+    (event_fault (allowed s e)))
     (ne_eqb s.slice 0 (λ e. let clash : ⊥ = omega (arith, e, m.0) in clash))
     ∙ ap event_fault ((refusal_is_exact s e).1 (m.1, m.2))
 
@@ -135,6 +134,7 @@ last_part [] (p ∷ ps) n picks m ok none =
 last_part (x ∷ xs) parts n picks m ok none = absurd (refused (length (x ∷ xs) == 0) off ok) where
   off : (length (x ∷ xs) == 0) ≡ false
   off = ne_eqb (suc (length xs)) 0 (λ e. let clash : ⊥ = omega (arith, e) in clash)
+
   refused : (b : Bool) → b ≡ false
       → ◌≡◌ {A = Finding} (if b then Allowed picks else Refused n (Bad CutShort)) (Allowed m) → ⊥
   refused true is ok = absurd (cc is)
@@ -162,16 +162,16 @@ accepts s n picks m part [] ok =
     ([], (p.0, p.1), tt, p.2)
 accepts s n picks m part (q ∷ qs) ok =
     let next : Input → Finding = λ (i : Input). at_input n (input_fault s i)
-        (finding_from (input_after s i) (n + 1) (picks + picks_in i) (q ∷ qs)) in
+    (finding_from (input_after s i) (n + 1) (picks + picks_in i) (q ∷ qs)) in
     let here : at_line n (input_of (words part)) next ≡ Allowed m =
-        ap (λ (b : Bool). if b
-          then (if length part == 0 then Allowed picks else Refused n (Bad CutShort))
-          else at_line n (input_of (words part)) next) (sym (more_parts q qs))
-        ∙ ok in
+    ap (λ (b : Bool). if b
+    then (if length part == 0 then Allowed picks else Refused n (Bad CutShort))
+    else at_line n (input_of (words part)) next) (sym (more_parts q qs))
+    ∙ ok in
     let p = at_ok n m (input_of (words part)) next here in
     let i : Input = p.0 in
     let f = input_ok n m (input_fault s i)
-        (finding_from (input_after s i) (n + 1) (picks + picks_in i) (q ∷ qs)) p.2 in
+    (finding_from (input_after s i) (n + 1) (picks + picks_in i) (q ∷ qs)) p.2 in
     let r = accepts (input_after s i) (n + 1) (picks + picks_in i) m q qs f.1 in
     (i ∷ r.0, (p.1, r.1), (follows s i f.0, r.2), omega (arith, r.3))
 
@@ -182,19 +182,19 @@ unfolding finding_from
 accepted s n picks m part [] [] spelled all count =
     let same : picks ≡ m = omega (arith, count) in
     ap (λ (xs : List ℕ). if length xs == 0 then Allowed picks else Refused n (Bad CutShort))
-      spelled.0
+    spelled.0
     ∙ ap (λ k. Allowed k) same
 accepted s n picks m part [] (i ∷ is) spelled all count = absurd spelled.1
 accepted s n picks m part (q ∷ qs) [] spelled all count =
     let e : (q ∷ qs) ≡ [] = spelled.1 in absurd (cc e)
 accepted s n picks m part (q ∷ qs) (i ∷ is) spelled all count =
     let rest : Finding =
-        finding_from (input_after s i) (n + 1) (picks + picks_in i) (q ∷ qs) in
+    finding_from (input_after s i) (n + 1) (picks + picks_in i) (q ∷ qs) in
     let next : Input → Finding = λ (j : Input). at_input n (input_fault s j)
-        (finding_from (input_after s j) (n + 1) (picks + picks_in j) (q ∷ qs)) in
+    (finding_from (input_after s j) (n + 1) (picks + picks_in j) (q ∷ qs)) in
     ap (λ (b : Bool). if b
-      then (if length part == 0 then Allowed picks else Refused n (Bad CutShort))
-      else at_line n (input_of (words part)) next) (more_parts q qs)
+    then (if length part == 0 then Allowed picks else Refused n (Bad CutShort))
+    else at_line n (input_of (words part)) next) (more_parts q qs)
     ∙ ap (λ (r : Result Input InputFault). at_line n r next) spelled.0
     ∙ ap (λ (o : Option LineFault). at_input n o rest) (may_follow s i all.0)
     ∙ accepted (input_after s i) (n + 1) (picks + picks_in i) m q qs is spelled.1 all.1
@@ -204,11 +204,12 @@ accepts_parts : (parts : List (List ℕ)) (m : ℕ) → 0 < length parts
     → (finding_from nothing_set 1 0 parts ≡ Allowed m)
     ↔ ((is : List Input) × Spells parts is × AllFollow nothing_set is × (m ≡ picks_of is))
 accepts_parts [] m some = absurd (let clash : ⊥ = omega (arith, some) in clash)
-accepts_parts (part ∷ parts) m some =
-    (λ ok.
-    let r = accepts nothing_set 1 0 m part parts ok in
-    (r.0, r.1, r.2, omega (arith, r.3)),
-    λ r. accepted nothing_set 1 0 m part parts r.0 r.1 r.2 (omega (arith, r.3)))
+accepts_parts (part ∷ parts) m some = (
+  λ ok.
+      let r = accepts nothing_set 1 0 m part parts ok in
+      (r.0, r.1, r.2, omega (arith, r.3)),
+  λ r. accepted nothing_set 1 0 m part parts r.0 r.1 r.2 (omega (arith, r.3)),
+)
 
 pub accepts_exactly : AcceptsExactly
 accepts_exactly text picks =

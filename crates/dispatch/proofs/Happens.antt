@@ -1,6 +1,6 @@
 -- The state after an event, by the leaf that the event changes.
-use Rattle.std.proofs.Common.{◌≡◌, ℕ, List, Bool, true, false, Option, Some, None, Result, Ok, Err}
-use Rattle.std.proofs.Common.{slice_get, slice_set, refl, ap, sym, subst, ◌∙◌, nat_lt, ◌^◌}
+use Rattle.std.proofs.Common.{◌≡◌, ℕ, List, Bool, Option, Some, None, Result, Ok, Err}
+use Rattle.std.proofs.Common.{slice_get, slice_set, refl, ap, sym, subst, ◌∙◌}
 use Rattle.std.proofs.Common.{if◌then◌else◌, is_ok}
 use Rattle.std.proofs.lemmas.Option.{get_or_from_slice_get}
 use Rattle.dispatch.specs.Rule.{DispatchState, leaf_at, new_leaf, woken, ended, with_leaf, happens}
@@ -22,23 +22,27 @@ given x w is = cc is
 woken_is : (ls : List Leaf) (tasks : ℕ) (o : Option Leaf) (w : Leaf) → leaf_woken ls tasks o ≡ Ok w
     → (l : Leaf) × (o ≡ Some l) × (woken ls tasks l ≡ w)
 woken_is ls tasks None w is = absurd (cc is)
-woken_is ls tasks (Some l) w is =
-    (l, refl,
-    tested (number (woken ls tasks l).charged) (woken ls tasks l) w _
-    (tested (number (woken ls tasks l).waiting) (woken ls tasks l) w _
-    (given (woken ls tasks l) w))
-    is)
+woken_is ls tasks (Some l) w is = (
+  l,
+  refl,
+  tested (number (woken ls tasks l).charged) (woken ls tasks l) w _
+      (tested (number (woken ls tasks l).waiting) (woken ls tasks l) w _
+      (given (woken ls tasks l) w))
+      is,
+)
 
 ended_is : (slice used : ℕ) (remains : Bool) (o : Option Leaf) (w : Leaf)
     → leaf_ended slice used remains o ≡ Ok w
     → (l : Leaf) × (o ≡ Some l) × (ended slice used remains l ≡ w)
 ended_is slice used remains None w is = absurd (cc is)
 ended_is slice used remains (Some l) w is =
-    let e = ended slice used remains l in
-    (l, refl,
-    tested (number e.charged) e w _
-    (tested (number e.used) e w _ (tested (number e.waiting) e w _ (given e w)))
-    is)
+    let e = ended slice used remains l in (
+      l,
+      refl,
+      tested (number e.charged) e w _
+          (tested (number e.used) e w _ (tested (number e.waiting) e w _ (given e w)))
+          is,
+    )
 
 run_is : (q : Option (Option ℕ)) (i : ℕ) → leaf_run q ≡ Ok i → q ≡ Some (Some i)
 run_is None i is = absurd (cc is)
@@ -70,7 +74,7 @@ end_happens s p used i remains w runs is =
     let at : leaf_at s i ≡ q.0 = get_or_from_slice_get s.leaves i q.0 (new_leaf 0) q.1 in
     let on : slice_get s.processors p ≡ Some (Some i) = run_is (slice_get s.processors p) i runs in
     let fit : end_allowed s used remains (leaf_run (Some (Some i))) ≡ Ok tt =
-        ap without_value is in
+    ap without_value is in
     subst
     (λ (o : Option (Option ℕ)).
     (if is_ok (end_allowed s used remains (leaf_run o)) then state_ended s p used remains o else s)

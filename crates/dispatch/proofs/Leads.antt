@@ -1,9 +1,9 @@
 -- The lead of a leaf over one that waits throughout, event by event.
-use Rattle.std.proofs.Common.{◌≡◌, ◌≢◌, ℕ, zero, suc, ◌+◌, ◌-◌, ◌*◌, ◌<◌, ◌≤◌, ◌==◌, ◌⊎◌, inl, inr, max}
+use Rattle.std.proofs.Common.{◌≡◌, ◌≢◌, ℕ, suc, ◌+◌, ◌-◌, ◌*◌, ◌<◌, ◌≤◌, ◌==◌, ◌⊎◌, inl, inr}
 use Rattle.std.proofs.Common.{List, [], ◌∷◌, length, Bool, true, false, Option, None, Some}
 use Rattle.std.proofs.Common.{slice_get, slice_set, get_or, refl, ap, sym, subst, ◌∙◌, arith}
 use Rattle.std.proofs.Common.{if◌then◌else◌}
-use Rattle.std.proofs.Math.Nat.{mul-le-mul_left, mul-le-mul_right}
+use Rattle.std.proofs.Math.Nat.{mul-le-mul_right}
 use Rattle.std.proofs.lemmas.List.{get_or-set_same, get_or-set_other}
 use Rattle.std.proofs.lemmas.Bool.{eq-eqb, eqb-true}
 use Rattle.dispatch.specs.declared.leaves.Leaf.{Leaf}
@@ -12,7 +12,7 @@ use Rattle.dispatch.specs.declared.events.Event.TheVariants.{Wake, Pick, End}
 use Rattle.dispatch.specs.Rule.{DispatchState, leaf_at, new_leaf, after, Allows, MayPick, Runs}
 use Rattle.dispatch.specs.Rule.{woken, picked, ended, has_tasks, lifted, level, state_ended}
 use Rattle.dispatch.specs.Runs.{IsStart, after_all, IsRun, UsesAtMost, WaitsAt, WaitsThroughout}
-use Rattle.dispatch.specs.Runs.{most_ahead, use_at_most, LeadIsBounded, one_run, runs_of}
+use Rattle.dispatch.specs.Runs.{most_ahead, LeadIsBounded, one_run, runs_of}
 use Rattle.dispatch.proofs.Counts.{one_run_same, one_run_other, runs_set, two_runs, length_set}
 
 apart : (k x : ℕ) → (k == x) ≡ false → k ≡ x → ⊥
@@ -38,8 +38,11 @@ leaf_set ls k x l d known = by_test (k == x) refl where
       ⊎ ((k ≢ x) × (get_or (slice_set ls k l) x d ≡ get_or ls x d))
   by_test true is =
       let e : k ≡ x = eqb-true k x is in
-      inl (sym e, subst (λ (y : ℕ). get_or (slice_set ls k l) y d ≡ l) e
-      (get_or-set_same ls k l d known))
+      inl (
+        sym e,
+        subst (λ (y : ℕ). get_or (slice_set ls k l) y d ≡ l) e
+            (get_or-set_same ls k l d known),
+      )
   by_test false is =
       let ne : k ≢ x = apart k x is in
       inr (ne, get_or-set_other ls k x l d (λ e. ne (sym e)))
@@ -157,19 +160,22 @@ woken_kept : (s : DispatchState) (k tasks x : ℕ) → k < length s.leaves
 woken_kept s k tasks x known = by_case (leaf_set s.leaves k x w (new_leaf 0) known) where
   w : Leaf
   w = woken s.leaves tasks (leaf_at s k)
+
   by_case : ((x ≡ k) × (get_or (slice_set s.leaves k w) x (new_leaf 0) ≡ w))
       ⊎ ((k ≢ x) × (get_or (slice_set s.leaves k w) x (new_leaf 0) ≡ leaf_at s x))
       → Kept (leaf_at s x) (leaf_at (after s (Wake k tasks)) x)
   by_case (inl p) =
       subst (λ (l : Leaf). Kept (leaf_at s x) l) (sym p.1)
       (subst (λ (y : ℕ). Kept (leaf_at s y) w) (sym p.0)
-      (record { amount = refl; used = refl; charged = woken_up s.leaves (leaf_at s k)
-        (has_tasks (leaf_at s k)) }))
+      (record {
+        amount = refl;
+        used = refl;
+        charged = woken_up s.leaves (leaf_at s k)
+            (has_tasks (leaf_at s k));
+      }))
   by_case (inr p) =
       subst (λ (l : Leaf). Kept (leaf_at s x) l) (sym p.1)
       (record { amount = refl; used = refl; charged = omega arith })
-
-
 
 module _ (slice overrun processors a b i j : ℕ) where
   wake_keeps : (s : DispatchState) (k tasks : ℕ) → k < length s.leaves
@@ -181,12 +187,12 @@ module _ (slice overrun processors a b i j : ℕ) where
       let kj = woken_kept s k tasks j known in
       let n = l.numbers in
       let up : Numbers slice overrun processors a b (leaf_at s i).used (runs_of i s.processors)
-          (leaf_at t i).charged (leaf_at s j).used (runs_of j s.processors) (leaf_at s j).charged =
-          record {
-            charge_i = omega (arith, n.charge_i, ki.charged);
-            charge_j = n.charge_j;
-            lead = n.lead;
-          } in
+      (leaf_at t i).charged (leaf_at s j).used (runs_of j s.processors) (leaf_at s j).charged =
+      record {
+        charge_i = omega (arith, n.charge_i, ki.charged);
+        charge_j = n.charge_j;
+        lead = n.lead;
+      } in
       record {
         slice_is = l.slice_is;
         processors_are = l.processors_are;
@@ -212,16 +218,18 @@ by_pick : (s : DispatchState) (p k x : ℕ) → MayPick s p k
 by_pick s p k x may = by_case (leaf_set s.leaves k x w (new_leaf 0) may.leaf.known) where
   w : Leaf
   w = picked s.slice (leaf_at s k)
+
   count : runs_of x (slice_set s.processors p (Some k)) + 0
       ≡ runs_of x s.processors + one_run x (Some k)
   count = runs_set x s.processors p None (Some k) may.free
+
   by_case : ((x ≡ k) × (get_or (slice_set s.leaves k w) x (new_leaf 0) ≡ w))
       ⊎ ((k ≢ x) × (get_or (slice_set s.leaves k w) x (new_leaf 0) ≡ leaf_at s x))
       → IsPicked s p k x ⊎ IsNotPicked s p k x
   by_case (inl c) =
       let same : leaf_at s k ≡ leaf_at s x = ap (leaf_at s) (sym c.0) in
       let is : leaf_at (after s (Pick p k)) x ≡ picked s.slice (leaf_at s x) =
-          c.1 ∙ ap (picked s.slice) same in
+      c.1 ∙ ap (picked s.slice) same in
       let one = one_run_same x k (sym c.0) in
       inl (record {
         same = sym c.0;
@@ -261,25 +269,30 @@ by_end : (s : DispatchState) (p used : ℕ) (remains : Bool) (x : ℕ) → Runs 
 by_end s p used remains x on = by_case (leaf_set s.leaves k x w (new_leaf 0) on.known) where
   k : ℕ
   k = on.leaf
+
   w : Leaf
   w = ended s.slice used remains (leaf_at s k)
+
   t : DispatchState
   t = state_ended s p used remains (Some (Some k))
+
   is_t : after s (End p used remains) ≡ t
   is_t = end_state s p used remains k on.runs
+
   count : runs_of x t.processors + one_run x (Some k) ≡ runs_of x s.processors + 0
   count = runs_set x s.processors p (Some k) None on.runs
+
   by_case : ((x ≡ k) × (get_or (slice_set s.leaves k w) x (new_leaf 0) ≡ w))
       ⊎ ((k ≢ x) × (get_or (slice_set s.leaves k w) x (new_leaf 0) ≡ leaf_at s x))
       → IsEnded s p used remains x ⊎ IsNotEnded s p used remains x
   by_case (inl c) =
       let same : leaf_at s k ≡ leaf_at s x = ap (leaf_at s) (sym c.0) in
       let is : leaf_at (after s (End p used remains)) x ≡ ended s.slice used remains (leaf_at s x) =
-          ap (λ (u : DispatchState). leaf_at u x) is_t ∙ c.1
-          ∙ ap (ended s.slice used remains) same in
+      ap (λ (u : DispatchState). leaf_at u x) is_t ∙ c.1
+      ∙ ap (ended s.slice used remains) same in
       let one = one_run_same x k (sym c.0) in
       let runs : runs_of x (after s (End p used remains)).processors ≡ runs_of x t.processors =
-          ap (λ (u : DispatchState). runs_of x u.processors) is_t in
+      ap (λ (u : DispatchState). runs_of x u.processors) is_t in
       inl (record {
         ran = on.runs ∙ ap (λ (n : ℕ). Some (Some n)) (sym c.0);
         amount = ap (λ (l : Leaf). l.amount) is;
@@ -290,7 +303,7 @@ by_end s p used remains x on = by_case (leaf_set s.leaves k x w (new_leaf 0) on.
   by_case (inr c) =
       let none = one_run_other x k c.0 in
       let runs : runs_of x (after s (End p used remains)).processors ≡ runs_of x t.processors =
-          ap (λ (u : DispatchState). runs_of x u.processors) is_t in
+      ap (λ (u : DispatchState). runs_of x u.processors) is_t in
       inr (record {
         leaf = ap (λ (u : DispatchState). leaf_at u x) is_t ∙ c.1;
         runs = omega (arith, count, none, runs);
@@ -313,21 +326,24 @@ module _ (slice overrun processors a b i j : ℕ) (ne : i ≢ j) where
   pick_keeps s p k may waits l = by_case (by_pick s p k i may) (by_pick s p k j may) where
     t : DispatchState
     t = after s (Pick p k)
+
     procs : length t.processors ≡ processors
     procs = length_set s.processors p (Some k) ∙ l.processors_are
+
     plus : (x : ℕ) → (leaf_at s x).charged + s.slice ≡ (leaf_at s x).charged + slice
     plus x = ap (λ (n : ℕ). (leaf_at s x).charged + n) l.slice_is
+
     by_case : IsPicked s p k i ⊎ IsNotPicked s p k i → IsPicked s p k j ⊎ IsNotPicked s p k j
         → Leads slice overrun processors a b i j t
     by_case (inl c) (inl d) = absurd (ne (sym c.same ∙ d.same))
     by_case (inl c) (inr d) =
         let both = two_runs i j ne t.processors in
         let least : (leaf_at s i).charged * b ≤ (leaf_at s j).charged * a =
-            subst (λ (n : ℕ). (leaf_at s i).charged * n ≤ (leaf_at s j).charged * a) l.amount_j
-            (subst (λ (n : ℕ). (leaf_at s i).charged * (leaf_at s j).amount
-            ≤ (leaf_at s j).charged * n) l.amount_i
-            (subst (λ (x : ℕ). (leaf_at s x).charged * (leaf_at s j).amount
-            ≤ (leaf_at s j).charged * (leaf_at s x).amount) c.same (may.leaf.least j waits))) in
+        subst (λ (n : ℕ). (leaf_at s i).charged * n ≤ (leaf_at s j).charged * a) l.amount_j
+        (subst (λ (n : ℕ). (leaf_at s i).charged * (leaf_at s j).amount
+        ≤ (leaf_at s j).charged * n) l.amount_i
+        (subst (λ (x : ℕ). (leaf_at s x).charged * (leaf_at s j).amount
+        ≤ (leaf_at s j).charged * (leaf_at s x).amount) c.same (may.leaf.least j waits))) in
         record {
           slice_is = l.slice_is;
           processors_are = procs;
@@ -365,54 +381,58 @@ module _ (slice overrun processors a b i j : ℕ) (ne : i ≢ j) where
       → Leads slice overrun processors a b i j (after s (End p used remains))
   end_keeps s p used remains on short' l =
       by_case (by_end s p used remains i on) (by_end s p used remains j on) where
-    t : DispatchState
-    t = after s (End p used remains)
-    around : SameAround s p used remains
-    around = same_around s p used remains on
-    short : used ≤ slice + overrun
-    short = subst (λ (n : ℕ). used ≤ n + overrun) l.slice_is short'
-    less : (x : ℕ) → (leaf_at s x).charged + used - s.slice ≡ (leaf_at s x).charged + used - slice
-    less x = ap (λ (n : ℕ). (leaf_at s x).charged + used - n) l.slice_is
-    by_case : IsEnded s p used remains i ⊎ IsNotEnded s p used remains i
-        → IsEnded s p used remains j ⊎ IsNotEnded s p used remains j
-        → Leads slice overrun processors a b i j t
-    by_case (inl c) (inl d) =
-        let both : ◌≡◌ {A = Option (Option ℕ)} (Some (Some i)) (Some (Some j)) = sym c.ran ∙ d.ran in
-        let one : i ≡ j = cc both in
-        absurd (ne one)
-    by_case (inl c) (inr d) = record {
-      slice_is = around.slice ∙ l.slice_is;
-      processors_are = around.processors ∙ l.processors_are;
-      amount_i = c.amount ∙ l.amount_i;
-      amount_j = ap (λ (l : Leaf). l.amount) d.leaf ∙ l.amount_j;
-      numbers = same_numbers slice overrun processors a b c.uses refl (c.charged ∙ less i)
-          (ap (λ (l : Leaf). l.used) d.leaf) d.runs (ap (λ (l : Leaf). l.charged) d.leaf)
-          (ended_i slice overrun processors a b used _ _ _ _ _ _ short
-          (same_numbers slice overrun processors a b refl (sym c.runs) refl refl refl refl
-          l.numbers));
-    }
-    by_case (inr c) (inl d) = record {
-      slice_is = around.slice ∙ l.slice_is;
-      processors_are = around.processors ∙ l.processors_are;
-      amount_i = ap (λ (l : Leaf). l.amount) c.leaf ∙ l.amount_i;
-      amount_j = d.amount ∙ l.amount_j;
-      numbers = same_numbers slice overrun processors a b
-          (ap (λ (l : Leaf). l.used) c.leaf) c.runs (ap (λ (l : Leaf). l.charged) c.leaf)
-          d.uses refl (d.charged ∙ less j)
-          (ended_j slice overrun processors a b used _ _ _ _ _ _
-          (same_numbers slice overrun processors a b refl refl refl refl (sym d.runs) refl
-          l.numbers));
-    }
-    by_case (inr c) (inr d) = record {
-      slice_is = around.slice ∙ l.slice_is;
-      processors_are = around.processors ∙ l.processors_are;
-      amount_i = ap (λ (l : Leaf). l.amount) c.leaf ∙ l.amount_i;
-      amount_j = ap (λ (l : Leaf). l.amount) d.leaf ∙ l.amount_j;
-      numbers = same_numbers slice overrun processors a b
-          (ap (λ (l : Leaf). l.used) c.leaf) c.runs (ap (λ (l : Leaf). l.charged) c.leaf)
-          (ap (λ (l : Leaf). l.used) d.leaf) d.runs (ap (λ (l : Leaf). l.charged) d.leaf)
-          l.numbers;
-    }
+        t : DispatchState
+        t = after s (End p used remains)
+
+        around : SameAround s p used remains
+        around = same_around s p used remains on
+
+        short : used ≤ slice + overrun
+        short = subst (λ (n : ℕ). used ≤ n + overrun) l.slice_is short'
+
+        less : (x : ℕ) → (leaf_at s x).charged + used - s.slice ≡ (leaf_at s x).charged + used - slice
+        less x = ap (λ (n : ℕ). (leaf_at s x).charged + used - n) l.slice_is
+
+        by_case : IsEnded s p used remains i ⊎ IsNotEnded s p used remains i
+            → IsEnded s p used remains j ⊎ IsNotEnded s p used remains j
+            → Leads slice overrun processors a b i j t
+        by_case (inl c) (inl d) =
+            let both : ◌≡◌ {A = Option (Option ℕ)} (Some (Some i)) (Some (Some j)) = sym c.ran ∙ d.ran in
+            let one : i ≡ j = cc both in
+            absurd (ne one)
+        by_case (inl c) (inr d) = record {
+          slice_is = around.slice ∙ l.slice_is;
+          processors_are = around.processors ∙ l.processors_are;
+          amount_i = c.amount ∙ l.amount_i;
+          amount_j = ap (λ (l : Leaf). l.amount) d.leaf ∙ l.amount_j;
+          numbers = same_numbers slice overrun processors a b c.uses refl (c.charged ∙ less i)
+              (ap (λ (l : Leaf). l.used) d.leaf) d.runs (ap (λ (l : Leaf). l.charged) d.leaf)
+              (ended_i slice overrun processors a b used _ _ _ _ _ _ short
+              (same_numbers slice overrun processors a b refl (sym c.runs) refl refl refl refl
+              l.numbers));
+        }
+        by_case (inr c) (inl d) = record {
+          slice_is = around.slice ∙ l.slice_is;
+          processors_are = around.processors ∙ l.processors_are;
+          amount_i = ap (λ (l : Leaf). l.amount) c.leaf ∙ l.amount_i;
+          amount_j = d.amount ∙ l.amount_j;
+          numbers = same_numbers slice overrun processors a b
+              (ap (λ (l : Leaf). l.used) c.leaf) c.runs (ap (λ (l : Leaf). l.charged) c.leaf)
+              d.uses refl (d.charged ∙ less j)
+              (ended_j slice overrun processors a b used _ _ _ _ _ _
+              (same_numbers slice overrun processors a b refl refl refl refl (sym d.runs) refl
+              l.numbers));
+        }
+        by_case (inr c) (inr d) = record {
+          slice_is = around.slice ∙ l.slice_is;
+          processors_are = around.processors ∙ l.processors_are;
+          amount_i = ap (λ (l : Leaf). l.amount) c.leaf ∙ l.amount_i;
+          amount_j = ap (λ (l : Leaf). l.amount) d.leaf ∙ l.amount_j;
+          numbers = same_numbers slice overrun processors a b
+              (ap (λ (l : Leaf). l.used) c.leaf) c.runs (ap (λ (l : Leaf). l.charged) c.leaf)
+              (ap (λ (l : Leaf). l.used) d.leaf) d.runs (ap (λ (l : Leaf). l.charged) d.leaf)
+              l.numbers;
+        }
 
   -- each event of a run
   step_keeps : (s : DispatchState) (e : Event) → Allows s e → UsesAtMost (s.slice + overrun) e

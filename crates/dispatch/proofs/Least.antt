@@ -1,10 +1,9 @@
 -- The leaf with the least clock among those that wait.
-use Rattle.std.proofs.Common.{◌≡◌, ℕ, zero, suc, ◌+◌, ◌*◌, ◌<◌, ◌≤◌, ◌⊎◌, inl, inr, List, [], ◌∷◌}
+use Rattle.std.proofs.Common.{◌≡◌, ℕ, zero, suc, ◌*◌, ◌<◌, ◌≤◌, ◌⊎◌, inl, inr, List, [], ◌∷◌}
 use Rattle.std.proofs.Common.{length, get_or, Option, None, Some, slice_get, refl, arith, sym, ◌∙◌}
 use Rattle.std.proofs.Math.Nat.{mul-le-mul_right, le_of_mul-le-mul_right}
 use Rattle.dispatch.specs.declared.leaves.Leaf.{Leaf}
-use Rattle.dispatch.specs.declared.events.Event.TheVariants.{Wake, Pick, End}
-use Rattle.dispatch.specs.Rule.{DispatchState, leaf_at, new_leaf, Allows, MayPick, Runs, IsLeast}
+use Rattle.dispatch.specs.Rule.{DispatchState, leaf_at, new_leaf, MayPick, IsLeast}
 use Rattle.dispatch.specs.Rule.{NoneWaits}
 use Rattle.dispatch.specs.Runs.{AreAmounts, NoProcessorIdles}
 
@@ -15,7 +14,6 @@ clocks_trans c1 a1 c2 a2 c3 a3 some one two =
     let most = mul-le-mul_right a1 two in
     let both : c1 * a3 * a2 ≤ c3 * a1 * a2 = omega (arith, more, most) in
     le_of_mul-le-mul_right both some
-
 
 abbrev leq : Leaf → Leaf → Type 0
 leq l m = l.charged * m.amount ≤ m.charged * l.amount
@@ -33,11 +31,14 @@ onto_least : (l : Leaf) (ls : List Leaf) (i : ℕ) → 0 < l.waiting → 0 < l.a
     → ((k : ℕ) → k < length ls → 0 < (get_or ls k (new_leaf 0)).amount) → IsLeast ls i
     → (leq l (get_or ls i (new_leaf 0))) ⊎ (leq (get_or ls i (new_leaf 0)) l)
     → (m : ℕ) × IsLeast (l ∷ ls) m
-onto_least l ls i waits some positive rest (inl le) = (0, record {
-  known = omega arith;
-  waits = waits;
-  least = each;
-}) where
+onto_least l ls i waits some positive rest (inl le) = (
+  0,
+  record {
+    known = omega arith;
+    waits = waits;
+    least = each;
+  },
+) where
   each : (k : ℕ) → 0 < (get_or (l ∷ ls) k (new_leaf 0)).waiting
       → leq l (get_or (l ∷ ls) k (new_leaf 0))
   each zero w = omega arith
@@ -45,11 +46,14 @@ onto_least l ls i waits some positive rest (inl le) = (0, record {
       clocks_trans l.charged l.amount (get_or ls i (new_leaf 0)).charged
       (get_or ls i (new_leaf 0)).amount (get_or ls k (new_leaf 0)).charged
       (get_or ls k (new_leaf 0)).amount (positive i rest.known) le (rest.least k w)
-onto_least l ls i waits some positive rest (inr le) = (suc i, record {
-  known = omega (arith, rest.known);
-  waits = rest.waits;
-  least = each;
-}) where
+onto_least l ls i waits some positive rest (inr le) = (
+  suc i,
+  record {
+    known = omega (arith, rest.known);
+    waits = rest.waits;
+    least = each;
+  },
+) where
   each : (k : ℕ) → 0 < (get_or (l ∷ ls) k (new_leaf 0)).waiting
       → leq (get_or ls i (new_leaf 0)) (get_or (l ∷ ls) k (new_leaf 0))
   each zero w = le
@@ -59,11 +63,14 @@ add_leaf : (l : Leaf) (ls : List Leaf) → 0 < l.amount
     → ((k : ℕ) → k < length ls → 0 < (get_or ls k (new_leaf 0)).amount)
     → (0 < l.waiting) ⊎ (l.waiting ≤ 0) → NoneWaits ls ⊎ ((i : ℕ) × IsLeast ls i)
     → NoneWaits (l ∷ ls) ⊎ ((i : ℕ) × IsLeast (l ∷ ls) i)
-add_leaf l ls some positive (inl waits) (inl rest) = inr (0, record {
-  known = omega arith;
-  waits = waits;
-  least = each;
-}) where
+add_leaf l ls some positive (inl waits) (inl rest) = inr (
+  0,
+  record {
+    known = omega arith;
+    waits = waits;
+    least = each;
+  },
+) where
   each : (k : ℕ) → 0 < (get_or (l ∷ ls) k (new_leaf 0)).waiting
       → leq l (get_or (l ∷ ls) k (new_leaf 0))
   each zero w = omega arith
@@ -76,11 +83,14 @@ add_leaf l ls some positive (inr idle) (inl rest) = inl each where
   each : NoneWaits (l ∷ ls)
   each zero = omega (arith, idle)
   each (suc k) = rest k
-add_leaf l ls some positive (inr idle) (inr rest) = inr (suc rest.0, record {
-  known = omega (arith, rest.1.known);
-  waits = rest.1.waits;
-  least = each;
-}) where
+add_leaf l ls some positive (inr idle) (inr rest) = inr (
+  suc rest.0,
+  record {
+    known = omega (arith, rest.1.known);
+    waits = rest.1.waits;
+    least = each;
+  },
+) where
   each : (k : ℕ) → 0 < (get_or (l ∷ ls) k (new_leaf 0)).waiting
       → leq (get_or ls rest.0 (new_leaf 0)) (get_or (l ∷ ls) k (new_leaf 0))
   each zero w = absurd (let clash : ⊥ = omega (arith, w, idle) in clash)
@@ -110,6 +120,6 @@ no_processor_idles = record {
   may_pick = may_pick;
   only_a_pick = λ s p used remains free on.
       let both : ◌≡◌ {A = Option (Option ℕ)} (Some None) (Some (Some on.leaf)) =
-          sym free ∙ on.runs in
+      sym free ∙ on.runs in
       absurd (let inner : ◌≡◌ {A = Option ℕ} None (Some on.leaf) = cc both in cc inner);
 }

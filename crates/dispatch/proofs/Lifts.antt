@@ -1,5 +1,5 @@
 -- When a wake lifts a leaf, and how far.
-use Rattle.std.proofs.Common.{◌≡◌, ◌≢◌, ℕ, zero, suc, ◌+◌, ◌*◌, ◌/◌, ◌<◌, ◌≤◌, ◌⊎◌, inl, inr, min, max}
+use Rattle.std.proofs.Common.{◌≡◌, ◌≢◌, ℕ, zero, suc, ◌*◌, ◌/◌, ◌<◌, ◌≤◌, ◌⊎◌, inl, inr, max}
 use Rattle.std.proofs.Common.{List, [], ◌∷◌, length, get_or, Bool, true, false, Option, None, Some, refl}
 use Rattle.std.proofs.Common.{ap, sym, subst, ◌∙◌, arith, if◌then◌else◌, slice_set, IfSome}
 use Rattle.std.proofs.Math.Nat.{div-mul-le_self, mul-le-mul_right}
@@ -18,6 +18,7 @@ kept : (s : DispatchState) (j i tasks : ℕ) → i < length s.leaves
 kept s j i tasks known same = by_case (leaf_set s.leaves i j w (new_leaf 0) known) where
   w : Leaf
   w = woken s.leaves tasks (leaf_at s i)
+
   by_case : ((j ≡ i) × (get_or (slice_set s.leaves i w) j (new_leaf 0) ≡ w))
       ⊎ ((i ≢ j) × (get_or (slice_set s.leaves i w) j (new_leaf 0) ≡ leaf_at s j))
       → WaitsAt j s (Wake i tasks)
@@ -31,7 +32,7 @@ awake : (s : DispatchState) (j i tasks : ℕ) → i < length s.leaves
 awake s j i tasks known has =
     kept s j i tasks known (λ e.
     let here : has_tasks (leaf_at s i) ≡ true =
-        subst (λ (k : ℕ). has_tasks (leaf_at s k) ≡ true) (sym e) has in
+    subst (λ (k : ℕ). has_tasks (leaf_at s k) ≡ true) (sym e) has in
     ap (λ (b : Bool). if b then (leaf_at s i).charged
     else lifted (leaf_at s i).charged (level (leaf_at s i).amount s.leaves)) here)
 
@@ -49,14 +50,15 @@ level_keeps : (a : ℕ) (ls : List Leaf) (m most : ℕ) → m ≤ most
 level_keeps a [] m most less = (m, refl, less)
 level_keeps a (l ∷ ls) m most less =
     by_test (has_tasks l) (λ k more. level_keeps a ls k most more) where
-  q : ℕ
-  q = a * l.charged / l.amount
-  by_test : (b : Bool)
-      → ((k : ℕ) → k ≤ most → (n : ℕ) × (level_from (Some k) a ls ≡ Some n) × (n ≤ most))
-      → (n : ℕ)
-      × (level_from (if b then Some (at_most (Some m) q) else Some m) a ls ≡ Some n) × (n ≤ most)
-  by_test true rest = rest (at_most (Some m) q) (lower_known m q most less)
-  by_test false rest = rest m less
+      q : ℕ
+      q = a * l.charged / l.amount
+
+      by_test : (b : Bool)
+          → ((k : ℕ) → k ≤ most → (n : ℕ) × (level_from (Some k) a ls ≡ Some n) × (n ≤ most))
+          → (n : ℕ)
+          × (level_from (if b then Some (at_most (Some m) q) else Some m) a ls ≡ Some n) × (n ≤ most)
+      by_test true rest = rest (at_most (Some m) q) (lower_known m q most less)
+      by_test false rest = rest m less
 
 level_below : (a : ℕ) (ls : List Leaf) (known : Option ℕ) (k : ℕ)
     → has_tasks (get_or ls k (new_leaf 0)) ≡ true
@@ -77,9 +79,9 @@ none_of_zero a c n some is =
     let none : a * c ≡ a * 0 = ap (λ m. a * m) is in
     let part = div-mul-le_self (a * c) n in
     small (a * c / n) n some (omega (arith, part, none)) where
-  small : (q n : ℕ) → 0 < n → q * n ≤ 0 → q ≤ 0
-  small zero n some h = omega arith
-  small (suc q) n some h = absurd (let clash : ⊥ = omega (arith, some, h) in clash)
+      small : (q n : ℕ) → 0 < n → q * n ≤ 0 → q ≤ 0
+      small zero n some h = omega arith
+      small (suc q) n some h = absurd (let clash : ⊥ = omega (arith, some, h) in clash)
 
 level_zero : (a : ℕ) (ls : List Leaf) (known : Option ℕ)
     → ((k : ℕ) → (get_or ls k (new_leaf 0)).charged ≡ 0)
@@ -89,12 +91,12 @@ level_zero a [] known zeros positive none = none
 level_zero a (l ∷ ls) known zeros positive none =
     level_zero a ls (if has_tasks l then Some (at_most known (a * l.charged / l.amount)) else known)
     (λ k. zeros (suc k)) (λ k less. positive (suc k) (omega (arith, less))) (by_test (has_tasks l)) where
-  by_test : (b : Bool)
-      → IfSome (if b then Some (at_most known (a * l.charged / l.amount)) else known) (λ n. n ≤ 0)
-  by_test true =
-      let q = none_of_zero a l.charged l.amount (positive 0 (omega arith)) (zeros 0) in
-      omega (arith, q, lower known (a * l.charged / l.amount))
-  by_test false = none
+      by_test : (b : Bool)
+          → IfSome (if b then Some (at_most known (a * l.charged / l.amount)) else known) (λ n. n ≤ 0)
+      by_test true =
+          let q = none_of_zero a l.charged l.amount (positive 0 (omega arith)) (zeros 0) in
+          omega (arith, q, lower known (a * l.charged / l.amount))
+      by_test false = none
 
 lifted_by_none : (c : ℕ) (o : Option ℕ) → IfSome o (λ n. n ≤ 0) → lifted c o ≡ c
 lifted_by_none c None none = refl
@@ -105,6 +107,7 @@ at_start : (s : DispatchState) (j i tasks : ℕ) → i < length s.leaves → Are
 at_start s j i tasks known amounts zeros = kept s j i tasks known (λ e. by_test (has_tasks l)) where
   l : Leaf
   l = leaf_at s i
+
   by_test : (b : Bool)
       → (if b then l.charged else lifted l.charged (level l.amount s.leaves)) ≡ l.charged
   by_test true = refl
@@ -127,15 +130,20 @@ pub lift_is_at_most_the_least : LiftIsAtMostTheLeast
 lift_is_at_most_the_least s i k tasks known amounts has more' = result where
   l : Leaf
   l = leaf_at s i
+
   w : Leaf
   w = woken s.leaves tasks l
+
   is : leaf_at (after s (Wake i tasks)) i ≡ w
   is = get_or-set_same s.leaves i w (new_leaf 0) known
+
   more : l.charged < w.charged
   more = subst (λ (m : Leaf). l.charged < m.charged) is more'
+
   found : (n : ℕ) × (level l.amount s.leaves ≡ Some n)
       × (n ≤ l.amount * (leaf_at s k).charged / (leaf_at s k).amount)
   found = level_below l.amount s.leaves None k has
+
   by_test : (b : Bool)
       → l.charged < (if b then l.charged else lifted l.charged (level l.amount s.leaves))
       → (if b then l.charged else lifted l.charged (level l.amount s.leaves)) * (leaf_at s k).amount
@@ -146,6 +154,7 @@ lift_is_at_most_the_least s i k tasks known amounts has more' = result where
       ≤ (leaf_at s k).charged * l.amount) (sym found.1)
       (lift_bound l.charged found.0 l.amount (leaf_at s k).charged (leaf_at s k).amount found.2
       (subst (λ (o : Option ℕ). l.charged < lifted l.charged o) found.1 h))
+
   result : (leaf_at (after s (Wake i tasks)) i).charged * (leaf_at s k).amount
       ≤ (leaf_at s k).charged * (leaf_at (after s (Wake i tasks)) i).amount
   result = subst (λ (m : Leaf). m.charged * (leaf_at s k).amount ≤ (leaf_at s k).charged * m.amount)

@@ -1,8 +1,8 @@
 -- The finding on a text, by its first line.
-use Rattle.std.proofs.Common.{◌≡◌, ◌≢◌, ℕ, suc, ◌+◌, ◌<◌, ◌≤◌, ◌==◌, List, [], ◌∷◌, length, Bool, true}
-use Rattle.std.proofs.Common.{false, Option, None, Some, Result, Ok, Err, refl, ap, sym, subst, ◌∙◌}
+use Rattle.std.proofs.Common.{◌≡◌, ℕ, ◌+◌, ◌≤◌, ◌==◌, List, ◌∷◌, length, Bool}
+use Rattle.std.proofs.Common.{false, Option, None, Some, Result, Ok, Err, ap, ◌∙◌}
 use Rattle.std.proofs.Common.{arith, if◌then◌else◌}
-use Rattle.std.specs.List.{slice_split, count_by}
+use Rattle.std.specs.List.{slice_split}
 use Rattle.std.proofs.lemmas.List.Splits.{length-slice_split}
 use Rattle.std.proofs.lemmas.List.Sums.{count_by-le-length}
 use Rattle.std.proofs.lemmas.Bool.{ne_eqb}
@@ -36,11 +36,11 @@ first_line : (s : DispatchState) (n picks : ℕ) (rest line next : List ℕ)
 unfolding finding_from
 first_line s n picks rest line next split =
     let rec : Input → Finding = λ (i : Input). at_input n (input_fault s i)
-        (finding_from (input_after s i) (n + 1) (picks + picks_in i) (parts next)) in
+    (finding_from (input_after s i) (n + 1) (picks + picks_in i) (parts next)) in
     ap (finding_from s n picks) split
     ∙ ap (λ (b : Bool). if b
-      then (if length line == 0 then Allowed picks else Refused n (Bad CutShort))
-      else at_line n (input_of (words line)) rec)
+    then (if length line == 0 then Allowed picks else Refused n (Bad CutShort))
+    else at_line n (input_of (words line)) rec)
     (parts_some next)
 
 pub refused_line : (s : DispatchState) (n picks : ℕ) (rest line next : List ℕ) (f : InputFault)
@@ -56,7 +56,7 @@ pub refused_input : (s : DispatchState) (n picks : ℕ) (rest line next : List �
     → input_fault s i ≡ Some f → finding_from s n picks (parts rest) ≡ Refused n f
 refused_input s n picks rest line next i f split is faulty =
     let after : Finding =
-        finding_from (input_after s i) (n + 1) (picks + picks_in i) (parts next) in
+    finding_from (input_after s i) (n + 1) (picks + picks_in i) (parts next) in
     first_line s n picks rest line next split
     ∙ ap (λ (r : Result Input InputFault). at_line n r (λ i. at_input n (input_fault s i)
     (finding_from (input_after s i) (n + 1) (picks + picks_in i) (parts next)))) is
@@ -68,7 +68,7 @@ pub goes_on : (s : DispatchState) (n picks : ℕ) (rest line next : List ℕ) (i
     ≡ finding_from (input_after s i) (n + 1) (picks + picks_in i) (parts next)
 goes_on s n picks rest line next i split is fine =
     let after : Finding =
-        finding_from (input_after s i) (n + 1) (picks + picks_in i) (parts next) in
+    finding_from (input_after s i) (n + 1) (picks + picks_in i) (parts next) in
     first_line s n picks rest line next split
     ∙ ap (λ (r : Result Input InputFault). at_line n r (λ i. at_input n (input_fault s i)
     (finding_from (input_after s i) (n + 1) (picks + picks_in i) (parts next)))) is
@@ -78,8 +78,14 @@ goes_on s n picks rest line next i split is fine =
 pub line_bound : (text rest line next : List ℕ) (n : ℕ) → parts rest ≡ line ∷ parts next
     → n + length (parts rest) ≡ 1 + length (parts text) → n ≤ length text
 line_bound text rest line next n split lines =
-    omega (arith, lines, ap length split, length-slice_split (λ b. b == 10) text,
-    count_by-le-length (λ b. b == 10) text, length-slice_split (λ b. b == 10) next)
+    omega (
+      arith,
+      lines,
+      ap length split,
+      length-slice_split (λ b. b == 10) text,
+      count_by-le-length (λ b. b == 10) text,
+      length-slice_split (λ b. b == 10) next,
+    )
 
 pub lines_go_on : (text rest line next : List ℕ) (n : ℕ) → parts rest ≡ line ∷ parts next
     → n + length (parts rest) ≡ 1 + length (parts text)

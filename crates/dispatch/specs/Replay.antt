@@ -1,13 +1,12 @@
 -- The replay of a trace, line by line.
 use Rattle.std.specs.Prelude.{◌≡◌, ◌<◌, ◌≤◌, ◌↔◌, ℕ, ◌+◌, ◌==◌, ◌||◌, nat_lt, List, [], ◌∷◌, ◌++◌, length, replicate}
-use Rattle.std.specs.Prelude.{Bool, true, false, Option, None, Some, Result, Ok, Err, codes}
+use Rattle.std.specs.Prelude.{Bool, Option, None, Some, Result, Ok, Err, codes}
 use Rattle.std.specs.Prelude.{if◌then◌else◌}
 use Rattle.std.specs.List.{slice_split}
 use Rattle.std.specs.Fmt.{decimal}
 use Rattle.bw_text.specs.Words.{words}
-use Rattle.bw_streams.specs.Answers.{number_line, refusal_line}
-use Rattle.dispatch.specs.declared.events.Event.{Event}
-use Rattle.dispatch.specs.declared.events.Event.TheVariants.{Wake, Pick, End}
+use Rattle.bw_streams.specs.Answers.{refusal_line}
+use Rattle.dispatch.specs.declared.events.Event.TheVariants.{Pick}
 use Rattle.dispatch.specs.declared.events.Refusal.{Refusal}
 use Rattle.dispatch.specs.declared.events.Refusal.TheVariants.{UnknownLeaf, UnknownProcessor}
 use Rattle.dispatch.specs.declared.events.Refusal.TheVariants.{ProcessorBusy, ProcessorIdle}
@@ -116,6 +115,11 @@ fault_text (NotAllowed r) = codes "not allowed:" ++ (codes " " ++ reason r ++ 10
 abbrev pub finding_text : Finding → List ℕ
 finding_text (Allowed picks) = (codes "allowed: " ++ decimal picks) ++ (codes " picks" ++ 10 ∷ [])
 finding_text (Refused n f) = (codes "line " ++ decimal n) ++ (codes ": " ++ fault_text f)
+
+-- the exit status
+abbrev pub status_of : Finding → ℕ
+status_of (Allowed picks) = 0
+status_of (Refused n f) = 3
 
 -- ---- the lines that are accepted
 

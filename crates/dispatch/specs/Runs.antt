@@ -2,8 +2,7 @@
 -- are in nanoseconds. No promise divides: a use over an amount is compared by products.
 use Rattle.std.specs.Prelude.{◌≡◌, ◌≢◌, ℕ, ◌+◌, ◌-◌, ◌*◌, ◌<◌, ◌≤◌, ◌==◌, Bool, true, List, [], ◌∷◌, length}
 use Rattle.std.specs.Prelude.{Option, None, Some, slice_get, if◌then◌else◌}
-use Rattle.std.specs.List.{sum_by, All}
-use Rattle.dispatch.specs.declared.leaves.Leaf.{Leaf}
+use Rattle.std.specs.List.{sum_by}
 use Rattle.dispatch.specs.declared.events.Event.{Event}
 use Rattle.dispatch.specs.declared.events.Event.TheVariants.{Wake, Pick, End}
 use Rattle.dispatch.specs.Rule.{DispatchState, leaf_at, has_tasks, after, Allows, MayPick}

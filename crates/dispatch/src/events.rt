@@ -4,9 +4,15 @@
 #[derive(Clone, Copy, Debug, PartialEq)]
 pub enum Event {
     /// So many tasks of a leaf wake.
-    Wake { leaf: u64, tasks: u64 },
+    Wake {
+        leaf: u64,
+        tasks: u64,
+    },
     /// A processor that is free takes a waiting task of a leaf.
-    Pick { processor: u64, leaf: u64 },
+    Pick {
+        processor: u64,
+        leaf: u64,
+    },
     /// The task on a processor ends its run, which took `used` nanoseconds. It waits again, or has
     /// gone to sleep.
     End {

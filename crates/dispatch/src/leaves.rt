@@ -220,12 +220,7 @@ pub fn leaf_picked(slice: u64, leaves: &[Leaf], leaf: Option<Leaf>) -> Result<Le
 ///
 /// - [`Refusal::UnknownLeaf`] if there is no leaf.
 /// - [`Refusal::TooGreat`] if a number would be above `u64::MAX`.
-pub fn leaf_ended(
-    slice: u64,
-    used: u64,
-    remains: bool,
-    leaf: Option<Leaf>,
-) -> Result<Leaf, Refusal>
+pub fn leaf_ended(slice: u64, used: u64, remains: bool, leaf: Option<Leaf>) -> Result<Leaf, Refusal>
     ensures { result ≡ leaf_ended slice used remains leaf }
 {
     let leaf = leaf.ok_or(Refusal::UnknownLeaf)?;

@@ -3,6 +3,7 @@ ghost use Rattle.std.specs.Prelude.{◌≡◌, ◌++◌, ℕ, None, IfOk, OnOk, 
 ghost use Rattle.std.specs.List.{slice_split};
 ghost use Rattle.dispatch.specs.Replay.{fault_of, event_fault, input_fault, input_after, is_out};
 ghost use Rattle.dispatch.specs.Replay.{picks_in, finding_of, finding_text, reason, fault_text};
+ghost use Rattle.dispatch.specs.Replay.{status_of};
 
 use crate::events::{Event, Refusal};
 use crate::fault::InputFault;
@@ -231,5 +232,15 @@ pub fn put_finding(finding: Finding, answer: &mut Vec<u8>) -> Result<(), AllocEr
             answer.extend_from_slice(b": ")?;
             put_fault(fault, answer)
         }
+    }
+}
+
+/// Exit status of a finding: 0 if each event is allowed, 3 if a line is refused.
+pub fn status_of(finding: Finding) -> u8
+    ensures { result ≡ status_of finding }
+{
+    match finding {
+        Finding::Allowed { .. } => 0,
+        Finding::Refused { .. } => 3,
     }
 }

@@ -1,7 +1,6 @@
 -- What stands at each turn of the loop in `level`: the least clock so far, lowered by the rest, is
 -- that of all.
-use Rattle.std.proofs.Common.{◌≡◌, drop, None}
-use Rattle.std.specs.List.{All}
+use Rattle.std.proofs.Common.{◌≡◌, drop}
 use Rattle.dispatch.specs.Rule.{level_from, level}
 use Rattle.dispatch.proofs.leaves.level.Given as goal
 

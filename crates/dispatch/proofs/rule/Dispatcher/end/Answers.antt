@@ -7,10 +7,10 @@ use Rattle.dispatch.proofs.rule.Dispatcher.end.Goals as goal
 pub returns-clause-state : goal.returns-clause-state
 returns-clause-state c =
     let runs : leaf_run (slice_get c.args.self.now.processors c.args.processor)
-        ≡ Ok c.in_ok-leaf.leaf = search rules in
+    ≡ Ok c.in_ok-leaf.leaf = search rules in
     let is : leaf_ended c.args.self.now.slice c.args.used c.args.remains
-        (slice_get c.args.self.now.leaves c.in_ok-leaf.leaf) ≡ Ok c.in_ok-ended.ended =
-        search rules in
+    (slice_get c.args.self.now.leaves c.in_ok-leaf.leaf) ≡ Ok c.in_ok-ended.ended =
+    search rules in
     ap (λ (s : DispatchState). record s {
       leaves = slice_set s.leaves c.in_ok-leaf.leaf c.in_ok-ended.ended;
       processors = slice_set s.processors c.args.processor None;
