@@ -110,16 +110,17 @@ some_not (suc n) is = omega arith
 -- no leaf is found behind
 pub behind_false : (l m : Leaf) → waits_behind l m ≡ false → 0 < m.waiting
     → l.charged * m.amount ≤ m.charged * l.amount
-behind_false l m is waits = by_test (nat_lt (m.charged * l.amount) (l.charged * m.amount)) refl where
-  by_test : (b : Bool) → nat_lt (m.charged * l.amount) (l.charged * m.amount) ≡ b
-      → l.charged * m.amount ≤ m.charged * l.amount
-  by_test false test = ltb-false (m.charged * l.amount) (l.charged * m.amount) test
-  by_test true test =
-      let both : waits_behind l m ≡ true =
-      ap (λ (b : Bool). b && nat_lt (m.charged * l.amount) (l.charged * m.amount))
-      (lt-ltb 0 m.waiting waits)
-      ∙ test in
-      absurd (let clash : true ≡ false = sym both ∙ is in cc clash)
+behind_false l m is waits =
+    by_test (nat_lt (m.charged * l.amount) (l.charged * m.amount)) refl where
+      by_test : (b : Bool) → nat_lt (m.charged * l.amount) (l.charged * m.amount) ≡ b
+          → l.charged * m.amount ≤ m.charged * l.amount
+      by_test false test = ltb-false (m.charged * l.amount) (l.charged * m.amount) test
+      by_test true test =
+          let both : waits_behind l m ≡ true =
+          ap (λ (b : Bool). b && nat_lt (m.charged * l.amount) (l.charged * m.amount))
+          (lt-ltb 0 m.waiting waits)
+          ∙ test in
+          absurd (let clash : true ≡ false = sym both ∙ is in cc clash)
 
 pub in_range : (ls : List Leaf) (k : ℕ) → 0 < (get_or ls k (new_leaf 0)).waiting → k < length ls
 in_range [] k waits = absurd (let clash : ⊥ = omega (arith, waits) in clash)
@@ -130,8 +131,8 @@ none_behind : (l : Leaf) (ls : List Leaf) → list_any (waits_behind l) ls ≡ f
     → 0 < (get_or ls k (new_leaf 0)).waiting
     → l.charged * (get_or ls k (new_leaf 0)).amount ≤ (get_or ls k (new_leaf 0)).charged * l.amount
 none_behind l ls is k waits =
-    behind_false l (get_or ls k (new_leaf 0)) (by_test (waits_behind l (get_or ls k (new_leaf 0))) refl)
-    waits where
+    behind_false l (get_or ls k (new_leaf 0))
+    (by_test (waits_behind l (get_or ls k (new_leaf 0))) refl) waits where
       by_test : (b : Bool) → waits_behind l (get_or ls k (new_leaf 0)) ≡ b
           → waits_behind l (get_or ls k (new_leaf 0)) ≡ false
       by_test false test = test
@@ -157,27 +158,28 @@ record IsPickable (slice : ℕ) (ls : List Leaf) (l : Leaf) : Type 0 where
 
 picked_ok : (slice : ℕ) (ls : List Leaf) (l w : Leaf) → leaf_picked slice ls (Some l) ≡ Ok w
     → IsPickable slice ls l
-picked_ok slice ls l w ok = by_tests (l.waiting == 0) (list_any (waits_behind l) ls) refl refl ok where
-  rest : Result Leaf Refusal
-  rest = number (picked slice l).charged >>= λ _. (number (picked slice l).running >>= λ _.
-      Ok (picked slice l))
+picked_ok slice ls l w ok =
+    by_tests (l.waiting == 0) (list_any (waits_behind l) ls) refl refl ok where
+      rest : Result Leaf Refusal
+      rest = number (picked slice l).charged >>= λ _. (number (picked slice l).running >>= λ _.
+          Ok (picked slice l))
 
-  by_tests : (a b : Bool) → (l.waiting == 0) ≡ a → list_any (waits_behind l) ls ≡ b
-      → ◌≡◌ {A = Result Leaf Refusal} (if a then Err refusals.NothingWaits
-      else if b then Err refusals.NotLeast else rest) (Ok w)
-      → IsPickable slice ls l
-  by_tests true b zero_is any_is ok' = absurd (cc ok')
-  by_tests false true zero_is any_is ok' = absurd (cc ok')
-  by_tests false false zero_is any_is ok' =
-      let one = both_ok (number (picked slice l).charged)
-      (number (picked slice l).running >>= λ _. Ok (picked slice l)) w ok' in
-      let two = both_ok (number (picked slice l).running) (Ok (picked slice l)) w one.1 in
-      record {
-        waits = some_not l.waiting zero_is;
-        none = any_is;
-        charged = room_of (picked slice l).charged one.0.0 one.0.1;
-        running = room_of (picked slice l).running two.0.0 two.0.1;
-      }
+      by_tests : (a b : Bool) → (l.waiting == 0) ≡ a → list_any (waits_behind l) ls ≡ b
+          → ◌≡◌ {A = Result Leaf Refusal} (if a then Err refusals.NothingWaits
+          else if b then Err refusals.NotLeast else rest) (Ok w)
+          → IsPickable slice ls l
+      by_tests true b zero_is any_is ok' = absurd (cc ok')
+      by_tests false true zero_is any_is ok' = absurd (cc ok')
+      by_tests false false zero_is any_is ok' =
+          let one = both_ok (number (picked slice l).charged)
+          (number (picked slice l).running >>= λ _. Ok (picked slice l)) w ok' in
+          let two = both_ok (number (picked slice l).running) (Ok (picked slice l)) w one.1 in
+          record {
+            waits = some_not l.waiting zero_is;
+            none = any_is;
+            charged = room_of (picked slice l).charged one.0.0 one.0.1;
+            running = room_of (picked slice l).running two.0.0 two.0.1;
+          }
 
 both_of : (a b : Result (Unit {0}) Refusal) → and_then a b ≡ Ok tt → (a ≡ Ok tt) × (b ≡ Ok tt)
 both_of (Ok u) b ok = (refl, ok)

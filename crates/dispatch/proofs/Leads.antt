@@ -94,7 +94,8 @@ module _ (slice overrun processors a b : ℕ) where
       → uj' ≡ uj → rj' ≡ rj → cj' ≡ cj
       → Numbers slice overrun processors a b ui ri ci uj rj cj
       → Numbers slice overrun processors a b ui' ri' ci' uj' rj' cj'
-  same_numbers {ui} {ri} {ci} {uj} {rj} {cj} {ui'} {ri'} {ci'} {uj'} {rj'} {cj'} e1 e2 e3 e4 e5 e6 n =
+  same_numbers {ui} {ri} {ci} {uj} {rj} {cj} {ui'} {ri'} {ci'} {uj'} {rj'} {cj'}
+      e1 e2 e3 e4 e5 e6 n =
       subst (λ x. Numbers slice overrun processors a b x ri' ci' uj' rj' cj') (sym e1)
       (subst (λ x. Numbers slice overrun processors a b ui x ci' uj' rj' cj') (sym e2)
       (subst (λ x. Numbers slice overrun processors a b ui ri x uj' rj' cj') (sym e3)
@@ -390,14 +391,16 @@ module _ (slice overrun processors a b i j : ℕ) (ne : i ≢ j) where
         short : used ≤ slice + overrun
         short = subst (λ (n : ℕ). used ≤ n + overrun) l.slice_is short'
 
-        less : (x : ℕ) → (leaf_at s x).charged + used - s.slice ≡ (leaf_at s x).charged + used - slice
+        less : (x : ℕ)
+            → (leaf_at s x).charged + used - s.slice ≡ (leaf_at s x).charged + used - slice
         less x = ap (λ (n : ℕ). (leaf_at s x).charged + used - n) l.slice_is
 
         by_case : IsEnded s p used remains i ⊎ IsNotEnded s p used remains i
             → IsEnded s p used remains j ⊎ IsNotEnded s p used remains j
             → Leads slice overrun processors a b i j t
         by_case (inl c) (inl d) =
-            let both : ◌≡◌ {A = Option (Option ℕ)} (Some (Some i)) (Some (Some j)) = sym c.ran ∙ d.ran in
+            let both : ◌≡◌ {A = Option (Option ℕ)} (Some (Some i)) (Some (Some j)) =
+            sym c.ran ∙ d.ran in
             let one : i ≡ j = cc both in
             absurd (ne one)
         by_case (inl c) (inr d) = record {

@@ -1,6 +1,8 @@
 -- The leaf with the least clock among the first ones, where one more is looked at.
-use Rattle.std.proofs.Common.{◌≡◌, ℕ, zero, suc, ◌+◌, ◌*◌, ◌<◌, ◌≤◌, ◌⊎◌, inl, inr, List, length, get_or, Bool}
-use Rattle.std.proofs.Common.{true, false, Option, None, Some, refl, arith, sym, subst, nat_lt, ◌&&◌}
+use Rattle.std.proofs.Common.{◌≡◌, ℕ, zero, suc, ◌+◌, ◌*◌, ◌<◌, ◌≤◌, ◌⊎◌, inl, inr, List, length}
+use Rattle.std.proofs.Common.{get_or, Bool}
+use Rattle.std.proofs.Common.{true, false, Option, None, Some, refl, arith, sym, subst, nat_lt}
+use Rattle.std.proofs.Common.{◌&&◌}
 use Rattle.std.proofs.Common.{if◌then◌else◌, MatchOption, IfSome}
 use Rattle.std.specs.List.{All}
 use Rattle.std.proofs.Math.Nat.{eq-or-lt_of_le}
@@ -41,7 +43,8 @@ becomes ls n None amounts known below is =
             ≤ (get_or ls k (new_leaf 0)).charged * (get_or ls n (new_leaf 0)).amount
         by_case (inl e) =
             subst (λ (m : ℕ). (get_or ls n (new_leaf 0)).charged * (get_or ls m (new_leaf 0)).amount
-            ≤ (get_or ls m (new_leaf 0)).charged * (get_or ls n (new_leaf 0)).amount) (sym e) (omega arith)
+            ≤ (get_or ls m (new_leaf 0)).charged * (get_or ls n (new_leaf 0)).amount) (sym e)
+            (omega arith)
         by_case (inr h) = absurd (let clash : ⊥ = omega (arith, w, below k h) in clash)
 becomes ls n (Some i) amounts known below is =
     (omega arith, ltb-true 0 (get_or ls n (new_leaf 0)).waiting both.0, each) where
@@ -56,7 +59,8 @@ becomes ls n (Some i) amounts known below is =
           ((get_or ls i (new_leaf 0)).charged * (get_or ls n (new_leaf 0)).amount) both.1
 
       some : 0 < (get_or ls i (new_leaf 0)).amount
-      some = All-get_or (λ l. 0 < l.amount) ls i (new_leaf 0) (omega (arith, below.0, known)) amounts
+      some =
+          All-get_or (λ l. 0 < l.amount) ls i (new_leaf 0) (omega (arith, below.0, known)) amounts
 
       each : (k : ℕ) → k < n + 1 → 0 < (get_or ls k (new_leaf 0)).waiting
           → (get_or ls n (new_leaf 0)).charged * (get_or ls k (new_leaf 0)).amount
@@ -67,7 +71,8 @@ becomes ls n (Some i) amounts known below is =
             ≤ (get_or ls k (new_leaf 0)).charged * (get_or ls n (new_leaf 0)).amount
         by_case (inl e) =
             subst (λ (m : ℕ). (get_or ls n (new_leaf 0)).charged * (get_or ls m (new_leaf 0)).amount
-            ≤ (get_or ls m (new_leaf 0)).charged * (get_or ls n (new_leaf 0)).amount) (sym e) (omega arith)
+            ≤ (get_or ls m (new_leaf 0)).charged * (get_or ls n (new_leaf 0)).amount) (sym e)
+            (omega arith)
         by_case (inr h) =
             clocks_trans (get_or ls n (new_leaf 0)).charged (get_or ls n (new_leaf 0)).amount
             (get_or ls i (new_leaf 0)).charged (get_or ls i (new_leaf 0)).amount

@@ -1,6 +1,7 @@
 -- When a wake lifts a leaf, and how far.
 use Rattle.std.proofs.Common.{◌≡◌, ◌≢◌, ℕ, zero, suc, ◌*◌, ◌/◌, ◌<◌, ◌≤◌, ◌⊎◌, inl, inr, max}
-use Rattle.std.proofs.Common.{List, [], ◌∷◌, length, get_or, Bool, true, false, Option, None, Some, refl}
+use Rattle.std.proofs.Common.{List, [], ◌∷◌, length, get_or, Bool, true, false, Option, None, Some}
+use Rattle.std.proofs.Common.{refl}
 use Rattle.std.proofs.Common.{ap, sym, subst, ◌∙◌, arith, if◌then◌else◌, slice_set, IfSome}
 use Rattle.std.proofs.Math.Nat.{div-mul-le_self, mul-le-mul_right}
 use Rattle.std.proofs.lemmas.List.{get_or-set_same}
@@ -56,7 +57,8 @@ level_keeps a (l ∷ ls) m most less =
       by_test : (b : Bool)
           → ((k : ℕ) → k ≤ most → (n : ℕ) × (level_from (Some k) a ls ≡ Some n) × (n ≤ most))
           → (n : ℕ)
-          × (level_from (if b then Some (at_most (Some m) q) else Some m) a ls ≡ Some n) × (n ≤ most)
+          × (level_from (if b then Some (at_most (Some m) q) else Some m) a ls ≡ Some n)
+          × (n ≤ most)
       by_test true rest = rest (at_most (Some m) q) (lower_known m q most less)
       by_test false rest = rest m less
 
@@ -71,7 +73,8 @@ level_below a (l ∷ ls) known zero has =
     × (level_from (if b then Some (at_most known q) else known) a ls ≡ Some n) × (n ≤ q)) (sym has)
     (level_keeps a ls (at_most known q) q (lower known q))
 level_below a (l ∷ ls) known (suc k) has =
-    level_below a ls (if has_tasks l then Some (at_most known (a * l.charged / l.amount)) else known)
+    level_below a ls
+    (if has_tasks l then Some (at_most known (a * l.charged / l.amount)) else known)
     k has
 
 none_of_zero : (a c n : ℕ) → 0 < n → c ≡ 0 → a * c / n ≤ 0
@@ -90,9 +93,11 @@ level_zero : (a : ℕ) (ls : List Leaf) (known : Option ℕ)
 level_zero a [] known zeros positive none = none
 level_zero a (l ∷ ls) known zeros positive none =
     level_zero a ls (if has_tasks l then Some (at_most known (a * l.charged / l.amount)) else known)
-    (λ k. zeros (suc k)) (λ k less. positive (suc k) (omega (arith, less))) (by_test (has_tasks l)) where
+    (λ k. zeros (suc k)) (λ k less. positive (suc k) (omega (arith, less)))
+    (by_test (has_tasks l)) where
       by_test : (b : Bool)
-          → IfSome (if b then Some (at_most known (a * l.charged / l.amount)) else known) (λ n. n ≤ 0)
+          → IfSome (if b then Some (at_most known (a * l.charged / l.amount)) else known)
+          (λ n. n ≤ 0)
       by_test true =
           let q = none_of_zero a l.charged l.amount (positive 0 (omega arith)) (zeros 0) in
           omega (arith, q, lower known (a * l.charged / l.amount))

@@ -17,7 +17,8 @@ use Rattle.dispatch.specs.declared.replay.LineFault.TheVariants.{Bad}
 use Rattle.dispatch.specs.declared.replay.Finding.{Finding}
 use Rattle.dispatch.specs.declared.replay.Finding.TheVariants.{Allowed, Refused}
 use Rattle.dispatch.specs.Input.{input_of}
-use Rattle.dispatch.specs.Replay.{input_fault, input_after, picks_in, at_input, at_line, finding_from}
+use Rattle.dispatch.specs.Replay.{input_fault, input_after, picks_in, at_input, at_line}
+use Rattle.dispatch.specs.Replay.{finding_from}
 use Rattle.dispatch.specs.Rule.{DispatchState}
 
 abbrev pub parts : List ℕ → List (List ℕ)

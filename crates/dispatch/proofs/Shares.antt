@@ -1,5 +1,4 @@
--- The part of the use of all that a leaf has which waits throughout: the leads of all leaves over it,
--- added up.
+-- The part that a leaf has of the use of all, if it waits throughout: the leads over it, added up.
 use Rattle.std.proofs.Common.{◌≡◌, ℕ, zero, suc, ◌+◌, ◌-◌, ◌*◌, ◌<◌, ◌≤◌, List, [], ◌∷◌}
 use Rattle.std.proofs.Common.{length, get_or, ap, sym, subst}
 use Rattle.std.proofs.Common.{arith}
@@ -42,7 +41,8 @@ sums_apart f g d (l ∷ ls) (suc j) c each known here =
     omega (
       arith,
       each 0 (omega arith),
-      sums_apart f g d ls j c (λ i less. each (suc i) (omega (arith, less))) (omega (arith, known)) here,
+      sums_apart f g d ls j c (λ i less. each (suc i) (omega (arith, less)))
+          (omega (arith, known)) here,
       sum_by-cons f l ls,
       sum_by-cons g l ls,
     )
@@ -131,14 +131,16 @@ share_is_kept s overrun j events start run known waits = result where
   each : (i : ℕ) → i < length t.leaves → f (leaf_at t i) ≤ g (leaf_at t i)
   each i less = by_index (λ (k : ℕ). f (leaf_at t k) ≤ g (leaf_at t k)) i j
       (omega arith)
-      (λ ne. trim (leaf_at t i).used ((t.slice + overrun) * runs_of i t.processors) b (g (leaf_at t i))
+      (λ ne. trim (leaf_at t i).used ((t.slice + overrun) * runs_of i t.processors) b
+      (g (leaf_at t i))
       (lead_is_bounded s overrun i j events start run waits ne))
 
   own : f (leaf_at t j) + (slice * b + p * (slice * b) + over) ≤ g (leaf_at t j)
   own = omega arith
 
   summed : sum_by f t.leaves + (slice * b + p * (slice * b) + over) ≤ sum_by g t.leaves
-  summed = sums_apart f g (new_leaf 0) t.leaves j (slice * b + p * (slice * b) + over) each inside own
+  summed =
+      sums_apart f g (new_leaf 0) t.leaves j (slice * b + p * (slice * b) + over) each inside own
 
   additive : used_by_all t * b + (slice * b + p * (slice * b) + over)
       ≤ u * all + (length t.leaves * (slice * b) + p * (slice * all) + length t.leaves * over)

@@ -1,5 +1,6 @@
 -- The replay of a trace, line by line.
-use Rattle.std.specs.Prelude.{◌≡◌, ◌<◌, ◌≤◌, ◌↔◌, ℕ, ◌+◌, ◌==◌, ◌||◌, nat_lt, List, [], ◌∷◌, ◌++◌, length, replicate}
+use Rattle.std.specs.Prelude.{◌≡◌, ◌<◌, ◌≤◌, ◌↔◌, ℕ, ◌+◌, ◌==◌, ◌||◌, nat_lt, List, [], ◌∷◌, ◌++◌}
+use Rattle.std.specs.Prelude.{length, replicate}
 use Rattle.std.specs.Prelude.{Bool, Option, None, Some, Result, Ok, Err, codes}
 use Rattle.std.specs.Prelude.{if◌then◌else◌}
 use Rattle.std.specs.List.{slice_split}
@@ -146,8 +147,8 @@ abbrev pub picks_of : List Input → ℕ
 picks_of [] = 0
 picks_of (i ∷ is) = picks_in i + picks_of is
 
--- A text is accepted, with so many picks, if and only if it spells inputs that may each follow those
--- before it.
+-- A text is accepted, with so many picks, if and only if it spells inputs that may each follow
+-- those before it.
 abbrev pub AcceptsExactly : Type 0
 AcceptsExactly = (text : List ℕ) (picks : ℕ) → (finding_of text ≡ Allowed picks)
     ↔ ((is : List Input) × Spells (slice_split (λ b. b == 10) text) is

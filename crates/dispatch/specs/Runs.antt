@@ -1,6 +1,7 @@
 -- Runs of the dispatcher from a common start, and what the rule promises of them. A use and a lead
 -- are in nanoseconds. No promise divides: a use over an amount is compared by products.
-use Rattle.std.specs.Prelude.{◌≡◌, ◌≢◌, ℕ, ◌+◌, ◌-◌, ◌*◌, ◌<◌, ◌≤◌, ◌==◌, Bool, true, List, [], ◌∷◌, length}
+use Rattle.std.specs.Prelude.{◌≡◌, ◌≢◌, ℕ, ◌+◌, ◌-◌, ◌*◌, ◌<◌, ◌≤◌, ◌==◌, Bool, true, List, []}
+use Rattle.std.specs.Prelude.{◌∷◌, length}
 use Rattle.std.specs.Prelude.{Option, None, Some, slice_get, if◌then◌else◌}
 use Rattle.std.specs.List.{sum_by}
 use Rattle.dispatch.specs.declared.events.Event.{Event}
@@ -84,9 +85,9 @@ used_by_all s = sum_by (λ l. l.used) s.leaves
 abbrev pub amount_of_all : DispatchState → ℕ
 amount_of_all s = sum_by (λ l. l.amount) s.leaves
 
--- A leaf of amount b may be short by its part of a slice for each other leaf, and by a slice for each
--- processor but one, in the others' part. An overrun counts for each other leaf and processor. All is
--- times the amounts of all.
+-- A leaf of amount b may be short by its part of a slice for each other leaf, and by the others'
+-- part of a slice for each processor but one. An overrun counts for each other leaf and processor.
+-- All is times the amounts of all.
 abbrev pub most_short : (slice overrun processors leaves all b : ℕ) → ℕ
 most_short slice overrun processors leaves all b =
     (leaves - 1) * (slice * b) + (processors - 1) * (slice * (all - b))
@@ -115,8 +116,8 @@ pub record NoProcessorIdles : Type 0 where
   pub only_a_pick : (s : DispatchState) (p used : ℕ) (remains : Bool)
       → slice_get s.processors p ≡ Some None → Allows s (End p used remains) → ⊥
 
--- Of a level, num / den of use for each unit of amount: no leaf that has reached it is picked while a
--- leaf waits that is short of it, even if its running tasks use their slices.
+-- Of a level, num / den of use for each unit of amount: no leaf that has reached it is picked while
+-- a leaf waits that is short of it, even if its running tasks use their slices.
 abbrev pub NoneIsPickedPastItsPlan : Type 0
 NoneIsPickedPastItsPlan = (s : DispatchState) (overrun j p i num den : ℕ) (events : List Event)
     → IsStart s → AreAmounts s → IsRun overrun s events → j < length s.leaves

@@ -17,14 +17,14 @@ pub fn lead_is_bounded()
 /// A leaf that waits throughout has at least its part of what all leaves used, whatever the others
 /// do.
 ///
-/// It may be short by its part of a slice for each other leaf, and by a slice for each processor but
-/// one in the others' part. The premises are those of [`lead_is_bounded`].
+/// It may be short by its part of a slice for each other leaf, and by the others' part of a slice
+/// for each processor but one. The premises are those of [`lead_is_bounded`].
 pub fn share_is_kept()
     ensures { ShareIsKept }
 {}
 
-/// No processor idles while a leaf waits: some pick is allowed for a processor that is free, and its
-/// next event can be nothing else.
+/// No processor idles while a leaf waits: some pick is allowed for a free processor, and its next
+/// event can be nothing else.
 ///
 /// The law assumes that each leaf has an amount.
 pub fn no_processor_idles()
@@ -45,8 +45,8 @@ pub fn refusal_is_exact()
     ensures { RefusalIsExact }
 {}
 
-/// A wake lifts neither a leaf that has a task, nor any leaf at a common start. A lifted clock is at
-/// most that of each leaf that has a task.
+/// A wake lifts neither a leaf that has a task, nor any leaf at a common start. A lifted clock is
+/// at most that of each leaf that has a task.
 ///
 /// The second and the third assume that each leaf has an amount.
 pub fn only_sleepers_are_lifted()

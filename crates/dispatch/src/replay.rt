@@ -1,6 +1,5 @@
 //! The replay of a trace: whether the rule allows each of its events.
-ghost use Rattle.std.specs.Prelude.{◌≡◌, ◌++◌, ℕ, None, IfOk, OnOk, ◌<◌, length, ◌==◌, ◌||◌, nat_lt};
-ghost use Rattle.std.specs.List.{slice_split};
+ghost use Rattle.std.specs.Prelude.{◌≡◌, ◌++◌, None, IfOk, OnOk};
 ghost use Rattle.dispatch.specs.Replay.{fault_of, event_fault, input_fault, input_after, is_out};
 ghost use Rattle.dispatch.specs.Replay.{picks_in, finding_of, finding_text, reason, fault_text};
 ghost use Rattle.dispatch.specs.Replay.{status_of};
@@ -80,7 +79,8 @@ fn set_processors(
 // Sets the slice.
 fn set_slice(dispatcher: &mut Dispatcher, slice: u64) -> Option<LineFault>
     ensures fault { result ≡ input_fault dispatcher.old (Input.Slice slice) }
-    ensures state { result ≡ None → dispatcher.new ≡ input_after dispatcher.old (Input.Slice slice) }
+    ensures state { result ≡ None
+        → dispatcher.new ≡ input_after dispatcher.old (Input.Slice slice) }
 {
     if dispatcher.slice() > 0 {
         return Some(LineFault::Bad(InputFault::BadLine));
@@ -114,7 +114,8 @@ fn add_leaf(
 // Makes an event.
 fn make_event(dispatcher: &mut Dispatcher, event: Event) -> Option<LineFault>
     ensures fault { result ≡ input_fault dispatcher.old (Input.Event event) }
-    ensures state { result ≡ None → dispatcher.new ≡ input_after dispatcher.old (Input.Event event) }
+    ensures state { result ≡ None
+        → dispatcher.new ≡ input_after dispatcher.old (Input.Event event) }
 {
     if dispatcher.slice() == 0 {
         return Some(LineFault::Bad(InputFault::BadLine));

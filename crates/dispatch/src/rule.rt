@@ -9,7 +9,7 @@ use crate::leaves::{Leaf, leaf_ended, leaf_picked, leaf_woken, least};
 use std::alloc::{AllocError, Global};
 use std::marker::Model;
 
-/// The state of a scheduler that serves a plan: the slice, the leaves, and what each processor runs.
+/// The state of a scheduler that serves a plan: slice, leaves, and what each processor runs.
 #[derive(Drop)]
 pub struct Dispatcher {
     slice: u64,
@@ -154,8 +154,8 @@ impl Dispatcher {
         Ok(())
     }
 
-    /// A free processor takes a task of a leaf, which has to be one with the least clock among those
-    /// that wait. Of several with the same clock any may be taken.
+    /// A free processor takes a task of a leaf with the least clock among those that wait. Any of
+    /// several with the same clock may be taken.
     ///
     /// # Errors
     ///

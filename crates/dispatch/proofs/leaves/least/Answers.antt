@@ -6,7 +6,8 @@ use Rattle.dispatch.proofs.leaves.least.Goals as goal
 pub returns : goal.returns
 returns c =
     let ls = c.args.leaves.now in
-    let all : c.loop-at.at ≡ length ls = omega (arith, c.loop-at-test.false, c.loop-at.auto.at-end) in
+    let all : c.loop-at.at ≡ length ls =
+    omega (arith, c.loop-at-test.false, c.loop-at.auto.at-end) in
     of_all ls c.loop-at.least
     (subst (λ (n : ℕ). LeastBelow ls n c.loop-at.least) all c.loop-at.invariant.below)
 
