@@ -10,3 +10,4 @@ mod Lifts
 mod Lines
 mod Plans
 mod Shares
+mod TraceRuns

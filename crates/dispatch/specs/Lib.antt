@@ -1,4 +1,5 @@
 -- The files of definitions.
+pub mod Accepted
 pub mod Faults
 pub mod Input
 pub mod Replay

@@ -4,6 +4,7 @@ ghost use Rattle.dispatch.specs.Runs.{NoneIsPickedPastItsPlan, IsLiftedOnlyFromS
 ghost use Rattle.dispatch.specs.Runs.{LiftIsAtMostTheLeast};
 ghost use Rattle.dispatch.specs.Rule.{RefusalIsExact};
 ghost use Rattle.dispatch.specs.Replay.{AcceptsExactly};
+ghost use Rattle.dispatch.specs.Accepted.{TraceIsARun};
 
 /// No leaf gets far ahead of one that waits throughout, whatever the others do.
 ///
@@ -58,4 +59,10 @@ pub fn only_sleepers_are_lifted()
 /// the rule allows it and its numbers have room.
 pub fn accepts_exactly()
     ensures { AcceptsExactly }
+{}
+
+/// An accepted trace whose events come last is a run from a common start. So the laws of runs hold
+/// of it.
+pub fn trace_is_a_run()
+    ensures { TraceIsARun }
 {}
