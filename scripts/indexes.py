@@ -139,7 +139,7 @@ IMPORT = re.compile(r"^(?:ghost )?use Rattle\.(\w+)\.specs\.([\w.]+)\.\{([^}]*)\
 WHOLE = ("bw_model", "bw_machine")
 # Programs and the C library, whose definitions put those of the crates below into other forms, and
 # the laws, which docs/PROVED.md has in words.
-LEFT_OUT_CRATES = ("arbiter", "bw_exports", "wake_states", "bw_change_laws")
+LEFT_OUT_CRATES = ("arbiter", "bw_exports", "bw_change_laws")
 # Functions of a refusal that say no more than their names.
 PLAIN = re.compile(r"_fault_(?:number|name)$")
 DEFINITIONS_HEAD = """# Definitions

@@ -352,7 +352,7 @@ def test_leaves_other_crates_out(copy):
     """The crates of tests are no part of the program."""
     copy.build()
     others = set(copy.crates) - copy.ours
-    same({"bw_laws", "wake_states"} <= others, True, f"other crates: {others}")
+    same({"bw_laws", "dispatch"} <= others, True, f"other crates: {others}")
     same({"bw_shell", "bw_model"} & others, set(), "crates of the program")
     for crate in sorted(others):
         for path in sources(crate):

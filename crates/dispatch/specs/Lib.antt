@@ -1,0 +1,7 @@
+-- The files of definitions.
+pub mod Accepted
+pub mod Faults
+pub mod Input
+pub mod Replay
+pub mod Rule
+pub mod Runs

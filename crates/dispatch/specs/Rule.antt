@@ -1,0 +1,254 @@
+-- The rule of the dispatcher: its state, the events that the rule allows, and the state after each.
+use Rattle.std.specs.Prelude.{◌≡◌, ℕ, ◌+◌, ◌-◌, ◌*◌, ◌/◌, ◌<◌, ◌≤◌, ◌^◌, ◌==◌, ◌&&◌, ◌||◌, ◌↔◌}
+use Rattle.std.specs.Prelude.{nat_lt, min, max, Bool, List, [], ◌∷◌, length, get_or, Option}
+use Rattle.std.specs.Prelude.{None, Some, slice_get, slice_set, if◌then◌else◌, Result, Ok, Err}
+use Rattle.std.specs.Prelude.{is_ok}
+use Rattle.std.specs.List.{list_any, All}
+use Rattle.dispatch.specs.declared.leaves.Leaf.{Leaf}
+use Rattle.dispatch.specs.declared.events.Event.{Event}
+use Rattle.dispatch.specs.declared.events.Event.TheVariants.{Wake, Pick, End}
+use Rattle.dispatch.specs.declared.events.Refusal.{Refusal}
+use Rattle.dispatch.specs.declared.events.Refusal.TheVariants as refusals
+use Rattle.dispatch.specs.declared.rule.Dispatcher.TheInside.{Inside as Fields}
+
+-- the slice, the leaves, and the leaf of the task that each processor runs, if it runs one
+pub record DispatchState : Type 0 where
+  pub slice : ℕ
+  pub leaves : List Leaf
+  pub processors : List (Option ℕ)
+
+-- the state that the program's fields stand for
+abbrev pub state_of : Fields → DispatchState
+state_of a =
+    record { slice = a.slice; leaves = a.leaves.items; processors = a.processors.items }
+
+-- a leaf of this amount, before its first task
+abbrev pub new_leaf : ℕ → Leaf
+new_leaf a = record { amount = a; charged = 0; used = 0; waiting = 0; running = 0 }
+
+-- the leaf at an index, or one of no amount
+abbrev pub leaf_at : DispatchState → ℕ → Leaf
+leaf_at s i = get_or s.leaves i (new_leaf 0)
+
+-- whether the leaf has a task that waits or runs
+abbrev pub has_tasks : Leaf → Bool
+has_tasks l = nat_lt 0 l.waiting || nat_lt 0 l.running
+
+-- whether the clock of m, its charge over its amount, is less than that of l
+abbrev pub is_behind : Leaf → Leaf → Bool
+is_behind l m = nat_lt (m.charged * l.amount) (l.charged * m.amount)
+
+-- whether m has a waiting task and is behind l
+abbrev pub waits_behind : Leaf → Leaf → Bool
+waits_behind l m = nat_lt 0 m.waiting && is_behind l m
+
+-- the lesser of a number and another, if there is another
+abbrev pub at_most : Option ℕ → ℕ → ℕ
+at_most None n = n
+at_most (Some m) n = min m n
+
+-- the clock of all, as a charge to a leaf of this amount, rounded down: the least of the clocks of
+-- the leaves that have tasks, and of one that is known before
+abbrev pub level_from : Option ℕ → ℕ → List Leaf → Option ℕ
+level_from known a [] = known
+level_from known a (l ∷ ls) =
+    level_from (if has_tasks l then Some (at_most known (a * l.charged / l.amount)) else known) a ls
+
+abbrev pub level : ℕ → List Leaf → Option ℕ
+level a ls = level_from None a ls
+
+-- a charge lifted to the clock of all, if any leaf has a task
+abbrev pub lifted : ℕ → Option ℕ → ℕ
+lifted charged None = charged
+lifted charged (Some l) = max charged l
+
+-- the leaf after tasks of it wake: its clock is lifted only if it had no task
+abbrev pub woken : List Leaf → ℕ → Leaf → Leaf
+woken ls tasks l = record l {
+  charged = if has_tasks l then l.charged else lifted l.charged (level l.amount ls);
+  waiting = l.waiting + tasks;
+}
+
+-- the leaf after a task of it is picked: a slice is charged
+abbrev pub picked : ℕ → Leaf → Leaf
+picked slice l = record l {
+  charged = l.charged + slice;
+  waiting = l.waiting - 1;
+  running = l.running + 1;
+}
+
+-- the leaf after a task of it ends its run: what it did not use of the slice is given back
+abbrev pub ended : ℕ → ℕ → Bool → Leaf → Leaf
+ended slice used remains l = record l {
+  charged = l.charged + used - slice;
+  used = l.used + used;
+  waiting = l.waiting + (if remains then 1 else 0);
+  running = l.running - 1;
+}
+
+-- the state with another leaf at an index
+abbrev pub with_leaf : DispatchState → ℕ → Leaf → DispatchState
+with_leaf s i l = record s { leaves = slice_set s.leaves i l }
+
+-- the state after a task of the leaf is picked for the processor
+abbrev pub state_picked : DispatchState → ℕ → ℕ → DispatchState
+state_picked s p i = record s {
+  leaves = slice_set s.leaves i (picked s.slice (leaf_at s i));
+  processors = slice_set s.processors p (Some i);
+}
+
+-- the state after the task on the processor ends its run, by what the processor runs
+abbrev pub state_ended : DispatchState → ℕ → ℕ → Bool → Option (Option ℕ) → DispatchState
+state_ended s p used remains (Some (Some i)) = record s {
+  leaves = slice_set s.leaves i (ended s.slice used remains (leaf_at s i));
+  processors = slice_set s.processors p None;
+}
+state_ended s p used remains (Some None) = s
+state_ended s p used remains None = s
+
+-- the state after an event that is allowed
+abbrev pub after : DispatchState → Event → DispatchState
+after s (Wake i tasks) = with_leaf s i (woken s.leaves tasks (leaf_at s i))
+after s (Pick p i) = state_picked s p i
+after s (End p used remains) = state_ended s p used remains (slice_get s.processors p)
+
+-- The leaf has a waiting task, and no leaf that has one has a lesser clock.
+pub record IsLeast (ls : List Leaf) (i : ℕ) : Type 0 where
+  pub known : i < length ls
+  pub waits : 0 < (get_or ls i (new_leaf 0)).waiting
+  pub least : (k : ℕ) → 0 < (get_or ls k (new_leaf 0)).waiting
+      → (get_or ls i (new_leaf 0)).charged * (get_or ls k (new_leaf 0)).amount
+      ≤ (get_or ls k (new_leaf 0)).charged * (get_or ls i (new_leaf 0)).amount
+
+-- no leaf has a waiting task
+abbrev pub NoneWaits : List Leaf → Type 0
+NoneWaits ls = (k : ℕ) → (get_or ls k (new_leaf 0)).waiting ≡ 0
+
+-- The rule allows a pick: of a waiting leaf with the least clock, for a free processor.
+pub record MayPick (s : DispatchState) (p i : ℕ) : Type 0 where
+  pub free : slice_get s.processors p ≡ Some None
+  pub leaf : IsLeast s.leaves i
+
+-- the processor runs a task of a leaf
+pub record Runs (s : DispatchState) (p : ℕ) : Type 0 where
+  pub leaf : ℕ
+  pub runs : slice_get s.processors p ≡ Some (Some leaf)
+  pub known : leaf < length s.leaves
+
+-- the rule allows the event: tasks wake and end as they like
+abbrev pub Allows : DispatchState → Event → Type 0
+Allows s (Wake i tasks) = i < length s.leaves
+Allows s (Pick p i) = MayPick s p i
+Allows s (End p used remains) = Runs s p
+
+infixl 10 ◌>>=◌
+abbrev pub ◌>>=◌ : {A B : Type 0} → Result A Refusal → (A → Result B Refusal) → Result B Refusal
+(Ok x) >>= f = f x
+(Err r) >>= f = Err r
+
+-- a number below 2^64
+abbrev pub number : ℕ → Result ℕ Refusal
+number n = if nat_lt n (2 ^ 64) then Ok n else Err refusals.TooGreat
+
+-- a leaf after an event of it, or the first refusal; the processor is looked at before
+abbrev pub leaf_woken : List Leaf → ℕ → Option Leaf → Result Leaf Refusal
+leaf_woken ls tasks None = Err refusals.UnknownLeaf
+leaf_woken ls tasks (Some l) = do
+  _ ← number (woken ls tasks l).charged
+  _ ← number (woken ls tasks l).waiting
+  Ok (woken ls tasks l)
+
+abbrev pub leaf_picked : ℕ → List Leaf → Option Leaf → Result Leaf Refusal
+leaf_picked slice ls None = Err refusals.UnknownLeaf
+leaf_picked slice ls (Some l) =
+    if l.waiting == 0 then Err refusals.NothingWaits
+    else if list_any (waits_behind l) ls then Err refusals.NotLeast else do
+      _ ← number (picked slice l).charged
+      _ ← number (picked slice l).running
+      Ok (picked slice l)
+
+abbrev pub leaf_ended : ℕ → ℕ → Bool → Option Leaf → Result Leaf Refusal
+leaf_ended slice used remains None = Err refusals.UnknownLeaf
+leaf_ended slice used remains (Some l) = do
+  _ ← number (ended slice used remains l).charged
+  _ ← number (ended slice used remains l).used
+  _ ← number (ended slice used remains l).waiting
+  Ok (ended slice used remains l)
+
+-- whether a task may be picked for the processor
+abbrev pub free_processor : Option (Option ℕ) → Result (Unit {0}) Refusal
+free_processor None = Err refusals.UnknownProcessor
+free_processor (Some (Some i)) = Err refusals.ProcessorBusy
+free_processor (Some None) = Ok tt
+
+-- the index of the leaf whose task the processor runs
+abbrev pub leaf_run : Option (Option ℕ) → Result ℕ Refusal
+leaf_run None = Err refusals.UnknownProcessor
+leaf_run (Some None) = Err refusals.ProcessorIdle
+leaf_run (Some (Some i)) = Ok i
+
+-- a result without its value
+abbrev pub without_value : {A : Type 0} → Result A Refusal → Result (Unit {0}) Refusal
+without_value (Ok l) = Ok tt
+without_value (Err r) = Err r
+
+-- the second result, if the first is none of a refusal
+abbrev pub and_then : Result (Unit {0}) Refusal → Result (Unit {0}) Refusal
+    → Result (Unit {0}) Refusal
+and_then (Ok u) second = second
+and_then (Err r) second = Err r
+
+abbrev pub end_allowed : DispatchState → ℕ → Bool → Result ℕ Refusal → Result (Unit {0}) Refusal
+end_allowed s used remains (Err r) = Err r
+end_allowed s used remains (Ok i) =
+    without_value (leaf_ended s.slice used remains (slice_get s.leaves i))
+
+-- the first refusal of an event, if there is one
+abbrev pub allowed : DispatchState → Event → Result (Unit {0}) Refusal
+allowed s (Wake i tasks) = without_value (leaf_woken s.leaves tasks (slice_get s.leaves i))
+allowed s (Pick p i) =
+    and_then (free_processor (slice_get s.processors p))
+    (without_value (leaf_picked s.slice s.leaves (slice_get s.leaves i)))
+allowed s (End p used remains) =
+    end_allowed s used remains (leaf_run (slice_get s.processors p))
+
+-- the state after an event; a refused one changes nothing
+abbrev pub happens : DispatchState → Event → DispatchState
+happens s e = if is_ok (allowed s e) then after s e else s
+
+-- each leaf has an amount
+abbrev pub HasAmounts : Fields → Type 0
+HasAmounts a = All (λ l. 0 < l.amount) a.leaves.items
+
+-- A free processor picks, unless no leaf waits.
+abbrev pub Dispatches : DispatchState → ℕ → DispatchState → Option ℕ → Type 0
+Dispatches s p t None = NoneWaits s.leaves × (t ≡ s)
+Dispatches s p t (Some i) = MayPick s p i × (t ≡ after s (Pick p i))
+
+-- room below 2^64 for each number of a leaf that an event makes greater, where it makes one greater
+abbrev pub HasRoomAtEnd : DispatchState → ℕ → Bool → Option (Option ℕ) → Type 0
+HasRoomAtEnd s used remains (Some (Some i)) =
+    ((ended s.slice used remains (leaf_at s i)).charged < 2 ^ 64)
+    × ((ended s.slice used remains (leaf_at s i)).used < 2 ^ 64)
+    × ((ended s.slice used remains (leaf_at s i)).waiting < 2 ^ 64)
+HasRoomAtEnd s used remains _ = Unit {0}
+
+abbrev pub HasRoom : DispatchState → Event → Type 0
+HasRoom s (Wake i tasks) =
+    ((woken s.leaves tasks (leaf_at s i)).charged < 2 ^ 64)
+    × ((woken s.leaves tasks (leaf_at s i)).waiting < 2 ^ 64)
+HasRoom s (Pick p i) =
+    ((picked s.slice (leaf_at s i)).charged < 2 ^ 64)
+    × ((picked s.slice (leaf_at s i)).running < 2 ^ 64)
+HasRoom s (End p used remains) = HasRoomAtEnd s used remains (slice_get s.processors p)
+
+-- An event is refused unless the rule allows it and its numbers have room; of an end, its processor
+-- runs a known leaf.
+abbrev pub RefusalIsExact : Type 0
+RefusalIsExact = (s : DispatchState) (e : Event)
+    → (allowed s e ≡ Ok tt) ↔ (Allows s e × HasRoom s e)
+
+-- whether a leaf comes before the least one so far
+abbrev pub is_new_least : List Leaf → Option ℕ → Leaf → Bool
+is_new_least ls None m = nat_lt 0 m.waiting
+is_new_least ls (Some i) m = waits_behind (get_or ls i (new_leaf 0)) m

@@ -1,0 +1,137 @@
+//! The lines of a trace.
+ghost use Rattle.std.specs.Prelude.{◌≡◌};
+ghost use Rattle.bw_text.specs.Words.{words};
+ghost use Rattle.dispatch.specs.Input.{seen, number_in, number_at, is_over, one_number};
+ghost use Rattle.dispatch.specs.Input.{two_numbers, three_numbers, input_of, remains_in};
+
+use crate::events::Event;
+use crate::fault::InputFault;
+use bw_text::{next_word, read_number};
+
+/// A line of a trace.
+#[derive(Clone, Copy, Debug, PartialEq)]
+pub enum Input {
+    /// `processors P` makes P processors.
+    Processors(u64),
+    /// `slice NS` sets the slice in nanoseconds.
+    Slice(u64),
+    /// `leaf ID AMOUNT` adds a leaf. The numbers of leaves are 0, 1, 2 and so on.
+    Leaf { leaf: u64, amount: u64 },
+    /// `wake ID N`, `pick CPU ID` or `end CPU USED REMAINS`.
+    Event(Event),
+}
+
+fn number_in(word: &[u8]) -> Result<u64, InputFault>
+    ensures { result ≡ number_in word.now }
+{
+    match read_number(word) {
+        Ok(n) => Ok(n),
+        Err(_) => Err(InputFault::BadNumber),
+    }
+}
+
+// The first word as a number, and the text after it.
+fn take_number(text: &[u8]) -> Result<(u64, &[u8]), InputFault>
+    ensures { seen (λ p. (p.0, words p.1.now)) result ≡ number_at (words text.now) }
+{
+    let Some((word, rest)) = next_word(text) else {
+        return Err(InputFault::BadLine);
+    };
+    let n = number_in(word)?;
+    Ok((n, rest))
+}
+
+// Refuses a text that has a word.
+fn is_over(text: &[u8]) -> Result<(), InputFault>
+    ensures { result ≡ is_over (words text.now) }
+{
+    match next_word(text) {
+        None => Ok(()),
+        Some(_) => Err(InputFault::BadLine),
+    }
+}
+
+fn one_number(text: &[u8]) -> Result<u64, InputFault>
+    ensures { result ≡ one_number (words text.now) }
+{
+    let (n, rest) = take_number(text)?;
+    is_over(rest)?;
+    Ok(n)
+}
+
+fn two_numbers(text: &[u8]) -> Result<(u64, u64), InputFault>
+    ensures { result ≡ two_numbers (words text.now) }
+{
+    let (one, rest) = take_number(text)?;
+    let (two, rest) = take_number(rest)?;
+    is_over(rest)?;
+    Ok((one, two))
+}
+
+fn three_numbers(text: &[u8]) -> Result<(u64, u64, u64), InputFault>
+    ensures { result ≡ three_numbers (words text.now) }
+{
+    let (one, rest) = take_number(text)?;
+    let (two, rest) = take_number(rest)?;
+    let (three, rest) = take_number(rest)?;
+    is_over(rest)?;
+    Ok((one, two, three))
+}
+
+// Whether the task waits again: 1 or 0.
+fn remains_in(n: u64) -> Result<bool, InputFault>
+    ensures { result ≡ remains_in n }
+{
+    match n {
+        0 => Ok(false),
+        1 => Ok(true),
+        _ => Err(InputFault::BadField),
+    }
+}
+
+impl Input {
+    /// Reads a line without its newline.
+    ///
+    /// # Errors
+    ///
+    /// The first that applies, from the first word to the last:
+    /// - [`InputFault::BadLine`] if the first word is none of the six, or the words are too few.
+    /// - [`InputFault::BadNumber`] if a word behind it is no number of 64 bits.
+    /// - [`InputFault::BadLine`] if the words are too many.
+    /// - [`InputFault::BadField`] if REMAINS is neither 0 nor 1.
+    pub fn of_line(line: &[u8]) -> Result<Input, InputFault>
+        ensures { result ≡ input_of (words line.now) }
+    {
+        let Some((verb, rest)) = next_word(line) else {
+            return Err(InputFault::BadLine);
+        };
+        if verb == b"processors".as_slice() {
+            return Ok(Input::Processors(one_number(rest)?));
+        }
+        if verb == b"slice".as_slice() {
+            return Ok(Input::Slice(one_number(rest)?));
+        }
+        if verb == b"leaf".as_slice() {
+            let (leaf, amount) = two_numbers(rest)?;
+            return Ok(Input::Leaf { leaf, amount });
+        }
+        if verb == b"wake".as_slice() {
+            let (leaf, tasks) = two_numbers(rest)?;
+            return Ok(Input::Event(Event::Wake { leaf, tasks }));
+        }
+        if verb == b"pick".as_slice() {
+            let (processor, leaf) = two_numbers(rest)?;
+            return Ok(Input::Event(Event::Pick { processor, leaf }));
+        }
+        if verb == b"end".as_slice() {
+            let (processor, used, remains) = three_numbers(rest)?;
+            let remains = remains_in(remains)?;
+            return Ok(Input::Event(Event::End {
+                processor,
+                used,
+                remains,
+            }));
+        }
+        Err(InputFault::BadLine)
+    }
+}

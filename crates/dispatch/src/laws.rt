@@ -1,0 +1,68 @@
+//! Laws of the rule: each is the contract of a function that does nothing.
+ghost use Rattle.dispatch.specs.Runs.{LeadIsBounded, ShareIsKept, NoProcessorIdles};
+ghost use Rattle.dispatch.specs.Runs.{NoneIsPickedPastItsPlan, IsLiftedOnlyFromSleep};
+ghost use Rattle.dispatch.specs.Runs.{LiftIsAtMostTheLeast};
+ghost use Rattle.dispatch.specs.Rule.{RefusalIsExact};
+ghost use Rattle.dispatch.specs.Replay.{AcceptsExactly};
+ghost use Rattle.dispatch.specs.Accepted.{TraceIsARun};
+
+/// No leaf gets far ahead of one that waits throughout, whatever the others do.
+///
+/// In use over amount it is ahead by at most one slice over its own amount, and a slice over the
+/// other's amount for each processor but one. The run begins at a common start, and the leaf that
+/// waits is never lifted.
+pub fn lead_is_bounded()
+    ensures { LeadIsBounded }
+{}
+
+/// A leaf that waits throughout has at least its part of what all leaves used, whatever the others
+/// do.
+///
+/// It may be short by its part of a slice for each other leaf, and by the others' part of a slice
+/// for each processor but one. The premises are those of [`lead_is_bounded`].
+pub fn share_is_kept()
+    ensures { ShareIsKept }
+{}
+
+/// No processor idles while a leaf waits: some pick is allowed for a free processor, and its next
+/// event can be nothing else.
+///
+/// The law assumes that each leaf has an amount.
+pub fn no_processor_idles()
+    ensures { NoProcessorIdles }
+{}
+
+/// No leaf that has used its plan is picked while a leaf waits that is short of its own.
+///
+/// The plan may be any time for each unit of amount. A leaf is short if its use is below its plan,
+/// with a whole slice for each of its tasks that run. The premises are those of
+/// [`lead_is_bounded`].
+pub fn none_is_picked_past_its_plan()
+    ensures { NoneIsPickedPastItsPlan }
+{}
+
+/// An event is refused if and only if the rule does not allow it, or a number has no room.
+pub fn refusal_is_exact()
+    ensures { RefusalIsExact }
+{}
+
+/// A wake lifts neither a leaf that has a task, nor any leaf at a common start. A lifted clock is
+/// at most that of each leaf that has a task.
+///
+/// The second and the third assume that each leaf has an amount.
+pub fn only_sleepers_are_lifted()
+    ensures sleepers { IsLiftedOnlyFromSleep }
+    ensures least { LiftIsAtMostTheLeast }
+{}
+
+/// A trace is accepted if and only if each of its lines may follow those before it: of an event, if
+/// the rule allows it and its numbers have room.
+pub fn accepts_exactly()
+    ensures { AcceptsExactly }
+{}
+
+/// An accepted trace whose events come last is a run from a common start. So the laws of runs hold
+/// of it.
+pub fn trace_is_a_run()
+    ensures { TraceIsARun }
+{}

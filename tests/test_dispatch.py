@@ -1,0 +1,189 @@
+"""The replay of a scheduler's picks, by crates/dispatch.
+
+The traces are worked by hand, or runs of a model of the rule in fractions.
+"""
+import random
+from fractions import Fraction
+from typing import List, Optional, Tuple
+
+import pytest
+
+from support import ROOT, Program, same
+
+DISPATCH = ROOT / "crates/dispatch/out/dispatch"
+HEAD = "processors 2\nslice 10\nleaf 0 2\nleaf 1 1\n"
+LESSER = "not allowed: a leaf that waits has a lesser clock"
+
+
+@pytest.fixture(scope="module")
+def dispatch() -> Program:
+    """The program that replays a trace."""
+    if not DISPATCH.is_file():
+        pytest.skip(f"no file {DISPATCH}: ./test makes it, and `rt run` in crates/dispatch")
+    return Program(DISPATCH)
+
+
+def replayed(program: Program, text: str) -> Tuple[int, str]:
+    """The exit status and the line. Nothing is written to standard error."""
+    status, out, err = program.run([], text.encode())
+    same(err, b"", "standard error")
+    return status, out.decode()
+
+
+# Clocks are charge over amount: leaf 0 of amount 2 is charged 5 a pick, leaf 1 of amount 1 ten.
+ALLOWED = {
+    "nothing": ("", 0),
+    "no event": (HEAD, 0),
+    "blanks": ("processors\t1\n slice  5 \n", 0),
+    "both leaves": (HEAD + "wake 0 2\nwake 1 2\npick 0 0\npick 1 1\n", 2),
+    "any of two with one clock": (HEAD + "wake 0 2\nwake 1 2\npick 0 1\npick 1 0\n", 2),
+    # leaf 0 has clock 5, leaf 1 used 2 of 10 and has clock 2
+    "what was not used is given back": (
+        HEAD + "wake 0 2\nwake 1 2\npick 0 0\npick 1 1\nend 1 2 1\npick 1 1\n", 3),
+    # leaf 1 used 14 of 10 and has clock 14; leaf 0 is then picked twice
+    "an overrun is charged": (
+        HEAD + "wake 0 3\nwake 1 2\npick 0 1\npick 1 0\nend 0 14 1\npick 0 0\nend 1 10 1\n"
+        + "pick 1 0\n", 4),
+    # leaf 0 used 20 and has clock 10, to which leaf 1 is lifted when it wakes
+    "a sleeper has no credit": (
+        HEAD + "wake 0 1\npick 0 0\nend 0 10 1\npick 0 0\nend 0 10 1\nwake 1 1\npick 0 0\n", 3),
+    # leaf 1 runs a task when the next wakes, so its clock stays 10; leaf 0 is at 20
+    "a leaf that runs is not lifted": (
+        HEAD + "wake 1 1\npick 0 1\nwake 0 1\npick 1 0\nend 1 40 1\nwake 1 1\npick 1 1\n", 3),
+    "a leaf that comes later": (HEAD + "wake 0 1\npick 0 0\nleaf 2 7\nwake 2 1\npick 1 2\n", 2),
+}
+REFUSED = {
+    "the second least": (HEAD + "wake 0 3\nwake 1 2\npick 0 1\npick 1 1\n", 8, LESSER),
+    "not what was given back": (
+        HEAD + "wake 0 2\nwake 1 2\npick 0 0\npick 1 1\nend 1 2 1\npick 1 0\n", 10, LESSER),
+    "a busy processor": (
+        HEAD + "wake 0 2\npick 0 0\npick 0 0\n", 7, "not allowed: the processor runs a task"),
+    "an idle processor": (HEAD + "end 1 5 0\n", 5, "not allowed: the processor runs no task"),
+    "no task": (HEAD + "wake 0 1\npick 0 1\n", 6, "not allowed: no task of the leaf waits"),
+    "the task sleeps": (
+        HEAD + "wake 0 1\npick 0 0\nend 0 1 0\npick 0 0\n", 8,
+        "not allowed: no task of the leaf waits"),
+    "no such leaf": (HEAD + "wake 2 1\n", 5, "error 20 NotFound"),
+    "no such processor": (HEAD + "wake 0 1\npick 2 0\n", 6, "error 20 NotFound"),
+    "another word": ("processors 2\nslize 10\n", 2, "error 40 BadLine"),
+    "a word too few": (HEAD + "wake 0\n", 5, "error 40 BadLine"),
+    "a word too many": (HEAD + "wake 0 1 1\n", 5, "error 40 BadLine"),
+    "an empty line": ("\n", 1, "error 40 BadLine"),
+    "processors twice": (HEAD + "processors 2\n", 5, "error 40 BadLine"),
+    "slice twice": (HEAD + "slice 10\n", 5, "error 40 BadLine"),
+    "a leaf out of order": (HEAD + "leaf 3 1\n", 5, "error 40 BadLine"),
+    "no slice": ("processors 1\nleaf 0 1\nwake 0 1\n", 3, "error 40 BadLine"),
+    "no number": (HEAD + "wake 0 x\n", 5, "error 11 BadNumber"),
+    "a leading zero": (HEAD + "wake 0 01\n", 5, "error 11 BadNumber"),
+    "above 64 bits": (HEAD + "wake 0 18446744073709551616\n", 5, "error 11 BadNumber"),
+    "no processors": ("processors 0\n", 1, "error 41 BadField"),
+    "too many processors": ("processors 1025\n", 1, "error 41 BadField"),
+    "a slice of a second and more": ("slice 1000000001\n", 1, "error 41 BadField"),
+    "an amount of 0": ("leaf 0 0\n", 1, "error 41 BadField"),
+    "too great an amount": ("leaf 0 1000001\n", 1, "error 41 BadField"),
+    "neither 0 nor 1": (HEAD + "wake 0 1\npick 0 0\nend 0 1 2\n", 7, "error 41 BadField"),
+    "too many tasks": (HEAD + "wake 0 18446744073709551615\nwake 0 1\n", 6, "error 41 BadField"),
+    "too great a charge": (
+        HEAD + "wake 0 1\npick 0 0\nend 0 18446744073709551615 1\npick 0 0\n", 8,
+        "error 41 BadField"),
+    "no last newline": (HEAD + "wake 0 1", 5, "error 42 CutShort"),
+}
+
+
+@pytest.mark.parametrize("text, picks", ALLOWED.values(), ids=list(ALLOWED))
+def test_allowed(dispatch, text, picks):
+    same(replayed(dispatch, text), (0, f"allowed: {picks} picks\n"))
+
+
+@pytest.mark.parametrize("text, line, reason", REFUSED.values(), ids=list(REFUSED))
+def test_refused(dispatch, text, line, reason):
+    same(replayed(dispatch, text), (3, f"line {line}: {reason}\n"))
+
+
+def test_greatest_numbers(dispatch):
+    """Products of clocks have up to 84 bits. Leaf 0 was lifted by a run of 2^63 nanoseconds."""
+    head = "processors 1\nslice 1\nleaf 0 1\nleaf 1 1000000\nwake 0 2\nwake 1 1\npick 0 0\n"
+    text = head + f"end 0 {2**63} 1\npick 0 1\nend 0 1 1\n"
+    same(replayed(dispatch, text + "pick 0 1\n"), (0, "allowed: 3 picks\n"))
+    same(replayed(dispatch, text + "pick 0 0\n"), (3, f"line 11: {LESSER}\n"))
+
+
+def test_closed_output(dispatch):
+    """A write that fails ends with status 1 and one line on standard error."""
+    with open("/dev/full", "wb") as full:
+        ended = dispatch.run([], b"", stdout=full)
+    same((ended.status, ended.err[:10]), (1, b"dispatch: "))
+
+
+class Model:
+    """The rule, with clocks as fractions."""
+
+    def __init__(self, seed: int):
+        self.random = random.Random(seed)
+        self.slice = self.random.randint(1, 50)
+        self.amounts = [self.random.randint(1, 9) for _ in range(self.random.randint(2, 6))]
+        self.charged = [0] * len(self.amounts)
+        self.waiting = [0] * len(self.amounts)
+        self.runs: List[Optional[int]] = [None] * self.random.randint(1, 4)
+        self.lines = [f"processors {len(self.runs)}", f"slice {self.slice}"]
+        self.lines += [f"leaf {leaf} {amount}" for leaf, amount in enumerate(self.amounts)]
+        self.picks = 0
+        # Lines that may stand in place of the one at their index, and are wrong there.
+        self.wrong: List[Tuple[int, str]] = []
+
+    def clock(self, leaf: int) -> Fraction:
+        return Fraction(self.charged[leaf], self.amounts[leaf])
+
+    def wake(self) -> None:
+        leaf, tasks = self.random.randrange(len(self.amounts)), self.random.randint(1, 3)
+        present = [each for each in range(len(self.amounts))
+                   if self.waiting[each] or each in self.runs]
+        if present and leaf not in present:
+            level = min(map(self.clock, present)) * self.amounts[leaf]
+            self.charged[leaf] = max(self.charged[leaf], level.numerator // level.denominator)
+        self.waiting[leaf] += tasks
+        self.lines.append(f"wake {leaf} {tasks}")
+
+    def pick(self, processor: int) -> None:
+        waits = [leaf for leaf, waiting in enumerate(self.waiting) if waiting]
+        if not waits:
+            return
+        least = min(map(self.clock, waits))
+        others = [leaf for leaf in waits if self.clock(leaf) > least]
+        if others:
+            line = f"pick {processor} {self.random.choice(others)}"
+            self.wrong.append((len(self.lines), line))
+        leaf = self.random.choice([leaf for leaf in waits if self.clock(leaf) == least])
+        self.charged[leaf] += self.slice
+        self.waiting[leaf] -= 1
+        self.runs[processor] = leaf
+        self.picks += 1
+        self.lines.append(f"pick {processor} {leaf}")
+
+    def end(self, processor: int, leaf: int) -> None:
+        used = self.random.choice([self.slice, self.random.randint(0, self.slice + 3)])
+        remains = self.random.random() < 0.7
+        self.charged[leaf] += used - self.slice
+        self.waiting[leaf] += remains
+        self.runs[processor] = None
+        self.lines.append(f"end {processor} {used} {int(remains)}")
+
+    def event(self) -> None:
+        if self.random.random() < 0.2:
+            return self.wake()
+        processor = self.random.randrange(len(self.runs))
+        leaf = self.runs[processor]
+        return self.pick(processor) if leaf is None else self.end(processor, leaf)
+
+
+@pytest.mark.parametrize("seed", range(20))
+def test_random_runs(dispatch, seed):
+    """A run of the model is allowed. With one wrong pick that line is named."""
+    model = Model(seed)
+    for _ in range(400):
+        model.event()
+    text = "".join(line + "\n" for line in model.lines)
+    same(replayed(dispatch, text), (0, f"allowed: {model.picks} picks\n"))
+    for at, line in model.random.sample(model.wrong, min(5, len(model.wrong))):
+        cut = "".join(each + "\n" for each in [*model.lines[:at], line, *model.lines[at + 1:]])
+        same(replayed(dispatch, cut), (3, f"line {at + 1}: {LESSER}\n"), f"wrong pick at {at + 1}")
