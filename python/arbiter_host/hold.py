@@ -464,17 +464,19 @@ class Loop:
         held = self.held(Columns.of(rows), {row: used[path] for path, row in places.items()})
         for path, row in places.items():
             limit, kept, each = held.limits[row], self.groups[path], used[path]
-            if limit is None:
-                continue
             lacks = (kept.planned or 0) - each.used if each.is_hungry else 0
             kept.planned = held.amounts[row]
             found.told[path] = {"want": held.demands[row], "plan": held.amounts[row],
                                 "used": each.used, "limit": limit, "hungry": each.is_hungry,
                                 "unserved": max(lacks, 0)}
-            found.quotas[path], weights[path] = self.written(
-                limit, rows[row].limit, self.standing(kept), self.tasks[path])
+            found.quotas[path] = None
+            if limit is not None:
+                found.quotas[path], weights[path] = self.written(
+                    limit, rows[row].limit, self.standing(kept), self.tasks[path])
         if self.ways.has_weights:
-            found.weights.update(tree_weights(model, weights))
+            # A round that holds nobody leaves the weights of the operator.
+            is_calm = all(held.limits[row] == rows[row].limit for row in places.values())
+            found.weights.update(tree_weights(model, {} if is_calm else weights))
             for path, line in found.told.items():
                 line["weight"] = found.weights[path]
         return found
