@@ -171,13 +171,13 @@ def begun(world, folder):
 
 def test_a_group_below_its_limit_is_hungry(world, begun, engine, folder):
     """Linux gives c less than its limit: its task was awake, so it asks for the CPU that one task
-    can use. It waited for less than half of the time."""
+    can use. It waited for less than half of the time. All of it is planned, so nobody is held."""
     step = begun(55, 100)
     lines = world.run(world.loop(engine, folder / "undo"), step, step, step)
     assert [line["groups"]["c"]["hungry"] for line, _ in lines] == [True] * 3
     # planned the CPU, of which it was not given 45
     assert lines[-1][0]["groups"]["c"] == {
-        "want": 100, "plan": 100, "used": 55, "limit": 113, "hungry": True, "unserved": 100 - 55}
+        "want": 100, "plan": 100, "used": 55, "limit": None, "hungry": True, "unserved": 100 - 55}
 
 
 def test_a_group_of_many_tasks_asks_for_all(world, begun, engine, folder):
@@ -256,6 +256,8 @@ def test_unserved(world, engine, folder):
 LINE = {"round": 7, "missed": 1, "written": 2, "unserved": 3, "groups": {
     'a"b\\c\n': {"want": 20, "plan": 20, "used": 19, "limit": 50, "hungry": False, "unserved": 0},
     "b": {"want": 1000000, "plan": 60, "used": 57, "limit": 60, "hungry": True, "unserved": 3}}}
+CALM = {"round": 8, "missed": 0, "written": 1, "unserved": 0, "groups": {
+    "b": {"want": 5, "plan": 5, "used": 5, "limit": None, "hungry": False, "unserved": 0}}}
 
 
 def held(line=None):
@@ -279,6 +281,7 @@ def test_metrics_by_hand():
         f"arbiter_hold_unserved_cpus{{{odd}}}": 0, 'arbiter_hold_unserved_cpus{group="b"}': 0.03,
         f"arbiter_hold_hungry{{{odd}}}": 0, 'arbiter_hold_hungry{group="b"}': 1,
         "arbiter_hold_rounds": 7, "arbiter_hold_missed_rounds": 1}
+    assert b'\narbiter_hold_limit_cpus{group="b"} +Inf\n' in metrics.text_of(held(CALM))
 
 
 @pytest.mark.skipif(shutil.which("promtool") is None, reason="no promtool")

@@ -1,5 +1,5 @@
 -- The goals of `hold` that are answered by hand.
-use Rattle.std.proofs.Common.{◌≡◌, ◌∙◌, ℕ, List, length, map, ap, subst}
+use Rattle.std.proofs.Common.{◌∙◌, ℕ, List, length, map, ap, subst}
 use Rattle.std.specs.Prelude.{IsTrue, ◌↔◌}
 use Rattle.bw_model.specs.declared.row.Row.{Row}
 use Rattle.bw_model.specs.Certificate.{certified_of}
