@@ -13,12 +13,14 @@ from pathlib import Path
 
 import killed_loop
 import pytest
+import trees
 from arbiter import Host
 from arbiter_host import apply, hold, hunger, metrics, safe_files
 from arbiter_host.faults import HostFault
 from arbiter_host.model import Group, Model
 from arbiter_host.subcommands.hold import Notifier, Service
-from held import FREE, World, content, limit, said, started
+from arbiter_host.swings import MOST_ROUNDS, Swings
+from held import FREE, TWO, World, content, limit, said, started
 from places import PACKAGE
 
 UNIT = PACKAGE.parent / "share/systemd/arbiter-hold.service"
@@ -251,6 +253,58 @@ def test_unserved(world, engine, folder):
     assert [each["unserved"] for each in one["groups"].values()] == [0, 0, 0]
     assert [each["unserved"] for each in two["groups"].values()] == [0, 3, 10]
     assert (one["unserved"], two["unserved"]) == (0, 13)
+
+
+def test_a_tree_without_the_controller(ctl, folder, world):
+    """No group has a limit there, which is a fault. A tree without groups is none: some may come."""
+    trees.root2(folder / "none", enabled="io memory")
+    (folder / "none/x").mkdir()
+    words = ["--read", "2x1s", "--undo", folder / "u"]
+    _, err = ctl.run("hold", folder / "none", "--root", folder / "none", *words, status=1)
+    assert "the cpu controller is not enabled here (cgroup.subtree_control): no group" in err
+    trees.root2(folder / "empty")
+    out, err = ctl.run("hold", folder / "empty", "--root", folder / "empty", *words)
+    assert json.loads(out)["groups"] == {} and "no groups with the cpu controller" in err
+
+
+@pytest.mark.parametrize("outside, is_told", [(9 * 10**4, False), (5 * 10**5, True)])
+def test_use_outside_the_tree(folder, engine, capsys, outside, is_told):
+    """It is told once if it is above a twentieth of the CPUs, and changes no plan."""
+    world = World(folder, [("in", 100, FREE), ("in/b", 100, FREE)], lacks="in/b")
+    loop = hold.Loop(engine, safe_files.Root(str(world.tree)), str(world.tree / "in"), TWO,
+                     clock=lambda: world.now)
+    used = [0, 0]
+
+    def step():
+        used[0], used[1] = used[0] + 10**5 + outside, used[1] + 10**5
+        (world.tree / "cpu.stat").write_text(f"usage_usec {used[0]}\n")
+        (world.tree / "in/cpu.stat").write_text(f"usage_usec {used[1]}\n")
+    lines = world.run(loop, step, step, step)
+    assert [line["groups"]["b"]["limit"] for line, _ in lines] == [200] * 3
+    said = f"0.5 CPUs are used outside {world.tree / 'in'}: its plan counts on all 2\n"
+    assert capsys.readouterr().err.count(said) == is_told
+
+
+def test_limits_that_go_back_and_forth(world, engine, folder, capsys):
+    """They end a loop that writes, after its bound, and what stood is put back. Those that stay,
+    move on, or swing a little do not."""
+    turns = iter(range(1000))
+
+    def step():
+        if next(turns) % 2:
+            world.uses("a", 90, waited=10**6)
+        world.uses("b", 90, waited=10**6)
+
+    lines = world.run(world.loop(engine, folder / "undo"), *[step] * 70)
+    assert len(lines) == MOST_ROUNDS + 2 and not (folder / "undo").exists()
+    assert [world.maximum(path) for path in "abc"] == [FREE] * 3
+    assert "a: its limit went back and forth for 60 rounds" in capsys.readouterr().err
+    assert len(world.run(world.loop(engine), *[step] * 70)) == 70
+    for limits in ([50] * 70, [100, 90] * 35, [*range(50, 120)], [50, 90, None] * 23):
+        swings = Swings(200)
+        assert {swings.take({"a": limit}) for limit in limits} == {None}
+    swings = Swings(200)
+    assert [swings.take({"a": limit}) for limit in [None, 50] * 31] == [None] * 61 + ["a"]
 
 
 LINE = {"round": 7, "missed": 1, "written": 2, "unserved": 3, "groups": {
