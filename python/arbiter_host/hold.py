@@ -267,6 +267,7 @@ class Loop:
         self.undo: list[tuple[str, Settings, Settings, Settings]] = []
         # Whether it was told that limits are rounded up.
         self.has_rounded = False
+        self.swings = Swings(host.processors * (host.period_us // host.slice_us))
         # The last time and the microseconds used outside the tree; None after it was told.
         self.outside: tuple[int, int] | None = (-1, 0)
         # Whether no group was kubelet's when the loop began.
@@ -625,6 +626,15 @@ class Loop:
                 "unserved": sum(line["unserved"] for line in found.told.values()),
                 "groups": found.told}
 
+    def is_swinging(self, line: Line) -> bool:
+        """Whether the limits of a round end the loop, since they go back and forth."""
+        limits = {path: each["limit"] for path, each in line["groups"].items()}
+        swung = self.swings.take(limits) if self.record is not None else None
+        if swung is not None:
+            output.warn(f"{shown(swung)}: its limit went back and forth for {MOST_ROUNDS} rounds:"
+                        " it comes too late here, and the loop ends")
+        return swung is not None
+
     def end(self) -> None:
         """Puts back what stood, and removes the undo file if all of it stands again."""
         try:
@@ -641,7 +651,6 @@ def run(loop: Loop, times: Times, wait: Callable[[float], bool],
     """Rounds until the last reading, or until `wait` tells a signal. What stood is put back at each
     end. The limits of the last round stand for an interval. `begin` is called after the first
     reading. It ends by itself where limits go back and forth."""
-    swings = Swings(loop.host.processors * (loop.host.period_us // loop.host.slice_us))
     try:
         loop.read()
         begin()
@@ -666,10 +675,7 @@ def run(loop: Loop, times: Times, wait: Callable[[float], bool],
             else:
                 failed = 0
                 emit(line)
-                swung = swings.take({path: each["limit"] for path, each in line["groups"].items()})
-                if swung is not None and loop.record is not None:
-                    output.warn(f"{shown(swung)}: its limit went back and forth for {MOST_ROUNDS}"
-                                " rounds: they come too late here, and the loop ends")
+                if loop.is_swinging(line):
                     return
             readings += 1
             if loop.record is None and readings == times.number:

@@ -1,5 +1,4 @@
-"""Limits that go back and forth, as where a group works in each other round: they come a round late.
-"""
+"""Limits that go back and forth, as where a group works in each other round: they come too late."""
 from __future__ import annotations
 
 from collections import Counter

@@ -256,7 +256,7 @@ def test_unserved(world, engine, folder):
 
 
 def test_a_tree_without_the_controller(ctl, folder, world):
-    """No group has a limit there, which is a fault. A tree without groups is none: some may come."""
+    """No group has a limit there: a fault. A tree without groups is none, since some may come."""
     trees.root2(folder / "none", enabled="io memory")
     (folder / "none/x").mkdir()
     words = ["--read", "2x1s", "--undo", folder / "u"]
