@@ -209,10 +209,10 @@ uint32_t arbiter_tune(uint64_t processors, uint64_t period_us, uint64_t slice_us
 /* The limits of the next round, from what each leaf used in the last one. The rows are as everywhere, with the slices that each
  * leaf used, rounded up, in `used` in the place of demands. `hungry` is not 0 where the leaf would have used more; it is not read
  * at groups with children.
- * Writes to `held` a leaf's limit for the next round, and another group's own limit or ARBITER_NO_LIMIT; to `demands` 1000000 for
- * a hungry leaf and what it used for another; to `amounts` the plan of these demands. The last four columns are the certificate of
- * the amounts, as of arbiter_certify, for the rows with `demands`. No leaf is limited above its own limit, nor below its guarantee,
- * whatever was read. docs/PROVED.md has the rule and its laws. Two plans. */
+ * Writes to `demands` 1000000 for a hungry leaf and what it used for another, to `amounts` the plan of these demands, and to `held`
+ * each leaf's limit. Where the plan gives each leaf its demand or its own limit, this is its own limit or ARBITER_NO_LIMIT, as in
+ * any round of another group. No leaf is limited above its own limit, nor below its guarantee. The last four columns are the
+ * certificate of the amounts, as of arbiter_certify, for the rows with `demands`. docs/PROVED.md has the rule. Two plans. */
 uint32_t arbiter_hold(uint64_t processors, uint64_t period_us, uint64_t slice_us,
                       const uint32_t *parents, size_t parents_length, const uint64_t *weights, size_t weights_length,
                       const uint64_t *limits, size_t limits_length, const uint64_t *used, size_t used_length,

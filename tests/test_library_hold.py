@@ -20,7 +20,7 @@ EVERYTHING = 1000000
 TWO = [Row(None), Row(0, demand=0), Row(0, weight=200, demand=0)]
 # `web` (1) has a limit of its own, `pod` (2) has one for its two leaves.
 POD = [Row(None), Row(0, limit=9), Row(0, limit=12), Row(2), Row(2)]
-LIGHT = [Row(None), Row(0, weight=1), Row(0, weight=10000)]
+LIGHT = [Row(None), Row(0, weight=1), Row(0, weight=10000), Row(0, weight=1)]
 Limits = List[Optional[int]]
 
 
@@ -41,13 +41,18 @@ def using(rows: Sequence[Row], used: Sequence[int]) -> List[Row]:
     (TWO, [0, 4, 10], [1, 0, 1], [None, 7, 16], [0, 4, EVERYTHING], [20, 4, 16]),
     # Both are hungry: the floors are the plan.
     (TWO, [0, 4, 10], [0, 1, 1], [None, 7, 13], [0, EVERYTHING, EVERYTHING], [20, 7, 13]),
-    # Nobody is hungry: the first has an eighth above its 8, the second its floor.
-    (TWO, [0, 8, 5], [0, 0, 0], [None, 9, 13], [0, 8, 5], [13, 8, 5]),
+    # Nobody lacks anything, so nobody is held.
+    (TWO, [0, 8, 5], [0, 0, 0], [None, None, None], [0, 8, 5], [13, 8, 5]),
     # The first used more than it is planned: its limit is the planned amount.
     (TWO, [0, 16, 13], [0, 0, 0], [None, 7, 15], [0, 16, 13], [20, 7, 13]),
     # The first is so light that its floor is 0. It used 3 slices or none: one more is its limit.
-    (LIGHT, [0, 3, 10], [0, 0, 0], [None, 4, 20], [0, 3, 10], [13, 3, 10]),
-    (LIGHT, [0, 0, 10], [0, 0, 0], [None, 1, 20], [0, 0, 10], [10, 0, 10]),
+    # The last is hungry.
+    (LIGHT, [0, 3, 10, 7], [0, 0, 0, 1], [None, 4, 20, 7], [0, 3, 10, EVERYTHING], [20, 3, 10, 7]),
+    (LIGHT, [0, 0, 10, 9], [0, 0, 0, 1], [None, 1, 20, 10], [0, 0, 10, EVERYTHING],
+     [20, 0, 10, 10]),
+    # `web` lacks nothing but at its own limit.
+    (POD, [0, 9, 0, 5, 2], [0, 1, 1, 0, 0], [None, 9, 12, None, None], [0, EVERYTHING, 0, 5, 2],
+     [16, 9, 7, 5, 2]),
     # `web` used 8 of its 9: an eighth more is 9. `pod` has 11 or 12 of 20, and keeps its limit.
     # If all ask for all, web has 9 and the leaves of pod 6 and 5.
     (POD, [0, 8, 0, 5, 2], [0, 0, 0, 1, 0], [None, 9, 12, 10, 5],
@@ -72,9 +77,11 @@ def by_model(rows: List[Row], capacity: int, hungry: Sequence[bool]
     amounts = asked.plan()
     most = [EVERYTHING if leaf else 0 for leaf in leaves]
     floors = Instance(using(rows, most), capacity).plan()
+    calm = all(amount >= (demand if row.limit is None else min(demand, row.limit))
+               for leaf, demand, amount, row in zip(leaves, demands, amounts, rows) if leaf)
     limits: Limits = []
     for row, leaf, flag, amount, floor in zip(rows, leaves, hungry, amounts, floors):
-        if not leaf:
+        if calm or not leaf:
             limits.append(row.limit)
         elif flag or amount < row.demand:
             limits.append(max(floor, amount))
@@ -88,8 +95,10 @@ def by_model(rows: List[Row], capacity: int, hungry: Sequence[bool]
 def test_random_tree(module, number):
     chance = random.Random(SEED + number)
     host, asked = random_tree(chance)
-    rows = [Row(row.parent, row.weight, row.limit, row.demand) for row in asked]
-    hungry = [chance.random() < 0.4 for _ in rows]
+    # (of each third tree nobody is hungry, and few use much: nobody lacks anything there)
+    most = EVERYTHING if number % 3 else host.processors
+    rows = [Row(row.parent, row.weight, row.limit, min(row.demand, most)) for row in asked]
+    hungry = [chance.random() < 0.2 * (number % 3) for _ in rows]
     capacity = host.processors * (host.period_us // host.slice_us)
     limits, demands, amounts, instance = by_model(rows, capacity, hungry)
     round_of = module.hold(host, rows, hungry)

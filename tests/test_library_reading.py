@@ -281,14 +281,14 @@ def test_random_limits(module):
 
 
 def test_both_give_the_plan(module):
-    """A hungry group of two tasks beside one that is served: what it could use is its limit."""
+    """A hungry group of two tasks asks for what it could use, beside one that is served."""
     rows = [arbiter.Row(), arbiter.Row(0), arbiter.Row(0)]
     host = arbiter.Host(2, 100000, 5000)
     tasks = in_nanoseconds([(500, 500), (300, 100)])
     found = [module.reading(host, arbiter.RoundTimes(SECOND, used * 1000, 500000, 2), each)
-             for used, each in ((800, tasks), (600, in_nanoseconds([(300, 0), (300, 0)])))]
-    same(found, [arbiter.Reading(16, 26, True), arbiter.Reading(12, 12, False)])
+             for used, each in ((800, tasks), (1000, in_nanoseconds([(500, 0), (500, 0)])))]
+    same(found, [arbiter.Reading(16, 26, True), arbiter.Reading(20, 20, False)])
     asks = [rows[0], *(row._replace(demand=each.asked) for row, each in zip(rows[1:], found))]
     held = module.hold(host, asks, [each.demand == EVERYTHING for each in asks])
-    same((held.amounts, held.limits), ([38, 26, 12], [None, 30, 20]))
-    same(module.written(HOST_OF_ONE, 30, None, 0, 2), (151171, 288))
+    same((held.amounts, held.limits), ([40, 20, 20], [None, 20, 23]))
+    same(module.written(HOST_OF_ONE, 20, None, 0, 2), (100781, 98))

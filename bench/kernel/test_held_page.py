@@ -99,14 +99,17 @@ def test_page_has_the_tables_of_the_runs():
 
 
 def test_rounds_of_the_runs_are_by_the_rule(library):
-    """The library gives the plan and the limits of each round that the runs have."""
-    calls, count = Library(library), 0
+    """The library gives the plan and the limits of each round that the runs have. They were made
+    when a round in which nobody lacks anything was held too."""
+    calls, count, calm = Library(library), 0, 0
     for run in held_page.read([str(held_page.RUNS)]):
         found = scenario.read(__main__.SCENARIOS / f"{run['scenario']}.script")
         for _, each in itertools.groupby(run["rounds"], key=lambda line: line["round"]):
             lines = list(each)
             wanted = held_rule.by_the_rule(calls, found, WAYS[run["way"]], lines)
             for line in lines:
-                assert wanted[line["path"]] == (line["plan"], line["limit"]), (run["key"], line)
+                assert wanted[line["path"]] in (
+                    (line["plan"], line["limit"]), (line["plan"], None)), (run["key"], line)
             count += 1
-    assert count > 1000
+            calm += all(limit is None for _, limit in wanted.values())
+    assert count > 1000 and calm < count / 10

@@ -172,7 +172,8 @@ class Library:
 
         The demand of each row is what it used, in slices rounded up. `hungry` tells for each row
         whether it would have used more; those of groups with children are not read. Refused as a
-        plan is, and by 50 WrongLength if there is not one flag for each row.
+        plan is, and by 50 WrongLength if there is not one flag for each row. Where the plan gives
+        each leaf what it asks for or its own limit, each keeps its own limit or None.
         """
         columns = Columns.of(rows)
         flags = column(U8, [bool(flag) for flag in hungry], "flag")

@@ -110,11 +110,16 @@ def is_bound(folder: int) -> bool:
     return bool((file_text(folder, "cpuset.cpus") or "").strip())
 
 
+def has_cpu(folder: str) -> bool:
+    """Whether the cpu controller is enabled for the groups in a folder, as far as it says so."""
+    enabled = file_text(folder, "cgroup.subtree_control")
+    return enabled is None or "cpu" in enabled.split()
+
+
 def top_notes(folder: str) -> list[str]:
     """Notes of a controller that is not enabled, and of the top's own limit."""
     notes = []
-    enabled = file_text(folder, "cgroup.subtree_control")
-    if enabled is not None and "cpu" not in enabled.split():
+    if not has_cpu(folder):
         notes.append(f"{shown(folder)}: the cpu controller is not enabled here"
                      " (cgroup.subtree_control)")
     limit = file_text(folder, "cpu.max")

@@ -30,6 +30,7 @@ from arbiter_host.plan import Engine, asking, fault_of
 from arbiter_host.record import Record
 from arbiter_host.safe_files import Gone, Identity, Root
 from arbiter_host.sources.pods import kubelets
+from arbiter_host.swings import MOST_ROUNDS, Swings
 
 # What is told of a round.
 Line = dict[str, Any]
@@ -50,6 +51,8 @@ MOST_OBJECTS = 200_000
 LINKS = 2
 # Files that are open beside those of the groups.
 SPARE_FILES = 64
+# The part of the CPUs that may be used outside the tree without a word.
+MOST_OUTSIDE = 0.05
 
 
 class Ways(NamedTuple):
@@ -264,6 +267,9 @@ class Loop:
         self.undo: list[tuple[str, Settings, Settings, Settings]] = []
         # Whether it was told that limits are rounded up.
         self.has_rounded = False
+        self.swings = Swings(host.processors * (host.period_us // host.slice_us))
+        # The last time and the microseconds used outside the tree; None after it was told.
+        self.outside: tuple[int, int] | None = (-1, 0)
         # Whether no group was kubelet's when the loop began.
         self.is_checked = ways.is_forced
         self.rounds = self.readings = 0
@@ -360,13 +366,36 @@ class Loop:
                                 " over these (--force)")
         self.is_checked = True
 
+    def check_controller(self) -> None:
+        """A fault where no group can have a limit."""
+        if not cgroup2.has_cpu(self.tree.top):
+            raise HostFault(f"{shown(self.tree.top)}: the cpu controller is not enabled here"
+                            " (cgroup.subtree_control): no group has a limit")
+
+    def look_outside(self, look: looks.Look) -> None:
+        """Tells once if much is used outside the tree, whose plan counts on all CPUs."""
+        top = look.counted.get(".")
+        if self.outside is None or not top or os.path.realpath(self.root.path) == self.tree.top:
+            return
+        (at, before), now = self.outside, self.clock()
+        whole = cgroup2.reading(self.root.path).usage or 0
+        outside = whole - sum(each.reading.usage or 0 for each in top.values())
+        self.outside = now, outside
+        used = 1000 * (outside - before) / (now - at) if now > at >= 0 else 0
+        if used > MOST_OUTSIDE * self.host.processors:
+            self.tell([f"{used:.1f} CPUs are used outside {shown(self.tree.top)}: its plan counts"
+                       f" on all {self.host.processors}"])
+            self.outside = None
+
     def read(self) -> tuple[Model, dict[str, Reading]]:
         """The groups as they stand, and what each leaf used since the last reading of it. Those
         that went are closed."""
         look = self.tree.look()
         model = look.model
         if not model.groups:
+            self.check_controller()
             model.notes.append("no groups with the cpu controller are below this folder")
+        self.look_outside(look)
         if not self.is_checked:
             self.check_owner(model)
         self.tell(model.notes)
@@ -464,17 +493,19 @@ class Loop:
         held = self.held(Columns.of(rows), {row: used[path] for path, row in places.items()})
         for path, row in places.items():
             limit, kept, each = held.limits[row], self.groups[path], used[path]
-            if limit is None:
-                continue
             lacks = (kept.planned or 0) - each.used if each.is_hungry else 0
             kept.planned = held.amounts[row]
             found.told[path] = {"want": held.demands[row], "plan": held.amounts[row],
                                 "used": each.used, "limit": limit, "hungry": each.is_hungry,
                                 "unserved": max(lacks, 0)}
-            found.quotas[path], weights[path] = self.written(
-                limit, rows[row].limit, self.standing(kept), self.tasks[path])
+            found.quotas[path] = None
+            if limit is not None:
+                found.quotas[path], weights[path] = self.written(
+                    limit, rows[row].limit, self.standing(kept), self.tasks[path])
         if self.ways.has_weights:
-            found.weights.update(tree_weights(model, weights))
+            # A round that holds nobody leaves the weights of the operator.
+            is_calm = all(held.limits[row] == rows[row].limit for row in places.values())
+            found.weights.update(tree_weights(model, {} if is_calm else weights))
             for path, line in found.told.items():
                 line["weight"] = found.weights[path]
         return found
@@ -595,6 +626,15 @@ class Loop:
                 "unserved": sum(line["unserved"] for line in found.told.values()),
                 "groups": found.told}
 
+    def is_swinging(self, line: Line) -> bool:
+        """Whether the limits of a round end the loop, since they go back and forth."""
+        limits = {path: each["limit"] for path, each in line["groups"].items()}
+        swung = self.swings.take(limits) if self.record is not None else None
+        if swung is not None:
+            output.warn(f"{shown(swung)}: its limit went back and forth for {MOST_ROUNDS} rounds:"
+                        " it comes too late here, and the loop ends")
+        return swung is not None
+
     def end(self) -> None:
         """Puts back what stood, and removes the undo file if all of it stands again."""
         try:
@@ -610,7 +650,7 @@ def run(loop: Loop, times: Times, wait: Callable[[float], bool],
         emit: Callable[[Line], None], begin: Callable[[], object] = lambda: None) -> None:
     """Rounds until the last reading, or until `wait` tells a signal. What stood is put back at each
     end. The limits of the last round stand for an interval. `begin` is called after the first
-    reading."""
+    reading. It ends by itself where limits go back and forth."""
     try:
         loop.read()
         begin()
@@ -635,6 +675,8 @@ def run(loop: Loop, times: Times, wait: Callable[[float], bool],
             else:
                 failed = 0
                 emit(line)
+                if loop.is_swinging(line):
+                    return
             readings += 1
             if loop.record is None and readings == times.number:
                 return

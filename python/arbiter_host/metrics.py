@@ -49,7 +49,7 @@ HELD = {
     "want": "CPUs that a group asked for in the last round; +Inf for a hungry one.",
     "plan": "CPUs that the plan of the last round gives a group.",
     "used": "CPUs that a group used in the last round.",
-    "limit": "CPUs of the limit of a group for the next round.",
+    "limit": "CPUs of the limit of a group for the next round; +Inf for none.",
     "unserved": "CPUs of the plan that stood which a hungry group was not given.",
 }
 
@@ -96,8 +96,8 @@ class Held(Collector):
         groups: dict[str, dict[str, Any]] = self.line["groups"]
         for key, words in HELD.items():
             yield gauge(f"arbiter_hold_{key}_cpus", words, (
-                ((path,), float("inf") if key == "want" and each["hungry"] else
-                 each[key] * self.one) for path, each in groups.items()), ("group",))
+                ((path,), float("inf") if each[key] is None or key == "want" and each["hungry"]
+                 else each[key] * self.one) for path, each in groups.items()), ("group",))
         yield gauge("arbiter_hold_hungry", "1 if a group would have used more in the last round.",
                     (((path,), each["hungry"]) for path, each in groups.items()), ("group",))
         for key, name, words in (("round", "rounds", "Rounds since the loop began."),

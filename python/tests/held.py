@@ -3,6 +3,10 @@ import json
 import os
 import subprocess
 import sys
+import threading
+import time
+from concurrent.futures import ThreadPoolExecutor
+from contextlib import contextmanager
 
 import trees
 from arbiter import Host
@@ -20,10 +24,12 @@ def limit(slices):
 
 
 class World:
-    """A tree of plain files with a clock, whose groups use and wait as the test says."""
+    """A tree of plain files with a clock, whose groups use and wait as the test says. One group
+    lacks CPU in each second in which the test says nothing of it: else nobody would be held."""
 
-    def __init__(self, folder, groups):
+    def __init__(self, folder, groups, lacks="b"):
         self.tree, self.now, self.lines, self.after = folder / "t", 0, [], []
+        self.lacks = lacks
         self.counters = {}
         # (the tasks of these groups are none of this machine)
         hunger.PROC = str(folder / "proc")
@@ -53,8 +59,29 @@ class World:
         if not self.after:
             return True
         self.now += SECOND
+        before = list(self.counters.get(self.lacks, ()))
         self.after.pop(0)()
+        if before == self.counters.get(self.lacks) and (self.tree / self.lacks).exists():
+            self.uses(self.lacks, 1, waited=10**6)
         return False
+
+    def lack(self, is_over):
+        """One group lacks CPU until something is over: for a loop that runs as a command."""
+        while not is_over():
+            self.uses(self.lacks, 1, waited=10**6)
+            time.sleep(0.02)
+
+    @contextmanager
+    def lacking(self):
+        """One group lacks CPU meanwhile."""
+        over = threading.Event()
+        with ThreadPoolExecutor(1) as threads:
+            ended = threads.submit(self.lack, over.is_set)
+            try:
+                yield
+            finally:
+                over.set()
+            ended.result()
 
     def loop(self, engine, undo=None, **words):
         kept = None if undo is None else record.Record(str(undo))
@@ -77,17 +104,21 @@ class World:
 
 
 def content(tree):
-    """The text of each file of a tree."""
-    return {str(path): path.read_text() for path in sorted(tree.rglob("*")) if path.is_file()}
+    """The text of each file of a tree that does not count."""
+    return {str(path): path.read_text() for path in sorted(tree.rglob("*"))
+            if not path.name.startswith(("cpu.stat", "cpu.pressure")) and path.is_file()}
 
 
 def begun(ctl, world, undo, *words):
-    """A loop as a command."""
-    return subprocess.Popen(
+    """A loop as a command, on a tree in which one group lacks CPU."""
+    found = subprocess.Popen(
         [sys.executable, str(PACKAGE / "arbiterctl"), "hold", str(world.tree), "--root",
          str(world.tree), "--cpus", "2", "--yes", "--read", "x100ms", "--period", "100ms",
          "--undo", str(undo), *words],
         env=ctl.environment, stdout=subprocess.PIPE, stderr=subprocess.PIPE)
+    threading.Thread(target=world.lack, args=[lambda: found.poll() is not None],
+                     daemon=True).start()
+    return found
 
 
 def started(ctl, world, undo, *words):

@@ -52,7 +52,8 @@ def test_limits_of_worked_readings(world, engine, folder):
 
 def test_headroom_own_limits_and_a_burst(folder, engine):
     """Without hunger a leaf has an eighth above its use, and never more than its own limit."""
-    world = World(folder, [("a", 100, FREE), ("b", 100, FREE), ("c", 200, "80000 100000")])
+    world = World(folder, [("a", 100, FREE), ("b", 100, FREE), ("c", 200, "80000 100000"),
+                           ("d", 1, FREE)], lacks="d")
     trees.group2(world.tree / "b", 100, "150000 100000", 60000)
     loop = world.loop(engine, folder / "undo")
 
@@ -62,12 +63,42 @@ def test_headroom_own_limits_and_a_burst(folder, engine):
         world.uses("c", 8)
 
     (line, stood), = world.run(loop, step)
-    # Guarantees: c 80 by its limit, and 60 each for a and b. b is not hungry: no task of it is
-    # known, and it waited for less than half of the round. a: 112 + 14.
+    # Guarantees: c 80 by its limit; 60 and 59 for a and b, and 1 for d, which has what they leave.
+    # b is not hungry: no task of it is known, and it waited for less than half of the round. a: 112
+    # + 14.
     assert {path: each["limit"] for path, each in line["groups"].items()} == {
-        "a": 126, "b": 60, "c": 80}
-    assert stood == {"a": limit(126), "b": limit(60), "c": "80000 100000"}
+        "a": 126, "b": 59, "c": 80, "d": 70}
+    assert stood == {"a": limit(126), "b": limit(59), "c": "80000 100000", "d": limit(70)}
     assert apply.current(loop.root, "b") == Settings(100, 150000, 100000, 60000)
+
+
+def test_a_calm_round_holds_nobody(folder, engine):
+    """Nobody lacks anything but at his own limit: each has that, and his own weight."""
+    world = World(folder, [("a", 100, FREE), ("b", 100, FREE), ("c", 200, "80000 100000")], "none")
+    loop, seen = world.loop(engine, folder / "undo", ways=hold.Ways(has_weights=True)), []
+
+    def calm():
+        world.uses("a", 100)
+        world.uses("c", 80, throttled=9)
+
+    def busy():
+        world.uses("a", 90, waited=10**6)
+        world.uses("c", 80, throttled=9)
+        world.uses("b", 30, waited=10**6)
+
+    def look(step):
+        step()
+        seen.append([(world.tree / path / "cpu.weight").read_text().strip() for path in "abc"])
+
+    lines = world.run(loop, calm, busy, lambda: look(calm), lambda: look(calm))
+    free, own = FREE, "80000 100000"
+    assert [stood for _, stood in lines] == [
+        {"a": free, "b": free, "c": own}, {"a": limit(60), "b": limit(60), "c": own},
+        {"a": free, "b": free, "c": own}, {"a": free, "b": free, "c": own}]
+    assert [[each["limit"] for each in line["groups"].values()] for line, _ in lines] == [
+        [None, None, 80], [60, 60, 80], [None, None, 80], [None, None, 80]]
+    assert [line["written"] for line, _ in lines] == [0, 3, 3, 0]
+    assert seen[0] != seen[1] == ["100", "100", "200"]
 
 
 @pytest.mark.parametrize("first, second, stood", [
@@ -89,12 +120,14 @@ def test_inner_limits_and_rounding_up(folder, engine, capsys):
     """A group with children keeps its limit. A leaf planned no slice gets 1 ms, told once."""
     world = World(folder, [("in", 10000, "40000 100000"), ("in/x", 100, FREE), ("z", 1, FREE)])
 
-    def step(waited):
-        world.uses("in/x", 40, waited=waited)
-        world.uses("z", 0)
+    def step(hungry, slices=0):
+        world.uses("in/x", 40)
+        world.uses("z", slices)
+        world.uses(hungry, 0, waited=10**6)
 
-    lines = world.run(world.loop(engine, folder / "undo"), lambda: step(10**6), lambda: step(0))
-    # First it is hungry; then it uses 40 below a limit that does not stop it.
+    lines = world.run(world.loop(engine, folder / "undo"), lambda: step("in/x"),
+                      lambda: step("z", 1))
+    # First it is hungry; then z is, and it uses 40 below a limit that does not stop it.
     assert [line["groups"]["in/x"]["limit"] for line, _ in lines] == [40, 45]
     assert lines[0][1]["in"] == "40000 100000"
     # z is guaranteed the 160 slices that `in` may not use.
@@ -116,7 +149,7 @@ def test_groups_come_and_go(world, engine, folder):
 
     def step(*paths):
         for path in paths:
-            world.uses(path, 10)
+            world.uses(path, 10, waited=10**6)
 
     def come():
         step(*"abc")
@@ -225,7 +258,7 @@ def test_a_clock_that_jumps(world, engine, folder, capsys):
         world.uses("b", 90, waited=10**6)
 
     loop, stood = world.loop(engine, folder / "undo"), []
-    lines = world.run(loop, lambda: None, jump, lambda: stood.append(world.maximum("b")))
+    lines = world.run(loop, lambda: None, jump, lambda: stood.append(world.maximum("a")))
     assert [(line["round"], line["missed"]) for line, _ in lines] == [(1, 0), (2, 0)]
     assert stood == [limit(50)]
     assert "20 rounds missed at once: nothing is written" in capsys.readouterr().err
@@ -337,19 +370,21 @@ def test_other_ends_put_back(ctl, world, folder):
 
 def test_nothing_is_written_without_yes(ctl, world, folder):
     before = content(folder)
-    for more, limits in ((["--read", "2x100ms", "--period", "100ms"], [50, 50, 100]),
-                         (["--read", "2x1s"], [500, 500, 1000]),
-                         (["--read", "2x1s", "--slice", "10ms"], [50, 50, 100])):
-        out, _ = ctl.run("hold", world.tree, "--root", world.tree, "--cpus", "2",
-                         "--undo", folder / "u", *more)
+    for more, limits in ((["--read", "2x100ms", "--period", "100ms"], [50, 200, 100]),
+                         (["--read", "2x1s"], [500, 2000, 1000]),
+                         (["--read", "2x1s", "--slice", "10ms"], [50, 200, 100])):
+        with world.lacking():
+            out, _ = ctl.run("hold", world.tree, "--root", world.tree, "--cpus", "2",
+                             "--undo", folder / "u", *more)
         line = json.loads(out)
         assert [each["limit"] for each in line["groups"].values()] == limits
         assert (line["written"], content(folder)) == (0, before)
     # 96 CPUs by weights 100, 100 and 200: in slices of 10 ms of 1 s, and of 1 ms of 100 ms
     for more in ([], ["--period", "100ms"]):
-        out, _ = ctl.run("hold", world.tree, "--root", world.tree, "--cpus", "96", "--read",
-                         "2x1s", *more)
-        assert [each["limit"] for each in json.loads(out)["groups"].values()] == [2400, 2400, 4800]
+        with world.lacking():
+            out, _ = ctl.run("hold", world.tree, "--root", world.tree, "--cpus", "96", "--read",
+                             "2x1s", *more)
+        assert [each["limit"] for each in json.loads(out)["groups"].values()] == [2400, 9600, 4800]
 
 
 def test_killed_at_random_points_and_undone(library, folder):

@@ -13,12 +13,14 @@ from pathlib import Path
 
 import killed_loop
 import pytest
+import trees
 from arbiter import Host
 from arbiter_host import apply, hold, hunger, metrics, safe_files
 from arbiter_host.faults import HostFault
 from arbiter_host.model import Group, Model
 from arbiter_host.subcommands.hold import Notifier, Service
-from held import FREE, World, content, limit, said, started
+from arbiter_host.swings import MOST_ROUNDS, Swings
+from held import FREE, TWO, World, content, limit, said, started
 from places import PACKAGE
 
 UNIT = PACKAGE.parent / "share/systemd/arbiter-hold.service"
@@ -171,13 +173,13 @@ def begun(world, folder):
 
 def test_a_group_below_its_limit_is_hungry(world, begun, engine, folder):
     """Linux gives c less than its limit: its task was awake, so it asks for the CPU that one task
-    can use. It waited for less than half of the time."""
+    can use. It waited for less than half of the time. All of it is planned, so nobody is held."""
     step = begun(55, 100)
     lines = world.run(world.loop(engine, folder / "undo"), step, step, step)
     assert [line["groups"]["c"]["hungry"] for line, _ in lines] == [True] * 3
     # planned the CPU, of which it was not given 45
     assert lines[-1][0]["groups"]["c"] == {
-        "want": 100, "plan": 100, "used": 55, "limit": 113, "hungry": True, "unserved": 100 - 55}
+        "want": 100, "plan": 100, "used": 55, "limit": None, "hungry": True, "unserved": 100 - 55}
 
 
 def test_a_group_of_many_tasks_asks_for_all(world, begun, engine, folder):
@@ -253,9 +255,63 @@ def test_unserved(world, engine, folder):
     assert (one["unserved"], two["unserved"]) == (0, 13)
 
 
+def test_a_tree_without_the_controller(ctl, folder, world):
+    """No group has a limit there: a fault. A tree without groups is none, since some may come."""
+    trees.root2(folder / "none", enabled="io memory")
+    (folder / "none/x").mkdir()
+    words = ["--read", "2x1s", "--undo", folder / "u"]
+    _, err = ctl.run("hold", folder / "none", "--root", folder / "none", *words, status=1)
+    assert "the cpu controller is not enabled here (cgroup.subtree_control): no group" in err
+    trees.root2(folder / "empty")
+    out, err = ctl.run("hold", folder / "empty", "--root", folder / "empty", *words)
+    assert json.loads(out)["groups"] == {} and "no groups with the cpu controller" in err
+
+
+@pytest.mark.parametrize("outside, is_told", [(9 * 10**4, False), (5 * 10**5, True)])
+def test_use_outside_the_tree(folder, engine, capsys, outside, is_told):
+    """It is told once if it is above a twentieth of the CPUs, and changes no plan."""
+    world = World(folder, [("in", 100, FREE), ("in/b", 100, FREE)], lacks="in/b")
+    loop = hold.Loop(engine, safe_files.Root(str(world.tree)), str(world.tree / "in"), TWO,
+                     clock=lambda: world.now)
+    used = [0, 0]
+
+    def step():
+        used[0], used[1] = used[0] + 10**5 + outside, used[1] + 10**5
+        (world.tree / "cpu.stat").write_text(f"usage_usec {used[0]}\n")
+        (world.tree / "in/cpu.stat").write_text(f"usage_usec {used[1]}\n")
+    lines = world.run(loop, step, step, step)
+    assert [line["groups"]["b"]["limit"] for line, _ in lines] == [200] * 3
+    said = f"0.5 CPUs are used outside {world.tree / 'in'}: its plan counts on all 2\n"
+    assert capsys.readouterr().err.count(said) == is_told
+
+
+def test_limits_that_go_back_and_forth(world, engine, folder, capsys):
+    """They end a loop that writes, after its bound, and what stood is put back. Those that stay,
+    move on, or swing a little do not."""
+    turns = iter(range(1000))
+
+    def step():
+        if next(turns) % 2:
+            world.uses("a", 90, waited=10**6)
+        world.uses("b", 90, waited=10**6)
+
+    lines = world.run(world.loop(engine, folder / "undo"), *[step] * 70)
+    assert len(lines) == MOST_ROUNDS + 2 and not (folder / "undo").exists()
+    assert [world.maximum(path) for path in "abc"] == [FREE] * 3
+    assert "a: its limit went back and forth for 60 rounds" in capsys.readouterr().err
+    assert len(world.run(world.loop(engine), *[step] * 70)) == 70
+    for limits in ([50] * 70, [100, 90] * 35, [*range(50, 120)], [50, 90, None] * 23):
+        swings = Swings(200)
+        assert {swings.take({"a": limit}) for limit in limits} == {None}
+    swings = Swings(200)
+    assert [swings.take({"a": limit}) for limit in [None, 50] * 31] == [None] * 61 + ["a"]
+
+
 LINE = {"round": 7, "missed": 1, "written": 2, "unserved": 3, "groups": {
     'a"b\\c\n': {"want": 20, "plan": 20, "used": 19, "limit": 50, "hungry": False, "unserved": 0},
     "b": {"want": 1000000, "plan": 60, "used": 57, "limit": 60, "hungry": True, "unserved": 3}}}
+CALM = {"round": 8, "missed": 0, "written": 1, "unserved": 0, "groups": {
+    "b": {"want": 5, "plan": 5, "used": 5, "limit": None, "hungry": False, "unserved": 0}}}
 
 
 def held(line=None):
@@ -279,6 +335,7 @@ def test_metrics_by_hand():
         f"arbiter_hold_unserved_cpus{{{odd}}}": 0, 'arbiter_hold_unserved_cpus{group="b"}': 0.03,
         f"arbiter_hold_hungry{{{odd}}}": 0, 'arbiter_hold_hungry{group="b"}': 1,
         "arbiter_hold_rounds": 7, "arbiter_hold_missed_rounds": 1}
+    assert b'\narbiter_hold_limit_cpus{group="b"} +Inf\n' in metrics.text_of(held(CALM))
 
 
 @pytest.mark.skipif(shutil.which("promtool") is None, reason="no promtool")

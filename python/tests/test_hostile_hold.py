@@ -79,6 +79,7 @@ def test_a_tenant_with_very_many_groups(world, engine, folder, capsys, monkeypat
     """Each is held up to a number. Beyond it they are held as one, told in a line, from then on;
     the others are held as ever."""
     monkeypatch.setattr(hold, "MOST_OF_OTHERS", 6)
+    world.lacks = "a"
     world.add("b/user")
     give(world.tree / "b/user")
     crowd(world, "b/user", *"uvwxyz")
@@ -154,6 +155,7 @@ def test_what_stands_in_many_groups_is_read_in_turn(world, engine, folder, capsy
 
 def test_an_idle_group_costs_one_file(world, engine, folder, monkeypatch):
     """Its cpu.stat tells that it still is. One that used anything is read whole again."""
+    world.lacks = "none"
     loop, reads = world.loop(engine, folder / "undo"), []
     real = loop.root.read
 
@@ -176,7 +178,7 @@ def test_a_tenant_shuts_its_files(engine, capsys):
     that can be are held, and put back."""
     with tempfile.TemporaryDirectory() as name:
         place = Path(name)
-        world = World(place, [("a", 100, FREE), ("b", 100, FREE), ("c", 200, FREE)])
+        world = World(place, [("a", 100, FREE), ("b", 100, FREE), ("c", 200, FREE)], "none")
         for each in (place, *place.rglob("*")):
             os.chown(each, NOBODY, NOBODY)
         give(world.tree / "b", TENANT)
@@ -261,7 +263,7 @@ def test_a_limit_set_between_reading_and_writing(world, engine, folder, capsys):
     between(loop, lambda: (world.tree / "a/cpu.max").write_text("70000 100000\n"))
     lines = world.run(loop, lambda: None, lambda: None)
     assert [stood["a"] for _, stood in lines] == ["70000 100000"] * 2
-    assert [stood["b"] for _, stood in lines] == [limit(50)] * 2
+    assert [stood["c"] for _, stood in lines] == [limit(100)] * 2
     assert [world.maximum(path) for path in "abc"] == ["70000 100000", FREE, FREE]
     assert capsys.readouterr().err.count("a: somebody set") == 1
 
@@ -277,7 +279,7 @@ def test_an_owner_makes_a_writing_fail(world, engine, folder, capsys):
     lines = world.run(loop, lambda: None, lambda: None)
     # (the next reading sees the burst, and it is lowered before the limit)
     assert [[stood[path] for path in "abc"] for _, stood in lines] == [
-        [FREE, limit(50), limit(100)], [limit(50), limit(50), limit(100)]]
+        [FREE, limit(200), limit(100)], [limit(50), limit(200), limit(100)]]
     assert "its owner may have set it meanwhile" in capsys.readouterr().err
     assert [world.maximum(path) for path in "abc"] == [FREE] * 3
     assert (world.tree / "a/cpu.max.burst").read_text() == "90000\n"

@@ -19,6 +19,7 @@ LAYERS = {
 PARTS = {
     "tune": "goals knobs tune_weights tune_settings other_limits",
     "top": "live metrics viewer",
+    "hold": "swings",
 }
 ORDER = list(LAYERS)
 FEATURE = {part: feature for feature, parts in PARTS.items() for part in parts.split()}

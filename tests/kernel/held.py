@@ -15,6 +15,8 @@ from kernel.scenario import Scenario
 TOP = Path(__file__).resolve().parents[2]
 ARCHIVE = TOP / "crates/bw_exports/out/libarbiter.a"
 SECOND = 1000000000
+# How hold.c writes that there is no limit.
+NO_LIMIT = 2**64 - 1
 Held = dict[str, list[dict[str, Any]]]
 
 
@@ -81,7 +83,8 @@ def rounds_in(lines: Sequence[str]) -> Held:
             used, hungry, want, amount, limit = map(int, rest)
             found.setdefault(key, []).append(
                 {"round": int(number), "at": int(clock) // 1000, "path": path, "used": used,
-                 "hungry": bool(hungry), "want": want, "plan": amount, "limit": limit})
+                 "hungry": bool(hungry), "want": want, "plan": amount,
+                 "limit": None if limit == NO_LIMIT else limit})
     return found
 
 

@@ -8,7 +8,7 @@
    with a PERIOD of microseconds. WAYS has `w` for weights of the limits, `b` for a burst of a tenth
    of the quota, `-` for neither and `n` for nothing written. Each PATH is a group below TOP, after
    its parent. At LAST it prints, for each round and leaf, `held ROUND CLOCK PATH USED HUNGRY WANT
-   PLAN LIMIT`: slices, and nanoseconds since FIRST. */
+   PLAN LIMIT`: slices, and nanoseconds since FIRST. No limit is ARBITER_NO_LIMIT. */
 
 #define _GNU_SOURCE
 #include <arbiter.h>
@@ -232,7 +232,16 @@ static uint64_t tasks_in(const char *path) {
     return lines ? lines : 1;
 }
 
-static void write_weights(void) {
+/* Whether each leaf keeps its own limit: a round that holds nobody. */
+static int is_calm(void) {
+    for (size_t row = 1; row < count; row++)
+        if (groups[row].is_leaf && held[row] != limits[row])
+            return 0;
+    return 1;
+}
+
+/* Writes weights of the limits, or the own ones in a round that holds nobody. */
+static void write_weights(int are_own) {
     uint64_t sums[MOST] = { 0 };
     for (size_t row = count - 1; row >= 1; row--) {
         if (groups[row].is_leaf)
@@ -243,12 +252,23 @@ static void write_weights(void) {
     }
     for (size_t row = 1; row < count; row++) {
         char line[32];
-        if ((long)sums[row] == groups[row].weight)
+        uint64_t weight = are_own ? weights[row] : sums[row];
+        if ((long)weight == groups[row].weight)
             continue;
-        snprintf(line, sizeof line, "%lu", sums[row]);
+        snprintf(line, sizeof line, "%lu", weight);
         put(groups[row].path, "cpu.weight", line);
-        groups[row].weight = sums[row];
+        groups[row].weight = weight;
     }
+}
+
+/* The quota and the weight that are written for a limit. None is the own one. */
+static void ask_written(size_t row) {
+    quotas[row] = ARBITER_NO_LIMIT;
+    leaf_weights[row] = weights[row];
+    if (held[row] != ARBITER_NO_LIMIT
+        && arbiter_written(processors, period, SLICE, held[row], limits[row], groups[row].quota,
+                           tasks_in(groups[row].path), &quotas[row], &leaf_weights[row]) != 0)
+        fail("limit", groups[row].path);
 }
 
 static void round_at(int number, int64_t since, const char *ways) {
@@ -256,9 +276,7 @@ static void round_at(int number, int64_t since, const char *ways) {
     for (size_t row = 1; row < count; row++) {
         if (!groups[row].is_leaf)
             continue;
-        if (arbiter_written(processors, period, SLICE, held[row], limits[row], groups[row].quota,
-                            tasks_in(groups[row].path), &quotas[row], &leaf_weights[row]) != 0)
-            fail("limit", groups[row].path);
+        ask_written(row);
         if (!strchr(ways, 'n'))
             write_limit(&groups[row], row, strchr(ways, 'b') != NULL);
         if (length < sizeof told - 400)
@@ -268,7 +286,7 @@ static void round_at(int number, int64_t since, const char *ways) {
                                demands[row], amounts[row], held[row]);
     }
     if (strchr(ways, 'w'))
-        write_weights();
+        write_weights(is_calm());
 }
 
 int main(int words, char **word) {

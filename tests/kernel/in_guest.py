@@ -74,6 +74,16 @@ def come_and_go(top: Path) -> int:
     os._exit(0)
 
 
+def spin(group: Path) -> None:
+    """Starts a task of a group that keeps to the second processor, until the guest ends."""
+    if os.fork():
+        return
+    (group / "cgroup.procs").write_text("0", encoding="ascii")
+    os.sched_setaffinity(0, {1})
+    while True:
+        pass
+
+
 def done(step: Step, top: Path) -> dict[str, Any]:
     """Makes a step. Returns its status, its words, and what all files hold then."""
     status = ended(begun(step["words"]), step.get("kill", []))
@@ -96,6 +106,8 @@ def main() -> None:
     for step in found["steps"]:
         if step.get("churn") in ("begin", "both"):
             others = come_and_go(top)
+        if "spin" in step:
+            spin(top / step["spin"])
         shown = done(step, top)
         if step.get("churn") in ("end", "both"):
             STILL.touch()

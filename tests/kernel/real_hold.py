@@ -21,8 +21,8 @@ write pod/y cpu.max 50000 100000
 write pod/y cpu.max.burst 20000
 """
 PROCESSORS = 2
-# Slices of each leaf's guarantee: weights 100, 300 and 100 of 200. All but a use nothing, so these
-# are their limits.
+# Slices of each leaf's guarantee: weights 100, 300 and 100 of 200. All but a use nothing, and a gets
+# a second task on its processor, so these are their limits.
 GUARANTEES = {"a": 40, "b": 120, "pod/x": 20, "pod/y": 20}
 # The task of group a keeps to the second processor, so that Python has the first.
 LOAD = (f"(echo 0 > {layout.HOME}/a/cgroup.procs;"
@@ -41,9 +41,10 @@ def undone(undo: str) -> list[str]:
 
 
 def steps() -> Iterator[dict[str, Any]]:
-    """The steps in order. A command with `kill` is killed when a file holds a text."""
+    """The steps in order. A command with `kill` is killed when a file holds a text, and before one
+    with `spin` a group gets a task more."""
     yield {"name": "audit", "words": ["audit", layout.HOME, "--read", "3x4s", "-o", "json"]}
-    yield {"name": "dry run", "words": held("none", "--read", "2x2s")}
+    yield {"name": "dry run", "words": held("none", "--read", "2x2s"), "spin": "a"}
     yield {"name": "hold", "words": held("one", "--yes", "--read", "5x2s")}
     for name, group, more in (("first", "b", []), ("last", "pod/y", ["--weights"])):
         # (the loop writes a 128th above the limit of the rule)

@@ -24,12 +24,15 @@ BEFORE = 3
 
 def test_rounds_are_read_by_run():
     lines = ["run one", "held 1 1000000123 a 20 0 20 20 50", "x", "run two",
-             "held 1 1000000456 a 90 1 100 60 60"]
+             "held 1 1000000456 a 90 1 100 60 60",
+             "held 2 2000000456 a 9 0 9 9 18446744073709551615"]
     assert held.rounds_in(lines) == {
         "one": [{"round": 1, "at": 1000000, "path": "a", "used": 20, "hungry": False, "want": 20,
                  "plan": 20, "limit": 50}],
         "two": [{"round": 1, "at": 1000000, "path": "a", "used": 90, "hungry": True, "want": 100,
-                 "plan": 60, "limit": 60}]}
+                 "plan": 60, "limit": 60},
+                {"round": 2, "at": 2000000, "path": "a", "used": 9, "hungry": False, "want": 9,
+                 "plan": 9, "limit": None}]}
 
 
 def watched(host, way):

@@ -58,7 +58,7 @@ def test_audit_of_real_files(phases):
 
 
 def test_rounds_on_real_files(phases):
-    """The guarantees first. The task of a has a whole processor then, and its limit follows."""
+    """The guarantees: a lacks CPU, since its two tasks keep to one processor."""
     (dry,) = rounds_of(phases["dry run"])
     assert {path: each["limit"] for path, each in dry["groups"].items()
             if path != "a"} == {path: limit for path, limit in real_hold.GUARANTEES.items()

@@ -28,11 +28,13 @@ def rows_of(scenario: Scenario, way: Way, asked: dict[str, int]) -> list[Row]:
 
 def by_the_rule(library: Library, scenario: Scenario, way: Way, found: list[dict[str, Any]]
                 ) -> dict[str, tuple[int, int | None]]:
-    """The plan and the limit of each leaf of a round, by the library."""
+    """The plan and the limit of each leaf of a round, by the library. None is the own limit."""
     asked = {each["path"]: each["want"] for each in found}
-    answer = library.hold(Host(scenario.processors, way.period, SLICE),
-                          rows_of(scenario, way, {path: each for path, each in asked.items()
-                                                  if each != EVERYTHING}),
+    rows = rows_of(scenario, way, {path: each for path, each in asked.items()
+                                   if each != EVERYTHING})
+    answer = library.hold(Host(scenario.processors, way.period, SLICE), rows,
                           [False, *(asked.get(path) == EVERYTHING for path in scenario.paths)])
-    return {path: (answer.amounts[row], answer.limits[row])
-            for row, path in enumerate(scenario.paths, 1) if path in asked}
+    leaves = {row: path for row, path in enumerate(scenario.paths, 1) if path in asked}
+    is_calm = all(answer.limits[row] == rows[row].limit for row in leaves)
+    return {path: (answer.amounts[row], None if is_calm else answer.limits[row])
+            for row, path in leaves.items()}

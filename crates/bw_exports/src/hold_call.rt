@@ -36,11 +36,12 @@ fn are_fit(
 /// The rows are those of [`crate::plan_call::arbiter_plan`], with the slices that each leaf used,
 /// rounded up, in the place of its demand. `hungry` is not 0 if the leaf would have used more.
 ///
-/// The answer is 0 if the columns are written. `held` is a leaf's limit for the next round in
-/// slices, and another group's own limit, the greatest number for none. `demands` are those of the
-/// round: 1,000,000 at a hungry leaf, else what it used. `amounts` is their plan, and the other
-/// columns its certificate, as [`crate::certify_call::arbiter_certify`] has them. A refusal leaves
-/// each column unchanged.
+/// The answer is 0 if the columns are written. `demands` are those of the round: 1,000,000 at a
+/// hungry leaf, else what it used. `amounts` is their plan, and `held` each leaf's limit for the
+/// next round, in slices. If the plan gives each leaf its demand or its own limit, that is its own
+/// limit, the greatest number for none, as in any round of another group. The other columns are the
+/// certificate, as [`crate::certify_call::arbiter_certify`] has them. A refusal leaves each column
+/// unchanged.
 ///
 /// # Errors
 /// The numbers of `arbiter_plan`, with 50 also if a column does not have the rows' length.

@@ -1,14 +1,14 @@
 -- The groups with other demands: an instance of one tree, with equal weights and limits.
 use Rattle.std.proofs.Common.{◌≡◌, ℕ, ◌<◌, ◌≤◌, List, Bool, true, false, Some, length}
 use Rattle.std.proofs.Common.{refl, ap, ◌∙◌, arith, inl, inr, ◌+◌, zero, suc, get_or, ◌∷◌, []}
-use Rattle.std.specs.Prelude.{map, replicate, ◌&&◌, if◌then◌else◌}
+use Rattle.std.specs.Prelude.{map, replicate, ◌&&◌, not, if◌then◌else◌}
 use Rattle.std.specs.List.{range_with_len}
 use Rattle.std.proofs.lemmas.Bool.{cases_Bool}
 use Rattle.std.proofs.lemmas.List.{get_or_default}
 use Rattle.std.proofs.lemmas.List.FromFn.{get_or-map-range_with_len, length-map-range_with_len}
 use Rattle.std.proofs.lemmas.List.FromFn.{get_or-range_with_len, length-range_with_len}
 use Rattle.bw_model.specs.declared.row.Row.{Row}
-use Rattle.bw_model.specs.declared.limits.TheConstants.{MAX_DEMAND}
+use Rattle.bw_model.specs.declared.limits.TheConstants.{MAX_CAPACITY, MAX_DEMAND}
 use Rattle.bw_model.specs.Groups.{Groups, IsInstance, no_row, parent_of, row_of}
 use Rattle.bw_model.specs.Groups.{weight_of, demand_of, limit_of, is_leaf}
 use Rattle.bw_model.specs.Plan.{IsPlan}
@@ -22,6 +22,11 @@ use Rattle.bw_questions.specs.HeldRule.{everyone, leaf_limit, round_limit}
 pub amount_each : (groups : Groups) → IsInstance groups → (amounts : List ℕ)
     → IsPlan groups amounts → length amounts ≡ length groups.rows
 amount_each groups valid amounts is_plan = (planned groups valid amounts is_plan).one_each
+
+-- No amount is above the capacity of the greatest host.
+pub amount_small : (groups : Groups) → IsInstance groups → (amounts : List ℕ)
+    → IsPlan groups amounts → (g : ℕ) → g < length groups.rows → get_or amounts g 0 ≤ MAX_CAPACITY
+amount_small groups valid amounts is_plan = (planned groups valid amounts is_plan).small
 
 module _ (groups : Groups) (demand : ℕ → ℕ) where
   pub as_many : length (asking groups demand).rows ≡ length groups.rows
@@ -120,13 +125,13 @@ pub row_read : (rows : List Row) (hungry : List Bool) (g : ℕ) (d : Bool) → g
 row_read rows hungry g d below = rw (get_or_default hungry g d false below) refl
 
 -- The limit of a row by its entries in three lists.
-pub limit_read : (used : Groups) (hungry : List Bool) (floors amounts : List ℕ) (g : ℕ) (d : Bool)
-    (f a : ℕ) → g < length hungry → g < length floors → g < length amounts
-    → (if is_leaf used.rows g
+pub limit_read : (used : Groups) (calm : Bool) (hungry : List Bool) (floors amounts : List ℕ) (g : ℕ)
+    (d : Bool) (f a : ℕ) → g < length hungry → g < length floors → g < length amounts
+    → (if is_leaf used.rows g && not calm
     then Some (leaf_limit (row_of used.rows g) (get_or hungry g d) (get_or floors g f)
     (get_or amounts g a)) else own_limit used.rows g)
-    ≡ round_limit used hungry floors amounts g
-limit_read used hungry floors amounts g d f a flag floor amount =
+    ≡ round_limit used calm hungry floors amounts g
+limit_read used calm hungry floors amounts g d f a flag floor amount =
     rw (
       get_or_default hungry g d false flag,
       get_or_within floors g f floor,

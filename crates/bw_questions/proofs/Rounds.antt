@@ -1,13 +1,14 @@
 -- One round: its limits beside its floors, its own plan and the plan of the wants.
 use Rattle.std.proofs.Common.{◌≡◌, ℕ, zero, suc, ◌<◌, ◌≤◌, ◌⊎◌, List, Bool, Option, true, false}
 use Rattle.std.proofs.Common.{None, Some, length, get_or, eqb, refl, ap, sym, ◌∙◌, arith, inl, inr}
-use Rattle.std.specs.Prelude.{min, max, not}
+use Rattle.std.specs.Prelude.{min, max, not, if◌then◌else◌}
+use Rattle.std.specs.Option.{option_map_or}
 use Rattle.std.proofs.lemmas.Bool.{cases_eq, cases_lt, cases_Bool, both_ways, lt-ltb, le-ltb}
 use Rattle.std.proofs.lemmas.Bool.{ne_eqb, eq-eqb}
 use Rattle.std.proofs.lemmas.List.{get_or_past}
 use Rattle.std.proofs.lemmas.List.FromFn.{get_or-map-range_with_len, length-map-range_with_len}
 use Rattle.bw_model.specs.declared.row.Row.{Row}
-use Rattle.bw_model.specs.declared.limits.TheConstants.{MAX_DEMAND}
+use Rattle.bw_model.specs.declared.limits.TheConstants.{MAX_CAPACITY, MAX_DEMAND}
 use Rattle.bw_model.specs.Allocation.{total}
 use Rattle.bw_model.specs.Groups.{Groups, IsInstance, no_row, row_of, demand_of, limit_of, is_leaf}
 use Rattle.bw_model.specs.Plan.{IsPlan}
@@ -15,14 +16,18 @@ use Rattle.bw_plan.specs.Laws.{HasOnePlan, ThereIsOnePlan}
 use Rattle.bw_change_laws.specs.Asked.{IsBusier, IsBusierAt}
 use Rattle.bw_change_laws.proofs.CallerLemmas.{leaf_same, only_cuts, serve_no_more, unused_changes}
 use Rattle.bw_questions.specs.Guarantee.{IsAskedOtherwise}
-use Rattle.bw_questions.specs.HeldRule.{IsRound, asking, demand_where, everyone, headroom, is_hungry}
-use Rattle.bw_questions.specs.HeldRule.{leaf_limit, own_limit, round_limit, round_of, with_eighth}
-use Rattle.bw_questions.specs.Reading.{IsSameButDemands, IsTrueReading, limit_at, admitted_at, admitted}
-use Rattle.bw_questions.specs.HeldLaws.{NoneBelowItsGuarantee, GuaranteeIsAdmitted, NoneAboveItsLimit}
+use Rattle.bw_questions.specs.HeldRule.{IsRound, asked_within, asking, demand_where, everyone, headroom}
+use Rattle.bw_questions.specs.HeldRule.{is_hungry, leaf_limit, own_limit, round_limit, round_of}
+use Rattle.bw_questions.specs.HeldRule.{with_eighth}
+use Rattle.bw_questions.specs.Reading.{IsSameButDemands, IsTrueReading, IsNoneOrAtLeast, limit_at}
+use Rattle.bw_questions.specs.Reading.{admitted_at, admitted}
+use Rattle.bw_questions.specs.HeldLaws.{CalmHoldsNobody, NoneBelowItsGuarantee, GuaranteeIsAdmitted}
+use Rattle.bw_questions.specs.HeldLaws.{NoneAboveItsLimit}
 use Rattle.bw_questions.specs.HeldLaws.{IsWithinPlan, LesserIsAdmitted, LimitsAdmitThePlan}
 use Rattle.bw_questions.specs.HeldLaws.{AskedIsAdmittedAsPlanned}
 use Rattle.bw_change_laws.proofs.CallerLemmas.{same_tree, weights_same}
-use Rattle.bw_questions.proofs.AskingRows.{as_many, demand_at, asking_alike, asking_limits}
+use Rattle.bw_questions.proofs.AskingRows.{amount_small, as_many, demand_at, asking_alike}
+use Rattle.bw_questions.proofs.AskingRows.{asking_limits}
 use Rattle.bw_questions.proofs.AskingRows.{where-IsInstance, round-IsInstance, everyone-IsInstance}
 use Rattle.bw_questions.proofs.Leaves.{alone, leaf_total, totals_less, within_limit, within_demand}
 
@@ -132,16 +137,37 @@ own_le row hungry floor amount own e low high = elim (leaf_cases row hungry floo
 ]
 
 -- The limit of a leaf stands in its row of the limits.
-pub limit_found : (used : Groups) (hungry : List Bool) (demands amounts : List ℕ)
+limit_is : (used : Groups) (hungry : List Bool) (demands amounts : List ℕ)
     (limits : List (Option ℕ)) (round : IsRound used hungry demands amounts limits) (l : ℕ)
     → l < length used.rows → is_leaf used.rows l ≡ true
-    → limit_at limits l ≡ Some (leaf_limit (row_of used.rows l) (is_hungry hungry l)
-    (get_or round.floors l 0) (get_or amounts l 0))
-limit_found used hungry demands amounts limits round l below leaf =
+    → limit_at limits l ≡ (if not round.calm
+    then Some (leaf_limit (row_of used.rows l) (is_hungry hungry l) (get_or round.floors l 0)
+    (get_or amounts l 0)) else own_limit used.rows l)
+limit_is used hungry demands amounts limits round l below leaf =
     ap (λ (xs : List (Option ℕ)). get_or xs l None) round.limits_are
-    ∙ get_or-map-range_with_len (round_limit used hungry round.floors amounts) 0
+    ∙ get_or-map-range_with_len (round_limit used round.calm hungry round.floors amounts) 0
     (length used.rows) l l None below (omega arith)
     ∙ rw leaf refl
+
+pub limit_found : (used : Groups) (hungry : List Bool) (demands amounts : List ℕ)
+    (limits : List (Option ℕ)) (round : IsRound used hungry demands amounts limits) (l : ℕ)
+    → l < length used.rows → is_leaf used.rows l ≡ true → round.calm ≡ false
+    → limit_at limits l ≡ Some (leaf_limit (row_of used.rows l) (is_hungry hungry l)
+    (get_or round.floors l 0) (get_or amounts l 0))
+limit_found used hungry demands amounts limits round l below leaf busy =
+    limit_is used hungry demands amounts limits round l below leaf ∙ rw busy refl
+
+limit_own : (used : Groups) (hungry : List Bool) (demands amounts : List ℕ)
+    (limits : List (Option ℕ)) (round : IsRound used hungry demands amounts limits) (l : ℕ)
+    → l < length used.rows → is_leaf used.rows l ≡ true → round.calm ≡ true
+    → limit_at limits l ≡ own_limit used.rows l
+limit_own used hungry demands amounts limits round l below leaf calm =
+    limit_is used hungry demands amounts limits round l below leaf ∙ rw calm refl
+
+-- A calm round holds nobody.
+pub nobody_held : CalmHoldsNobody
+nobody_held used hungry demands amounts limits l round calm below leaf =
+    limit_own used hungry demands amounts limits round l below leaf (round.calm_is.1 calm)
 
 own_limit_is : (groups : Groups) → IsInstance groups → (g own : ℕ)
     → own_limit groups.rows g ≡ Some own → limit_of groups g ≡ Some own
@@ -149,24 +175,46 @@ own_limit_is groups valid zero own e =
     absurd (let clash : None ≡ Some own = sym valid.root_unlimited ∙ e in cc)
 own_limit_is groups valid (suc g) own e = e
 
+-- Neither the floor of a leaf nor its amount is above its own limit.
+module _ (used : Groups) (hungry : List Bool) (demands amounts : List ℕ)
+    (limits : List (Option ℕ)) (valid : IsInstance used)
+    (round : IsRound used hungry demands amounts limits) (l own : ℕ) (below : l < length used.rows)
+    (e : own_limit used.rows l ≡ Some own) where
+  floor_own : get_or round.floors l 0 ≤ own
+  floor_own =
+      within_limit (everyone used) (everyone-IsInstance used valid) round.floors round.floors_are l
+      own (omega (arith, below, as_many used (λ g. demand_where used.rows true g)))
+      (asking_limits used (λ g. demand_where used.rows true g) l ∙ own_limit_is used valid l own e)
+
+  amount_own : get_or amounts l 0 ≤ own
+  amount_own =
+      within_limit (round_of used hungry) (round-IsInstance used valid hungry) amounts
+      round.amounts_are l own
+      (omega (arith, below, as_many used (λ g. demand_where used.rows (is_hungry hungry g) g)))
+      (asking_limits used (λ g. demand_where used.rows (is_hungry hungry g) g) l
+      ∙ own_limit_is used valid l own e)
+
 pub none_above : NoneAboveItsLimit
 none_above used hungry demands amounts limits l own valid round below leaf e =
-    let limited : limit_of used l ≡ Some own = own_limit_is used valid l own e in
-    let floor : get_or round.floors l 0 ≤ own =
-    within_limit (everyone used) (everyone-IsInstance used valid) round.floors round.floors_are l
-    own (omega (arith, below, as_many used (λ g. demand_where used.rows true g)))
-    (asking_limits used (λ g. demand_where used.rows true g) l ∙ limited) in
-    let amount : get_or amounts l 0 ≤ own =
-    within_limit (round_of used hungry) (round-IsInstance used valid hungry) amounts
-    round.amounts_are l own
-    (omega (arith, below, as_many used (λ g. demand_where used.rows (is_hungry hungry g) g)))
-    (asking_limits used (λ g. demand_where used.rows (is_hungry hungry g) g) l ∙ limited) in (
-      leaf_limit (row_of used.rows l) (is_hungry hungry l) (get_or round.floors l 0)
-          (get_or amounts l 0),
-      limit_found used hungry demands amounts limits round l below leaf,
-      own_le (row_of used.rows l) (is_hungry hungry l) (get_or round.floors l 0)
-          (get_or amounts l 0) own e floor amount,
-    )
+    elim (cases_Bool round.calm) [
+      | inl calm ↦ (
+        own,
+        limit_own used hungry demands amounts limits round l below leaf calm ∙ e,
+        omega arith,
+      )
+      | inr busy ↦ (
+        leaf_limit (row_of used.rows l) (is_hungry hungry l) (get_or round.floors l 0)
+            (get_or amounts l 0),
+        limit_found used hungry demands amounts limits round l below leaf busy,
+        own_le (row_of used.rows l) (is_hungry hungry l) (get_or round.floors l 0)
+            (get_or amounts l 0) own e
+            (floor_own used hungry demands amounts limits valid round l own below e)
+            (amount_own used hungry demands amounts limits valid round l own below e),
+      )
+    ]
+
+same_number : {a b : ℕ} → Some a ≡ Some b → a ≡ b
+same_number e = ap (λ (o : Option ℕ). option_map_or (λ (n : ℕ). n) o 0) e
 
 -- The least that a leaf gets of its want: the others ask for everything.
 module _ (used wants : Groups) (leaf : ℕ) (vu : IsInstance used) (vw : IsInstance wants)
@@ -293,19 +341,53 @@ none_below plans used wants hungry demands amounts limits leaf guaranteed vu rou
     least_is used wants leaf vu vw same below is round.floors planned.amounts round.floors_are
     planned.plan in
     let leaf_used : is_leaf used.rows leaf ≡ true =
-    leaf_same wants.rows used.rows same.tree leaf ∙ is in (
-      leaf_limit (row_of used.rows leaf) (is_hungry hungry leaf) (get_or round.floors leaf 0)
-          (get_or amounts leaf 0),
-      limit_found used hungry demands amounts limits round leaf
-          (omega (arith, below, same.tree.as_many)) leaf_used,
-      omega (
-        arith,
-        least,
-        floor,
-        floor_le (row_of used.rows leaf) (is_hungry hungry leaf) (get_or round.floors leaf 0)
-            (get_or amounts leaf 0),
-      ),
-    )
+    leaf_same wants.rows used.rows same.tree leaf ∙ is in
+    let here : leaf < length used.rows = omega (arith, below, same.tree.as_many) in
+    λ limit found. elim (cases_Bool round.calm) [
+      | inl calm ↦
+          omega (
+            arith,
+            least,
+            floor,
+            floor_own used hungry demands amounts limits vu round leaf limit here
+                (sym (limit_own used hungry demands amounts limits round leaf here leaf_used calm)
+                ∙ found),
+          )
+      | inr busy ↦
+          let held : leaf_limit (row_of used.rows leaf) (is_hungry hungry leaf)
+          (get_or round.floors leaf 0) (get_or amounts leaf 0) ≡ limit =
+          same_number (sym (limit_found used hungry demands amounts limits round leaf here leaf_used
+          busy) ∙ found) in
+          omega (
+            arith,
+            least,
+            floor,
+            held,
+            floor_le (row_of used.rows leaf) (is_hungry hungry leaf) (get_or round.floors leaf 0)
+                (get_or amounts leaf 0),
+          )
+    ]
+
+-- What a limit of at least a number admits.
+admits_least : (wants : Groups) (limits : List (Option ℕ)) (l least : ℕ)
+    → is_leaf wants.rows l ≡ true → IsNoneOrAtLeast least (limit_at limits l)
+    → min (demand_of wants.rows l) least ≤ admitted_at wants limits l
+admits_least wants limits l least leaf none_less =
+    (elim (limit_at limits l) as (λ o. limit_at limits l ≡ o
+    → min (demand_of wants.rows l) least ≤ admitted_at wants limits l) [
+      | None ↦ λ e. rw (leaf, e) (omega arith)
+      | Some limit ↦ λ e.
+          let less : least ≤ limit = none_less limit e in rw (leaf, e) (omega (arith, less))
+    ]) refl
+
+admits_wanted : (wants : Groups) (limits : List (Option ℕ)) (l : ℕ) → is_leaf wants.rows l ≡ true
+    → admitted_at wants limits l ≤ demand_of wants.rows l
+admits_wanted wants limits l leaf =
+    (elim (limit_at limits l) as (λ o. limit_at limits l ≡ o
+    → admitted_at wants limits l ≤ demand_of wants.rows l) [
+      | None ↦ λ e. rw (leaf, e) (omega arith)
+      | Some limit ↦ λ e. rw (leaf, e) (omega arith)
+    ]) refl
 
 admits : (wants : Groups) (limits : List (Option ℕ)) (l limit : ℕ)
     → is_leaf wants.rows l ≡ true → limit_at limits l ≡ Some limit
@@ -315,24 +397,26 @@ admits wants limits l limit leaf found = rw (leaf, found) refl
 pub all_admitted : ThereIsOnePlan → GuaranteeIsAdmitted
 all_admitted plans used wants hungry demands amounts limits leaf vu round vw same below is
     is_guaranteed =
-    let found : (limit : ℕ) × (limit_at limits leaf ≡ Some limit)
-    × (demand_of wants.rows leaf ≤ limit) =
+    let none_less : IsNoneOrAtLeast (demand_of wants.rows leaf) (limit_at limits leaf) =
     none_below plans used wants hungry demands amounts limits leaf (demand_of wants.rows leaf) vu
     round vw same below is is_guaranteed in
-    omega (arith, admits wants limits leaf found.0 is found.1, found.2)
+    omega (
+      arith,
+      admits_least wants limits leaf (demand_of wants.rows leaf) is none_less,
+      admits_wanted wants limits leaf is,
+    )
 
 pub lesser_admitted : ThereIsOnePlan → LesserIsAdmitted
 lesser_admitted plans used wants hungry demands amounts limits leaf guaranteed vu round vw same
     below is is_guaranteed =
     let all : IsSameButDemands wants (everyone wants) =
     same_asking wants (λ g. demand_where wants.rows true g) in
-    let found : (limit : ℕ) × (limit_at limits leaf ≡ Some limit) × (guaranteed ≤ limit) =
-    none_below plans used (everyone wants) hungry demands amounts limits leaf guaranteed vu round
+    admits_least wants limits leaf guaranteed is
+    (none_below plans used (everyone wants) hungry demands amounts limits leaf guaranteed vu round
     (everyone-IsInstance wants vw)
     (joined (everyone wants) wants used (turned wants (everyone wants) all) same)
     (omega (arith, below, all.tree.as_many))
-    (leaf_same wants.rows (everyone wants).rows all.tree leaf ∙ is) is_guaranteed in
-    omega (arith, admits wants limits leaf found.0 is found.1, found.2)
+    (leaf_same wants.rows (everyone wants).rows all.tree leaf ∙ is) is_guaranteed)
 
 -- A round beside what it asked for, whatever was read.
 module _ (used : Groups) (hungry : List Bool) (demands amounts : List ℕ)
@@ -391,20 +475,21 @@ module _ (used : Groups) (hungry : List Bool) (demands amounts : List ℕ)
       omega (arith, fits, full_most l below leaf)
 
   -- What a limit admits of what was asked.
-  asked_admits : admitted_at (round_of used hungry) limits l
+  asked_admits : round.calm ≡ false → admitted_at (round_of used hungry) limits l
       ≡ min (demand_of (round_of used hungry).rows l)
       (leaf_limit (row_of used.rows l) (is_hungry hungry l) (get_or round.floors l 0)
       (get_or amounts l 0))
-  asked_admits =
+  asked_admits busy =
       admits (round_of used hungry) limits l
       (leaf_limit (row_of used.rows l) (is_hungry hungry l) (get_or round.floors l 0)
       (get_or amounts l 0)) asked_leaf
-      (limit_found used hungry demands amounts limits round l below leaf)
+      (limit_found used hungry demands amounts limits round l below leaf busy)
 
-  asked_planned : admitted_at (round_of used hungry) limits l ≡ get_or amounts l 0
-  asked_planned = elim (leaf_cases (row_of used.rows l) (is_hungry hungry l)
+  asked_busy : round.calm ≡ false
+      → admitted_at (round_of used hungry) limits l ≡ get_or amounts l 0
+  asked_busy busy = elim (leaf_cases (row_of used.rows l) (is_hungry hungry l)
       (get_or round.floors l 0) (get_or amounts l 0)) [
-        | inl held ↦ omega (arith, asked_admits, held.0, floor_planned, planned_asked)
+        | inl held ↦ omega (arith, asked_admits busy, held.0, floor_planned, planned_asked)
         | inr free ↦
             let own : demand_of (round_of used hungry).rows l ≡ demand_of used.rows l =
             asked_own used (is_hungry hungry) l below free.1 in
@@ -412,12 +497,55 @@ module _ (used : Groups) (hungry : List Bool) (demands amounts : List ℕ)
             let room : get_or amounts l 0 ≤ headroom (row_of used.rows l) =
             headroom_ge (row_of used.rows l) (get_or amounts l 0)
             (omega (arith, own, planned_asked))
-            (λ limit e. within_limit (round_of used hungry) v_asked amounts round.amounts_are l
-            limit asked_below
-            (asking_limits used (λ g. demand_where used.rows (is_hungry hungry g) g) l
-            ∙ own_limit_is used vu l limit e)) in
-            omega (arith, asked_admits, free.0, room, own, more, planned_asked)
+            (λ limit e. amount_own used hungry demands amounts limits vu round l limit below e) in
+            omega (arith, asked_admits busy, free.0, room, own, more, planned_asked)
       ]
+
+  -- In a calm round the plan gives what is asked for within the own limit.
+  calm_given : (o : Option ℕ) → own_limit used.rows l ≡ o → round.calm ≡ true
+      → option_map_or (min (demand_of (round_of used hungry).rows l)) o
+      (demand_of (round_of used hungry).rows l) ≤ get_or amounts l 0
+  calm_given o e calm =
+      let kept : own_limit (round_of used hungry).rows l ≡ o =
+      (asking_alike used (λ g. demand_where used.rows (is_hungry hungry g) g)).limits l below
+      ∙ e in
+      let given : asked_within (row_of (round_of used hungry).rows l) ≤ get_or amounts l 0 =
+      round.calm_is.0 calm l asked_below asked_leaf in
+      rw kept at given
+
+  asked_calm : round.calm ≡ true
+      → admitted_at (round_of used hungry) limits l ≡ get_or amounts l 0
+  asked_calm calm = (elim (own_limit used.rows l) as (λ o. own_limit used.rows l ≡ o
+      → admitted_at (round_of used hungry) limits l ≡ get_or amounts l 0) [
+        | None ↦ λ e.
+            let free : limit_at limits l ≡ None =
+            limit_own used hungry demands amounts limits round l below leaf calm ∙ e in
+            let whole : admitted_at (round_of used hungry) limits l
+            ≡ demand_of (round_of used hungry).rows l = rw (asked_leaf, free) refl in
+            let given : demand_of (round_of used hungry).rows l ≤ get_or amounts l 0 =
+            calm_given None e calm in
+            omega (arith, whole, given, planned_asked)
+        | Some own ↦ λ e.
+            let part : admitted_at (round_of used hungry) limits l
+            ≡ min (demand_of (round_of used hungry).rows l) own =
+            admits (round_of used hungry) limits l own asked_leaf
+            (limit_own used hungry demands amounts limits round l below leaf calm ∙ e) in
+            let given : min (demand_of (round_of used hungry).rows l) own ≤ get_or amounts l 0 =
+            calm_given (Some own) e calm in
+            omega (
+              arith,
+              part,
+              given,
+              planned_asked,
+              amount_own used hungry demands amounts limits vu round l own below e,
+            )
+      ]) refl
+
+  asked_planned : admitted_at (round_of used hungry) limits l ≡ get_or amounts l 0
+  asked_planned = elim (cases_Bool round.calm) [
+    | inl calm ↦ asked_calm calm
+    | inr busy ↦ asked_busy busy
+  ]
 
   asked_hungry : is_hungry hungry l ≡ true
       → leaf_limit (row_of used.rows l) (is_hungry hungry l) (get_or round.floors l 0)
@@ -430,6 +558,44 @@ module _ (used : Groups) (hungry : List Bool) (demands amounts : List ℕ)
             omega (arith, held.0, floor_planned, floor_most, most)
         | inr free ↦ absurd (both_ways _ free.1 yes')
       ]
+
+  -- A hungry leaf has its own limit in a calm round, since no host has all that it asks for.
+  calm_hungry : is_hungry hungry l ≡ true → round.calm ≡ true
+      → own_limit used.rows l ≡ Some (get_or amounts l 0)
+  calm_hungry yes' calm =
+      let most : demand_of (round_of used hungry).rows l ≡ MAX_DEMAND =
+      asked_most used (is_hungry hungry) l below leaf yes' in
+      let small : get_or amounts l 0 ≤ MAX_CAPACITY =
+      amount_small (round_of used hungry) v_asked amounts round.amounts_are l asked_below in
+      (elim (own_limit used.rows l) as (λ o. own_limit used.rows l ≡ o
+      → own_limit used.rows l ≡ Some (get_or amounts l 0)) [
+        | None ↦ λ e.
+            let given : demand_of (round_of used hungry).rows l ≤ get_or amounts l 0 =
+            calm_given None e calm in
+            absurd (omega (arith, most, small, given))
+        | Some own ↦ λ e.
+            let given : min (demand_of (round_of used hungry).rows l) own ≤ get_or amounts l 0 =
+            calm_given (Some own) e calm in
+            let same : own ≡ get_or amounts l 0 =
+            omega (
+              arith,
+              most,
+              small,
+              given,
+              amount_own used hungry demands amounts limits vu round l own below e,
+            ) in
+            e ∙ ap (λ (n : ℕ). Some n) same
+      ]) refl
+
+  hungry_limit : is_hungry hungry l ≡ true → limit_at limits l ≡ Some (get_or amounts l 0)
+  hungry_limit yes' = elim (cases_Bool round.calm) [
+    | inl calm ↦
+        limit_own used hungry demands amounts limits round l below leaf calm
+        ∙ calm_hungry yes' calm
+    | inr busy ↦
+        limit_found used hungry demands amounts limits round l below leaf busy
+        ∙ ap (λ (n : ℕ). Some n) (asked_hungry yes')
+  ]
 
   asked_other : is_hungry hungry l ≡ false
       → leaf_limit (row_of used.rows l) (is_hungry hungry l) (get_or round.floors l 0)
@@ -451,12 +617,17 @@ module _ (used : Groups) (hungry : List Bool) (demands amounts : List ℕ)
 
 pub admitted_as_planned : AskedIsAdmittedAsPlanned
 admitted_as_planned used hungry demands amounts limits l vu round below leaf = record {
-  limit = leaf_limit (row_of used.rows l) (is_hungry hungry l) (get_or round.floors l 0)
-      (get_or amounts l 0);
-  found = limit_found used hungry demands amounts limits round l below leaf;
   asked = asked_planned used hungry demands amounts limits vu round l below leaf;
-  of_hungry = asked_hungry used hungry demands amounts limits vu round l below leaf;
-  of_others = asked_other used hungry demands amounts limits vu round l below leaf;
+  of_hungry = hungry_limit used hungry demands amounts limits vu round l below leaf;
+  of_others = λ no' not_calm. elim (cases_Bool round.calm) [
+    | inl calm ↦ absurd (not_calm (round.calm_is.0 calm))
+    | inr busy ↦ (
+      leaf_limit (row_of used.rows l) (is_hungry hungry l) (get_or round.floors l 0)
+          (get_or amounts l 0),
+      limit_found used hungry demands amounts limits round l below leaf busy,
+      asked_other used hungry demands amounts limits vu round l below leaf no',
+    )
+  ];
 }
 
 -- After a true reading of the wants.
@@ -540,50 +711,88 @@ module _ (used wants : Groups) (hungry : List Bool) (demands amounts : List ℕ)
       serve_no_more wants (round_of used hungry) l planned amounts vw v_round busier_round is_plan
       round.amounts_are below leaf
 
-  limit : ℕ → ℕ
-  limit l = leaf_limit (row_of used.rows l) (is_hungry hungry l) (get_or round.floors l 0)
-      (get_or amounts l 0)
-
-  admitted_is : (l : ℕ) → l < length wants.rows → is_leaf wants.rows l ≡ true
-      → admitted_at wants limits l ≡ min (demand_of wants.rows l) (limit l)
-  unfolding limit
-  admitted_is l below leaf =
+  admitted_busy : (l : ℕ) → l < length wants.rows → is_leaf wants.rows l ≡ true
+      → round.calm ≡ false → admitted_at wants limits l ≡ min (demand_of wants.rows l)
+      (leaf_limit (row_of used.rows l) (is_hungry hungry l) (get_or round.floors l 0)
+      (get_or amounts l 0))
+  admitted_busy l below leaf busy =
       admits wants limits l
       (leaf_limit (row_of used.rows l) (is_hungry hungry l) (get_or round.floors l 0)
       (get_or amounts l 0)) leaf
-      (limit_found used hungry demands amounts limits round l (in_used l below) (leaf_used l leaf))
+      (limit_found used hungry demands amounts limits round l (in_used l below) (leaf_used l leaf)
+      busy)
+
+  -- In a calm round a leaf is admitted as a limit of its amount would.
+  admitted_calm : (l : ℕ) → l < length wants.rows → is_leaf wants.rows l ≡ true
+      → round.calm ≡ true → admitted_at wants limits l
+      ≡ min (demand_of wants.rows l) (max (get_or round.floors l 0) (get_or amounts l 0))
+  admitted_calm l below leaf calm =
+      let here : l < length used.rows = in_used l below in
+      let is : is_leaf used.rows l ≡ true = leaf_used l leaf in
+      let no_less : demand_of wants.rows l ≤ demand_of (round_of used hungry).rows l =
+      asks_no_less l below leaf in
+      (elim (own_limit used.rows l) as (λ o. own_limit used.rows l ≡ o
+      → admitted_at wants limits l
+      ≡ min (demand_of wants.rows l) (max (get_or round.floors l 0) (get_or amounts l 0))) [
+        | None ↦ λ e.
+            let free : limit_at limits l ≡ None =
+            limit_own used hungry demands amounts limits round l here is calm ∙ e in
+            let whole : admitted_at wants limits l ≡ demand_of wants.rows l =
+            rw (leaf, free) refl in
+            let given : demand_of (round_of used hungry).rows l ≤ get_or amounts l 0 =
+            calm_given used hungry demands amounts limits reading.valid round l here is None e calm
+            in
+            omega (arith, whole, given, no_less)
+        | Some own ↦ λ e.
+            let part : admitted_at wants limits l ≡ min (demand_of wants.rows l) own =
+            admits wants limits l own leaf
+            (limit_own used hungry demands amounts limits round l here is calm ∙ e) in
+            let given : min (demand_of (round_of used hungry).rows l) own ≤ get_or amounts l 0 =
+            calm_given used hungry demands amounts limits reading.valid round l here is (Some own) e
+            calm in
+            omega (
+              arith,
+              part,
+              given,
+              no_less,
+              floor_own used hungry demands amounts limits reading.valid round l own here e,
+              amount_own used hungry demands amounts limits reading.valid round l own here e,
+            )
+      ]) refl
 
   cases_at : (l : ℕ) → l < length wants.rows → is_leaf wants.rows l ≡ true
-      → (limit l ≡ max (get_or round.floors l 0) (get_or amounts l 0))
-      ⊎ (limit l ≡ max (get_or round.floors l 0) (headroom (row_of used.rows l)))
+      → (admitted_at wants limits l
+      ≡ min (demand_of wants.rows l) (max (get_or round.floors l 0) (get_or amounts l 0)))
+      ⊎ (admitted_at wants limits l
+      ≡ min (demand_of wants.rows l)
+      (max (get_or round.floors l 0) (headroom (row_of used.rows l))))
       × (demand_of used.rows l ≡ demand_of wants.rows l)
       × (demand_of wants.rows l ≤ get_or amounts l 0)
-  unfolding limit
-  cases_at l below leaf =
-      elim (leaf_cases (row_of used.rows l) (is_hungry hungry l) (get_or round.floors l 0)
-      (get_or amounts l 0)) [
-        | inl held ↦ inl held.0
-        | inr free ↦
-            let all : demand_of used.rows l ≡ demand_of wants.rows l =
-            not_hungry l below leaf free.1 in
-            let more : demand_of used.rows l ≤ get_or amounts l 0 = free.2 in
-            inr (free.0, all, omega (arith, all, more))
-      ]
+  cases_at l below leaf = elim (cases_Bool round.calm) [
+    | inl calm ↦ inl (admitted_calm l below leaf calm)
+    | inr busy ↦
+        let is = admitted_busy l below leaf busy in
+        elim (leaf_cases (row_of used.rows l) (is_hungry hungry l) (get_or round.floors l 0)
+        (get_or amounts l 0)) [
+          | inl held ↦ inl (is ∙ ap (λ (n : ℕ). min (demand_of wants.rows l) n) held.0)
+          | inr free ↦
+              let all : demand_of used.rows l ≡ demand_of wants.rows l =
+              not_hungry l below leaf free.1 in
+              let more : demand_of used.rows l ≤ get_or amounts l 0 = free.2 in
+              inr (
+                is ∙ ap (λ (n : ℕ). min (demand_of wants.rows l) n) free.0,
+                all,
+                omega (arith, all, more),
+              )
+        ]
+  ]
 
   -- No leaf is admitted above its plan.
   pub admitted_le : (l : ℕ) → l < length wants.rows → is_leaf wants.rows l ≡ true
       → admitted_at wants limits l ≤ get_or planned l 0
   admitted_le l below leaf = elim (cases_at l below leaf) [
-    | inl held ↦
-        omega (
-          arith,
-          admitted_is l below leaf,
-          held,
-          floor_less l below leaf,
-          amount_less l below leaf,
-        )
-    | inr free ↦
-        omega (arith, admitted_is l below leaf, free.2, amount_less l below leaf)
+    | inl held ↦ omega (arith, held, floor_less l below leaf, amount_less l below leaf)
+    | inr free ↦ omega (arith, free.0, free.2, amount_less l below leaf)
   ]
 
   -- A leaf whose want the round plans is admitted whole.
@@ -591,19 +800,17 @@ module _ (used wants : Groups) (hungry : List Bool) (demands amounts : List ℕ)
       → demand_of wants.rows l ≤ get_or amounts l 0
       → admitted_at wants limits l ≡ demand_of wants.rows l
   whole_at l below leaf enough = elim (cases_at l below leaf) [
-    | inl held ↦ omega (arith, admitted_is l below leaf, held, enough)
+    | inl held ↦ omega (arith, held, enough)
     | inr free ↦
         let room : demand_of wants.rows l ≤ headroom (row_of used.rows l) =
         headroom_ge (row_of used.rows l) (demand_of wants.rows l)
         (let all : demand_of used.rows l ≡ demand_of wants.rows l = free.1 in omega (arith, all))
         (λ own e.
         let fits : get_or amounts l 0 ≤ own =
-        within_limit (round_of used hungry) v_round amounts round.amounts_are l own
-        (omega (arith, below, same_round.tree.as_many))
-        (asking_limits used (λ g. demand_where used.rows (is_hungry hungry g) g) l
-        ∙ own_limit_is used reading.valid l own e) in
+        amount_own used hungry demands amounts limits reading.valid round l own (in_used l below) e
+        in
         omega (arith, fits, enough)) in
-        omega (arith, admitted_is l below leaf, free.0, room)
+        omega (arith, free.0, room)
   ]
 
   -- A hungry leaf is admitted as far as the round plans it.
@@ -611,7 +818,7 @@ module _ (used wants : Groups) (hungry : List Bool) (demands amounts : List ℕ)
       → is_hungry hungry l ≡ true
       → min (demand_of wants.rows l) (get_or amounts l 0) ≤ admitted_at wants limits l
   not_above l below leaf yes' = elim (cases_at l below leaf) [
-    | inl held ↦ omega (arith, admitted_is l below leaf, held)
+    | inl held ↦ omega (arith, held)
     | inr free ↦ absurd
         (both_ways _
         (reading.flags l below leaf
@@ -641,14 +848,7 @@ module _ (used wants : Groups) (hungry : List Bool) (demands amounts : List ℕ)
               omega (arith, whole, most, full)
           | inl less ↦ elim (cases_at l below leaf) [
             | inl held ↦
-                omega (
-                  arith,
-                  admitted_is l below leaf,
-                  held,
-                  floor_less l below leaf,
-                  same,
-                  less,
-                )
+                omega (arith, held, floor_less l below leaf, same, less)
             | inr free ↦ absurd (omega (arith, free.2, same, less))
           ]
         ]

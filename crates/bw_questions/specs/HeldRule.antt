@@ -1,7 +1,7 @@
 -- The rule of a round: its demands, its plan and its limits, from a reading.
-use Rattle.std.specs.Prelude.{◌≡◌, ℕ, ◌+◌, List, Bool, true, false, ◌&&◌, ◌||◌, Option, Some}
-use Rattle.std.specs.Prelude.{length, map, min, max, nat_lt, slice_index, slice_index_or}
-use Rattle.std.specs.Prelude.{if◌then◌else◌}
+use Rattle.std.specs.Prelude.{◌≡◌, ◌<◌, ◌≤◌, ◌↔◌, ℕ, ◌+◌, List, Bool, true, false, ◌&&◌, ◌||◌, not}
+use Rattle.std.specs.Prelude.{Option, Some, length, map, min, max, nat_lt, slice_index}
+use Rattle.std.specs.Prelude.{slice_index_or, IsTrue, if◌then◌else◌}
 use Rattle.std.specs.Int.{div_ceil}
 use Rattle.std.specs.List.{range_with_len}
 use Rattle.std.specs.Option.{option_map_or}
@@ -50,6 +50,15 @@ round_of used hungry =
 abbrev pub everyone : Groups → Groups
 everyone groups = asking groups (λ g. demand_where groups.rows true g)
 
+-- what a row asks for, or its own limit if that is less
+abbrev pub asked_within : Row → ℕ
+asked_within row = option_map_or (min row.demand) row.limit row.demand
+
+-- A round is calm if its plan gives each leaf all that it asks for, or its own limit.
+abbrev pub IsCalm : Groups → List ℕ → Type 0
+IsCalm round amounts = (l : ℕ) → l < length round.rows → is_leaf round.rows l ≡ true
+    → asked_within (row_of round.rows l) ≤ slice_index amounts l
+
 -- the slices that a leaf used, and an eighth of them, rounded up and at least one slice
 abbrev pub with_eighth : ℕ → ℕ
 with_eighth used = used + max 1 (div_ceil used 8)
@@ -64,10 +73,11 @@ abbrev pub leaf_limit : Row → Bool → ℕ → ℕ → ℕ
 leaf_limit row hungry floor amount =
     max floor (if hungry || nat_lt amount row.demand then amount else headroom row)
 
--- the limit of a row in a round: other groups than leaves keep their own
-abbrev pub round_limit : Groups → List Bool → List ℕ → List ℕ → ℕ → Option ℕ
-round_limit used hungry floors amounts g =
-    if is_leaf used.rows g
+-- The limit of a row in a round: each keeps its own in a calm round, and a group with children
+-- keeps it in any.
+abbrev pub round_limit : Groups → Bool → List Bool → List ℕ → List ℕ → ℕ → Option ℕ
+round_limit used calm hungry floors amounts g =
+    if is_leaf used.rows g && not calm
     then Some (leaf_limit (row_of used.rows g) (is_hungry hungry g) (slice_index floors g)
     (slice_index amounts g))
     else own_limit used.rows g
@@ -80,5 +90,7 @@ pub record IsRound (used : Groups) (hungry : List Bool) (demands amounts : List 
   pub floors_are : IsPlan (everyone used) floors
   pub demands_are : demands ≡ map (λ (r : Row). r.demand) (round_of used hungry).rows
   pub amounts_are : IsPlan (round_of used hungry) amounts
-  pub limits_are : limits ≡ map (round_limit used hungry floors amounts)
+  pub calm : Bool
+  pub calm_is : IsTrue calm ↔ IsCalm (round_of used hungry) amounts
+  pub limits_are : limits ≡ map (round_limit used calm hungry floors amounts)
       (range_with_len 0 (length used.rows))

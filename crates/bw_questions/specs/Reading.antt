@@ -1,6 +1,6 @@
 -- Readings of a host, the amounts that limits admit there, and what a host serves.
-use Rattle.std.specs.Prelude.{◌≡◌, ℕ, ◌<◌, ◌≤◌, List, Bool, true, Option, None, length, map, min}
-use Rattle.std.specs.Prelude.{nat_lt, slice_index_or, if◌then◌else◌}
+use Rattle.std.specs.Prelude.{◌≡◌, ℕ, ◌<◌, ◌≤◌, List, Bool, true, Option, None, Some, length, map}
+use Rattle.std.specs.Prelude.{min, nat_lt, slice_index_or, if◌then◌else◌}
 use Rattle.std.specs.List.{range_with_len}
 use Rattle.std.specs.Option.{option_map_or}
 use Rattle.bw_model.specs.Allocation.{IsWithin}
@@ -27,6 +27,10 @@ pub record IsTrueReading (wants used : Groups) (hungry : List Bool) : Type 0 whe
 -- the limit of a row in a column of limits
 abbrev pub limit_at : List (Option ℕ) → ℕ → Option ℕ
 limit_at limits g = slice_index_or limits g None
+
+-- whether a limit is none, or no less than a number
+abbrev pub IsNoneOrAtLeast : ℕ → Option ℕ → Type 0
+IsNoneOrAtLeast least limit = (some : ℕ) → limit ≡ Some some → least ≤ some
 
 -- the part that limits admit of the want of a leaf, and 0 at other groups
 abbrev pub admitted_at : Groups → List (Option ℕ) → ℕ → ℕ

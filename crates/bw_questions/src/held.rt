@@ -1,7 +1,7 @@
 //! Limits that hold the plan on a host, round by round, from what its groups used.
 //!
 //! A round reads what each leaf used and whether it would have used more. It plans these demands
-//! and gives each leaf a limit. Nothing is kept between rounds.
+//! and gives each leaf a limit, unless nobody lacks anything. Nothing is kept between rounds.
 ghost use Rattle.std.specs.Prelude.{◌≡◌, length, IfOk};
 ghost use Rattle.bw_model.specs.Plan.{IsPlan};
 ghost use Rattle.bw_model.specs.Certificate.{certified_of, IsAccepted};
@@ -9,6 +9,7 @@ ghost use Rattle.bw_cert.specs.Levels.{AreTightFlags, AreLevels};
 ghost use Rattle.bw_questions.specs.HeldRule.{IsRound, everyone, round_of};
 
 mod asking;
+mod calm;
 mod laws;
 mod limits;
 mod reading;
@@ -20,10 +21,11 @@ use bw_cert::certify_gathered;
 use bw_demand::gather_rows;
 use bw_model::{Certificate, Instance};
 use bw_plan::{plan, plan_rows};
+use calm::is_calm;
 pub use laws::{
-    asked_is_admitted_as_planned, exact_readings_are_true, guarantee_is_admitted,
-    limits_admit_the_plan, none_above_its_limit, none_below_its_guarantee, nothing_else_stays,
-    plan_is_reached, plan_stays, wants_give_the_plan,
+    asked_is_admitted_as_planned, calm_holds_nobody, exact_readings_are_true,
+    guarantee_is_admitted, limits_admit_the_plan, none_above_its_limit, none_below_its_guarantee,
+    nothing_else_stays, plan_is_reached, plan_stays, wants_give_the_plan,
 };
 use limits::limits_of;
 pub use reading::{Reading, RoundTimes, reading_of};
@@ -58,8 +60,9 @@ fn floors(alloc: Global, reading: &Instance) -> Result<Vec<u64>, AllocError>
 /// The limits of the next round, from what each leaf used in the last one.
 ///
 /// The demands of `reading` are what the leaves used, in slices rounded up. A flag tells for each
-/// row whether it would have used more; those of groups with children are not read. The time grows
-/// with the number of rows.
+/// row whether it would have used more; those of groups with children are not read. If the plan
+/// gives each leaf what it asks for or its own limit, each keeps its own limit or none. The time
+/// grows with the number of rows.
 ///
 /// # Errors
 /// `AllocError` if memory was refused.
@@ -80,10 +83,12 @@ pub fn hold(alloc: Global, reading: &Instance, hungry: &[bool]) -> Result<Held, 
     let planned = plan_rows(alloc, &round, &gathered)?;
     let certificate = certify_gathered(alloc, &round, gathered, &planned)?;
     let amounts = planned.amounts;
+    let calm = is_calm(&round, amounts.as_slice());
     let floors = floors(alloc, reading)?;
     let limits = limits_of(
         alloc,
         reading,
+        calm,
         hungry,
         floors.as_slice(),
         amounts.as_slice(),

@@ -11,7 +11,7 @@ mod why;
 
 pub use guaranteed::{GuaranteeFault, guarantee};
 pub use held::{
-    Held, Reading, RoundTimes, asked_is_admitted_as_planned, can_be_written,
+    Held, Reading, RoundTimes, asked_is_admitted_as_planned, calm_holds_nobody, can_be_written,
     exact_readings_are_true, guarantee_is_admitted, hold, limits_admit_the_plan,
     none_above_its_limit, none_below_its_guarantee, nothing_else_stays, plan_is_reached,
     plan_stays, reading_of, wants_give_the_plan, weight_of_limit, written_quota,

@@ -333,7 +333,7 @@ pub fn reasons(host: Host, rows: &[Row]) -> Result<Vec<Reason>, Fault> {
 /// The limits of a round, with the demands and the certified plan that they come from.
 #[derive(Clone, Debug, PartialEq, Eq)]
 pub struct Round {
-    /// One limit per row in slices: a leaf's limit for the next round, another group's own limit.
+    /// One limit per row in slices. Groups with children keep their own limit or none, and so do leaves where nobody lacks anything.
     pub limits: Vec<Option<u64>>,
     /// One demand per row in slices: 1000000 at a hungry leaf, else what it used.
     pub demands: Vec<u64>,

@@ -2,13 +2,15 @@
 ghost use Rattle.bw_questions.specs.Exact.{ExactReadingsAreTrue};
 ghost use Rattle.bw_questions.specs.HeldLaws.{NoneBelowItsGuarantee, GuaranteeIsAdmitted};
 ghost use Rattle.bw_questions.specs.HeldLaws.{NoneAboveItsLimit, AskedIsAdmittedAsPlanned};
-ghost use Rattle.bw_questions.specs.HeldLaws.{LesserIsAdmitted, LimitsAdmitThePlan};
+ghost use Rattle.bw_questions.specs.HeldLaws.{CalmHoldsNobody, LesserIsAdmitted};
+ghost use Rattle.bw_questions.specs.HeldLaws.{LimitsAdmitThePlan};
 ghost use Rattle.bw_questions.specs.Rounds.{WantsGiveThePlan, PlanStays, NothingElseStays};
 ghost use Rattle.bw_questions.specs.Rounds.{PlanIsReached};
 
 use bw_plan::there_is_one_plan;
 
-/// Law: no leaf is limited below its guarantee, whatever it wants and whatever was read.
+/// Law: no leaf is limited below its guarantee, whatever it wants and whatever was read. It has no
+/// limit, or one of at least that.
 pub fn none_below_its_guarantee()
     ensures { NoneBelowItsGuarantee }
 {
@@ -35,10 +37,15 @@ pub fn none_above_its_limit()
     ensures { NoneAboveItsLimit }
 {}
 
+/// Law: a round in which the plan gives each leaf what it asks for, or its own limit, holds nobody.
+pub fn calm_holds_nobody()
+    ensures { CalmHoldsNobody }
+{}
+
 /// Law: whatever was read, each leaf is admitted exactly the plan of what the round asked for.
 ///
-/// A hungry leaf is limited to it, another to its use and an eighth, or to its floor if that is
-/// more.
+/// A hungry leaf is limited to it. In a round that is not calm another is limited to its use and an
+/// eighth, or to its floor if that is more.
 pub fn asked_is_admitted_as_planned()
     ensures { AskedIsAdmittedAsPlanned }
 {}

@@ -1,6 +1,6 @@
 //! The limits of a round.
 ghost use Rattle.std.specs.Prelude.{◌≡◌, ◌<◌, ◌≤◌, length, map, IfOk, Some, slice_index};
-ghost use Rattle.std.specs.Prelude.{if◌then◌else◌};
+ghost use Rattle.std.specs.Prelude.{◌&&◌, not, if◌then◌else◌};
 ghost use Rattle.std.specs.List.{range_with_len};
 ghost use Rattle.bw_model.specs.declared.limits.TheConstants.{MAX_DEMAND};
 ghost use Rattle.bw_model.specs.Groups.{row_of, is_leaf};
@@ -35,17 +35,25 @@ fn leaf_limit(row: &Row, is_hungry: bool, floor: u64, amount: u64) -> u64
     held.max(floor)
 }
 
-// The limit of a row: a leaf's is that of the round, and another group keeps its own.
-fn row_limit(reading: &Instance, g: u32, is_hungry: bool, floor: u64, amount: u64) -> Option<u64>
+// The limit of a row: a leaf's is that of the round unless it is calm, and another group keeps its
+// own.
+fn row_limit(
+    reading: &Instance,
+    g: u32,
+    calm: bool,
+    is_hungry: bool,
+    floor: u64,
+    amount: u64,
+) -> Option<u64>
     requires { g < length reading.now.rows }
-    ensures { result ≡ (if is_leaf reading.now.rows g
+    ensures { result ≡ (if is_leaf reading.now.rows g && not calm
         then Some (leaf_limit (row_of reading.now.rows g) is_hungry floor amount)
         else own_limit reading.now.rows g) }
 {
     // its contract says that the demands are in range
     let _rows = reading.rows();
     let row = reading.row(g);
-    if reading.is_leaf(g) {
+    if reading.is_leaf(g) && !calm {
         Some(leaf_limit(&row, is_hungry, floor, amount))
     } else {
         row.limit
@@ -59,6 +67,7 @@ fn row_limit(reading: &Instance, g: u32, is_hungry: bool, floor: u64, amount: u6
 pub(crate) fn limits_of(
     alloc: Global,
     reading: &Instance,
+    calm: bool,
     hungry: &[bool],
     floors: &[u64],
     amounts: &[u64],
@@ -67,13 +76,13 @@ pub(crate) fn limits_of(
     requires floors { length floors.now ≡ length reading.now.rows }
     requires amounts { length amounts.now ≡ length reading.now.rows }
     ensures { IfOk result (λ limits. limits.items ≡
-        map (round_limit reading.now hungry.now floors.now amounts.now)
+        map (round_limit reading.now calm hungry.now floors.now amounts.now)
         (range_with_len 0 (length reading.now.rows))) }
 {
     let count = reading.rows().len();
     let mut limits: Vec<Option<u64>> = Vec::with_capacity(alloc, count)?;
     for g in 0..count {
-        limits.push(row_limit(reading, g as u32, hungry[g], floors[g], amounts[g]))?;
+        limits.push(row_limit(reading, g as u32, calm, hungry[g], floors[g], amounts[g]))?;
     }
     Ok(limits)
 }

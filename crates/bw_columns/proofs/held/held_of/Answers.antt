@@ -32,7 +32,7 @@ limit_each : (used : Groups) (hungry : List Bool) (demands amounts : List ℕ)
     → length limits ≡ length used.rows
 limit_each used hungry demands amounts limits round =
     ap (length {A = Option ℕ}) round.limits_are
-    ∙ length-map-range_with_len (round_limit used hungry round.floors amounts) 0
+    ∙ length-map-range_with_len (round_limit used round.calm hungry round.floors amounts) 0
     (length used.rows)
 
 demand_each : (used : Groups) (hungry : List Bool) (demands amounts : List ℕ)
