@@ -32,9 +32,9 @@
  * The first that applies is answered, in this order:
  *   1. 50, where the columns of the rows differ in length, or a column of an answer or `hungry` from them, or nums, dens and
  *      places of arbiter_check from each other, or goal_groups, goal_amounts and together of arbiter_tune, or ran and waited of
- *      arbiter_reading
+ *      arbiter_reading, or columns of arbiter_periods do not fit
  *   2. 1 to 3
- *   3. 4 to 10, of a text 40 to 43 too
+ *   3. 4 to 10, of a text 40 to 43 too, of arbiter_periods 13 to 15 before them
  *   4. of a check 50, where amounts, flags or levels are not one for each row, and then 51 to 58; of a question about a group
  *      20, where it is no row; of arbiter_least_limit 10, where it is row 0, whose only limit is the capacity; of goals 20, 26
  *      and then 29
@@ -289,6 +289,33 @@ uint32_t arbiter_book(uint64_t processors, uint64_t period_us, uint64_t slice_us
                       uint64_t *nr_periods, size_t nr_periods_length, uint64_t *nr_throttled, size_t nr_throttled_length,
                       uint64_t *throttled_usec, size_t throttled_usec_length, uint64_t *nr_bursts, size_t nr_bursts_length,
                       uint64_t *burst_usec, size_t burst_usec_length);
+
+/* Many periods of one host, one after another, and what they add up to. It may have any number of processors, as
+ * arbiter_planned_host has them. `parents` and `weights` are those of the rows. Quotas, own periods and bursts are those of
+ * arbiter_period_limit; row 0 has ARBITER_NO_LIMIT. `demands` has the demand of each group in the first sample, then in the next.
+ * A sample is `times` periods of the same demands. `carries` has the slices of each limit that the period before left: 0 where
+ * there was none.
+ * In each period a group's limit is that of arbiter_period_limit, its amount that of arbiter_plan by these limits, and what it
+ * leaves and is counted that of arbiter_book. arbiter_check has accepted each plan. Periods that come again are not planned again.
+ * `carries` is written with what the last period leaves, so that a long time may be cut into several calls. The other columns are
+ * as long as `demands`, and have sums over the periods of each sample:
+ *   amounts, wants, limits        slices that the group got, that it wanted, and of its limits, where ARBITER_NO_LIMIT is none
+ *   nr_throttled, throttled_usec, nr_bursts, burst_usec   as of arbiter_book
+ *   nr_short                      periods in which it was throttled and got less than its limit
+ *   nr_starved                    periods in which it wanted something and got nothing
+ * A sum stops at its greatest value. Answers 50 where the columns of the groups differ in length, `demands` is not one or more
+ * times as long, or a column of sums is not as long as `demands`; then 1 to 3 as arbiter_planned_host; then 13 to 15 for the first
+ * group that arbiter_period_limit refuses; then 4 to 10 for the first sample whose rows are refused. */
+uint32_t arbiter_periods(uint64_t processors, uint64_t period_us, uint64_t slice_us,
+                         const uint32_t *parents, size_t parents_length, const uint64_t *weights, size_t weights_length,
+                         const uint64_t *quotas, size_t quotas_length, const uint64_t *periods, size_t periods_length,
+                         const uint64_t *bursts, size_t bursts_length, const uint64_t *demands, size_t demands_length,
+                         uint64_t times, uint64_t *carries, size_t carries_length,
+                         uint64_t *amounts, size_t amounts_length, uint64_t *wants, size_t wants_length,
+                         uint64_t *limits, size_t limits_length, uint64_t *nr_throttled, size_t nr_throttled_length,
+                         uint64_t *throttled_usec, size_t throttled_usec_length, uint64_t *nr_bursts, size_t nr_bursts_length,
+                         uint64_t *burst_usec, size_t burst_usec_length, uint64_t *nr_short, size_t nr_short_length,
+                         uint64_t *nr_starved, size_t nr_starved_length);
 
 /* Writes to `slices` how many slices of one period of the host a demand takes, rounded up: a demand of a row. The demand is
  * `numerator` over `denominator` processors. Answers 1 to 3, then 11 where the denominator is 0, then 9 where it takes more than

@@ -12,11 +12,11 @@ The package needs the standard library alone. The code that plans and checks is 
 package is not.
 """
 from arbiter.columns import (Certificate, Columns, Counters, Figures, Host, Kind, Level, Reading,
-                             Reason, Round, RoundTimes, Row, Script, Unmet)
+                             Reason, Round, RoundTimes, Row, Samples, Script, Settings, Unmet)
 from arbiter.found import Unavailable
 from arbiter.library import Library, Refused
 
 __all__ = ["Certificate", "Columns", "Counters", "Figures", "Host", "Kind", "Level", "Library",
-           "Reading", "Reason", "Refused", "Round", "RoundTimes", "Row", "Script", "Unavailable",
-           "Unmet"]
+           "Reading", "Reason", "Refused", "Round", "RoundTimes", "Row", "Samples", "Script",
+           "Settings", "Unavailable", "Unmet"]
 __version__ = "1.0.0"

@@ -50,6 +50,7 @@ WORDS: dict[str, list[Any]] = {
     "slices": HOST + [U64, U64, WRITTEN],
     "period_limit": HOST + [U64] * 4 + [WRITTEN],
     "book": TREE + COLUMN * 2 + ROOM + SUMS * 6,
+    "periods": HOST + COLUMN * 6 + [U64] + SUMS + ROOM * 9,
     "demand": HOST + [U64, U64, WRITTEN],
     "planned_host": HOST + [WRITTEN] * 3,
     "weight_of_shares": [U64, U32],

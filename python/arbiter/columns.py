@@ -192,6 +192,36 @@ class Script(NamedTuple):
     refused: list[tuple[int, int]]
 
 
+class Settings(NamedTuple):
+    """The groups of a host by column, one entry for each, the root first. Quotas, periods and
+    bursts are microseconds, as their files have them; a quota of NO_LIMIT is none."""
+
+    parents: array[int]
+    weights: array[int]
+    quotas: array[int]
+    periods: array[int]
+    bursts: array[int]
+
+
+class Samples(NamedTuple):
+    """Sums over the periods of samples: columns with an entry for each group in the first sample,
+    then in the next."""
+
+    # Slices that it got, that it wanted, and of its limits (NO_LIMIT: it has none).
+    amounts: array[int]
+    wants: array[int]
+    limits: array[int]
+    # As in `cpu.stat`.
+    nr_throttled: array[int]
+    throttled_usec: array[int]
+    nr_bursts: array[int]
+    burst_usec: array[int]
+    # Periods in which it was throttled and got less than its limit, and in which it wanted
+    # something and got nothing.
+    nr_short: array[int]
+    nr_starved: array[int]
+
+
 class Certificate(NamedTuple):
     """Evidence that amounts are a plan, one entry for each row.
 

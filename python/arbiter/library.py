@@ -10,8 +10,8 @@ from typing import TypeAlias
 
 from arbiter import c, found, pipe
 from arbiter.columns import (U8, U32, U64, Certificate, Columns, Counters, Figures, Host, Kind,
-                             Reading, Reason, Round, RoundTimes, Row, Script, Unmet, column,
-                             given, in_range, number_or_none, zeros)
+                             Reading, Reason, Round, RoundTimes, Row, Samples, Script, Settings,
+                             Unmet, column, given, in_range, number_or_none, zeros)
 
 # The rows of a tree, or their columns, which are made once for several calls.
 Rows: TypeAlias = Sequence[Row] | Columns
@@ -336,6 +336,20 @@ class Library:
         self.ask("book", host, columns, *given(column(U64, own, "quota"),
                                                column(U64, used, "use"), carries, *counters))
         return carries.tolist()
+
+    def periods(self, host: Host, groups: Settings, demands: array[int], times: int,
+                carries: array[int]) -> Samples:
+        """Samples of so many periods each, one after another.
+
+        `demands` has the slices of each group in the first sample, then in the next. `carries` has
+        the slices of each limit that the period before left, and is written with those that the
+        last one leaves. The check has accepted the plan of each period. Refused by 50 WrongLength,
+        then as `planned_host` is, then by 13 to 15 as `period_limit` is, then as a plan is.
+        """
+        sums = Samples(*(zeros(U64, len(demands)) for _ in Samples._fields))
+        self.ask_host("periods", host, *given(*groups, demands), in_range(times, 64, "times"),
+                      *given(carries, *sums))
+        return sums
 
     def demand(self, host: Host, numerator: int, denominator: int) -> int:
         """The slices of one period that a ratio of CPUs takes, rounded up."""

@@ -226,7 +226,7 @@ def shown_groups(plan: Plan, view: View) -> Iterator[tuple[Planned, int]]:
 def head(plan: Plan, view: View) -> Iterator[str]:
     """The lines above the table."""
     root, unit = plan.root, view.unit
-    yield text.host_words(plan)
+    yield text.host_words(plan.model.host)
     served, all_, asked = (text.amount(plan, each, unit)
                            for each in (root.gets, plan.capacity, root.want))
     yield (f"{served} of {all_} {text.UNIT_WORDS[unit]} served, {asked} wanted; the proved check"

@@ -170,4 +170,4 @@ def picture(plan: Plan, view: View = View()) -> str:
     for place, entry in enumerate(drawing.entries):
         parts += drawing.row(place, entry)
     wide = max(drawing.width, svg.wide(title, 13) + 2 * EDGE)
-    return svg.document(wide, drawing.height, f"{title}: {text.host_words(plan)}", parts)
+    return svg.document(wide, drawing.height, f"{title}: {text.host_words(plan.model.host)}", parts)

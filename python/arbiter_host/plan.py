@@ -7,15 +7,16 @@ library gives the reasons, which are proved; this module words them.
 from __future__ import annotations
 
 import functools
+from array import array
 from collections.abc import Callable, Iterator, Sequence
 from contextlib import contextmanager
-from dataclasses import dataclass, field, replace
+from dataclasses import dataclass, field
 from fractions import Fraction
 from typing import NamedTuple
 
 import arbiter
-from arbiter import (Certificate, Columns, Counters, Figures, Host, Kind, Library, Refused, Row,
-                     Unavailable)
+from arbiter import (Certificate, Columns, Figures, Host, Kind, Library, Refused, Row, Samples,
+                     Settings, Unavailable)
 from arbiter.c import NO_LIMIT
 from arbiter.found import TO_DO
 from arbiter_host import progress, units
@@ -33,13 +34,6 @@ class Answer(NamedTuple):
     certificate: Certificate
     limiting: list[int]
     figures: Figures
-
-
-class Booked(NamedTuple):
-    """What a period leaves of each limit, in slices, and its counters."""
-
-    carries: list[int]
-    counters: Counters
 
 
 def fault_of(what: str, error: Refused | OverflowError) -> HostFault:
@@ -79,13 +73,12 @@ class Engine:
             figures = self.library.figures(host, columns)
         return Answer(columns, amounts, certificate, limiting, figures)
 
-    def book(self, host: Host, answer: Answer, quotas: Sequence[int | None]) -> Booked:
-        """What a period of a plan leaves and counts. Quotas are in slices."""
-        counters = Counters.zeros(len(answer.columns))
-        with asking("the counters of a period"):
-            # (neither depends on the number of CPUs, and the planner takes at most 64)
-            return Booked(self.library.book(replace(host, processors=1), answer.columns, quotas,
-                                            answer.amounts, counters), counters)
+    def periods(self, host: Host, groups: Settings, demands: array[int], times: int,
+                carries: array[int]) -> Samples:
+        """What periods add up to; `carries` is written with what the last one leaves."""
+        planned(self.library, host)
+        with asking("no plan"):
+            return self.library.periods(host, groups, demands, times, carries)
 
 
 def engine_of(path: str | None = None, changes: bool = False) -> Engine:

@@ -1,7 +1,8 @@
 """Many periods over the groups of a host: what each group got in each sample.
 
 A sample lasts one period, or as long as is said: then its period is repeated, so that what was
-saved up is used as the kernel would use it. Each plan is accepted by the proved check.
+saved up is used as the kernel would use it. The C library adds the periods up, and shows no plan
+that the proved check has not accepted.
 """
 from __future__ import annotations
 
@@ -9,16 +10,18 @@ import csv
 import io
 import itertools
 import json
+from array import array
 from collections.abc import Callable, Iterable, Iterator, Mapping, Sequence
 from dataclasses import dataclass
 from fractions import Fraction
 
-from arbiter import Counters
+from arbiter import Host, Samples, Settings
+from arbiter.c import NO_LIMIT, NO_PARENT
 from arbiter_host import demands, svg, text, units
 from arbiter_host.faults import HostFault, UsageFault
-from arbiter_host.model import Model
-from arbiter_host.names import cut, short, shown
-from arbiter_host.plan import Booked, Engine, Plan, Planned, plan
+from arbiter_host.model import Model, checked
+from arbiter_host.names import cut, parent_path, short, shown
+from arbiter_host.plan import Engine
 from arbiter_host.sources.samples import History
 
 FLAGS = (("T", "throttled", "#b4231f"), ("t", "throttled, not by its limit", "#d97706"),
@@ -30,8 +33,8 @@ COUNTS = {"gets": "got", "wants": "wanted", "periods": "periods", "throttled": "
           "withheld": "withheld_usec"}
 # Most periods of one sample: a day of periods of 1 ms.
 MOST_PERIODS = 86400000
-# Most distinct periods that one sample is planned for.
-MOST_DISTINCT = 100000
+# Most numbers that one call gives of each kind: a group in a sample is one.
+MOST_CELLS = 1 << 20
 EDGE, LEFT, WIDE, TALL, STRIP, GAP, TOP = 16, 64, 760, 84, 5, 44, 64
 
 
@@ -50,19 +53,13 @@ class SampleCell:
     # Microseconds wanted above the limit.
     withheld: int = 0
 
-    def count(self, group: Planned, counters: Counters, times: int) -> None:
-        """Adds so many periods of a plan, with the counters of one."""
-        gets, wants, limit, row = group.gets, group.want, group.limit, group.row
-        if limit is not None and (self.limit is not None or self.periods == 0):
-            self.limit = (self.limit or 0) + limit * times
-        self.periods += times
-        self.gets += gets * times
-        self.wants += wants * times
-        self.throttled += times * counters.nr_throttled[row]
-        self.elsewhere += times * counters.nr_throttled[row] * (limit is not None and gets < limit)
-        self.starved += times * (wants > 0 and gets == 0)
-        self.withheld += times * counters.throttled_usec[row]
-        self.bursts += times * counters.nr_bursts[row]
+    @classmethod
+    def of(cls, sums: Samples, at: int, host: Host | None, periods: int) -> SampleCell:
+        """A cell of so many periods. The limit of the root is the capacity of its host."""
+        limit = host.capacity * periods if host else sums.limits[at]
+        return cls(sums.amounts[at], sums.wants[at], None if limit == NO_LIMIT else limit, periods,
+                   sums.nr_throttled[at], sums.nr_short[at], sums.nr_bursts[at],
+                   sums.nr_starved[at], sums.throttled_usec[at])
 
     def mean(self, slices: int) -> Fraction:
         """A sum as a mean over the periods."""
@@ -87,11 +84,11 @@ def summed(cells: Sequence[SampleCell]) -> dict[str, int]:
 
 @dataclass
 class Series:
-    """The samples' names, the groups that are shown with a cell for each sample, and a plan."""
+    """The samples' names, the groups that are shown with a cell for each sample, and the host."""
 
     names: list[str]
     groups: dict[str, list[SampleCell]]
-    plan: Plan
+    host: Host
 
 
 def target(model: Model, children: Mapping[str, list[str]], pattern: str) -> str:
@@ -139,65 +136,73 @@ def sample_periods(usec: int, period: int) -> int:
     return count
 
 
-def quotas_of(model: Model, engine: Engine) -> list[int | None]:
-    """The quota of each row in slices, without what was saved up."""
-    limit = model.conversions(engine.library).limit
-    return [None, *(limit(each.quota, each.period) for each in model.groups.values())]
+@dataclass
+class Asked:
+    """What samples ask of a host: its groups, the demands of each in each sample, and the periods
+    of a sample."""
+
+    host: Host
+    paths: list[str]
+    settings: Settings
+    demands: array[int]
+    # Slices of each limit that the last period left.
+    carries: array[int]
+    periods: int
+
+    def cells(self, engine: Engine, shown_: Sequence[str], tick: Callable[[], None]
+              ) -> dict[str, list[SampleCell]]:
+        """The cells of some groups."""
+        width = len(self.paths)
+        step = width * (max(MOST_CELLS // width, 1) if self.periods == 1 else 1)
+        places = {path: self.paths.index(path) for path in shown_}
+        found: dict[str, list[SampleCell]] = {path: [] for path in shown_}
+        for begin in range(0, len(self.demands), step):
+            sums = engine.periods(self.host, self.settings, self.demands[begin:begin + step],
+                                  self.periods, self.carries)
+            for sample in range(0, len(sums.amounts), width):
+                for path, place in places.items():
+                    found[path].append(SampleCell.of(sums, sample + place,
+                                                     None if place else self.host, self.periods))
+                tick()
+        return found
 
 
-def periods_of(engine: Engine, model: Model, count: int) -> Iterator[tuple[Plan, Booked, int]]:
-    """The plans of so many periods with the same demands, each with how often it holds.
-
-    What is saved up decides the next period, so that from a state that was there before on the
-    periods repeat.
-    """
-    seen: dict[tuple[int, ...], int] = {}
-    periods: list[tuple[Plan, Booked]] = []
-    quotas = quotas_of(model, engine)
-    for left in range(count, 0, -1):
-        state = tuple(group.saved for group in model.groups.values())
-        if state in seen:
-            cycle = periods[seen[state]:]
-            times, more = divmod(left, len(cycle))
-            yield from ((*each, times + (place < more)) for place, each in enumerate(cycle)
-                        if times or place < more)
-            settle(cycle[more - 1][1], model)
-            return
-        if len(periods) >= MOST_DISTINCT:
-            raise HostFault(f"a sample with more than {MOST_DISTINCT} distinct periods")
-        seen[state] = len(periods)
-        made = plan(engine, model.copy())
-        booked = engine.book(model.host, made.answer, quotas)
-        periods.append((made, booked))
-        yield made, booked, 1
-        settle(booked, model)
+def settings_of(model: Model) -> Settings:
+    """The groups of a model with their settings, the root first."""
+    rows = {".": 0} | {path: row for row, path in enumerate(model.groups, 1)}
+    groups = model.groups.values()
+    return Settings(
+        array("I", [NO_PARENT, *(rows[parent_path(path)] for path in model.groups)]),
+        array("Q", [units.DEFAULT_WEIGHT, *(group.weight for group in groups)]),
+        array("Q", [NO_LIMIT, *(NO_LIMIT if group.quota is None else group.quota
+                                for group in groups)]),
+        array("Q", [units.DEFAULT_PERIOD, *(group.period for group in groups)]),
+        array("Q", [0, *(group.burst for group in groups)]))
 
 
-def settle(booked: Booked, model: Model) -> None:
-    """Keeps what each group leaves of its limit for the next period of the model."""
-    for group, carry in zip(model.groups.values(), booked.carries[1:], strict=True):
-        group.saved = carry
+def asked_of(engine: Engine, model: Model, history: History, unit: str, path_of: Mapping[str, str],
+             periods: int) -> Asked:
+    """The samples of a history. Columns of no path are left out."""
+    model, asked = model.copy(), array("Q")
+    slices = model.conversions(engine.library)
+    for _, sample in history.demands(unit, model.host):
+        set_demands(model, path_of, sample)
+        asked.extend([0, *(slices.demand(group.usable) if group.demand else 0
+                           for group in model.groups.values())])
+    carries = array("Q", [0, *(group.saved for group in model.groups.values())])
+    return Asked(checked(model.host), [".", *model.groups], settings_of(model), asked, carries,
+                    periods)
 
 
 def run(engine: Engine, model: Model, history: History, unit: str, chosen: Sequence[str],
         path_of: Mapping[str, str], periods: int, tick: Callable[[], None]) -> Series:
     """The samples one after another. Columns of no path are left out."""
-    groups: dict[str, list[SampleCell]] = {
-        path: [] for path in chosen or path_of.values() or ["."]}
-    model, last = model.copy(), None
-    for _, asked in history.demands(unit, model.host):
-        set_demands(model, path_of, asked)
-        cells = [SampleCell() for _ in groups]
-        for last, booked, times in periods_of(engine, model, periods):
-            by_path = last.by_path()
-            for path, cell in zip(groups, cells):
-                cell.count(by_path[path], booked.counters, times)
-        for path, cell in zip(groups, cells):
-            groups[path].append(cell)
-        tick()
-    if last is None:
+    asked = asked_of(engine, model, history, unit, path_of, periods)
+    if not asked.demands:
         raise HostFault("no sample")
-    return Series([each.name for each in history.samples], groups, last)
+    shown_ = list(dict.fromkeys(chosen or path_of.values() or ["."]))
+    return Series([each.name for each in history.samples], asked.cells(engine, shown_, tick),
+                  asked.host)
 
 
 def set_demands(model: Model, path_of: Mapping[str, str], asked: Mapping[str, Fraction]) -> None:
@@ -209,7 +214,9 @@ def set_demands(model: Model, path_of: Mapping[str, str], asked: Mapping[str, Fr
 
 def written(series: Series, slices: Fraction, unit: str) -> str:
     """A mean of slices in a unit."""
-    value = text.in_unit(series.plan.model.host, slices * series.plan.thousandths(1), unit)
+    host = series.host
+    one = units.thousandths_of_slices(1, host.period_us, host.slice_us)
+    value = text.in_unit(host, slices * one, unit)
     return units.decimal(value, 3 if unit == "cpu" else 1)
 
 
@@ -280,7 +287,7 @@ def gapped(values: Sequence[float | None], x: Callable[[float], float],
 
 def lines_of(series: Series, path: str) -> tuple[list[float], list[float], list[float | None]]:
     """What a group wants and gets in each sample, and its limit where that is near, in CPUs."""
-    host, cells = series.plan.model.host, series.groups[path]
+    host, cells = series.host, series.groups[path]
     one = host.slice_us / host.period_us
     wants, gets = ([float(each.mean(getattr(each, key))) * one for each in cells]
                    for key in ("wants", "gets"))
@@ -352,7 +359,7 @@ def picture(series: Series) -> str:
         raise HostFault(f"{len(series.groups)} groups are too many for one picture:"
                         " -g chooses some")
     height = TOP + 16 + len(series.groups) * (TALL + GAP) + 12
-    title = f"{len(series.names)} samples, CPUs in each: {text.host_words(series.plan)}"
+    title = f"{len(series.names)} samples, CPUs in each: {text.host_words(series.host)}"
     parts = [svg.words((EDGE, 24), title, svg.INK, 13, "start", True), *legend(46)]
     tops = svg.tops([peak(lines_of(series, path)) for path in series.groups])
     for place, (path, (most, mark)) in enumerate(zip(series.groups, tops)):

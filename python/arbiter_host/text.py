@@ -84,9 +84,8 @@ def cpus(count: int) -> str:
     return "1 CPU" if count == 1 else f"{count} CPUs"
 
 
-def host_words(plan: Plan) -> str:
-    """The host of a plan in one line."""
-    host = plan.model.host
+def host_words(host: Host) -> str:
+    """A host in one line."""
     one = units.decimal(Fraction(host.slice_us * 1000, host.period_us), 2)
     period, slice_ = (units.decimal(Fraction(usec, 1000))
                       for usec in (host.period_us, host.slice_us))

@@ -59,7 +59,7 @@ asked_rows shape table r e host h =
     ∙ ap (λ (o : Option InstanceFault). option_map_or instance_fault_number o 0) h
 
 -- the rows are refused by a number above 3 that is not 50
-after_memory : (r : Option InstanceFault) → IsAfterMemory (option_map_or instance_fault_number r 0)
+pub after_memory : (r : Option InstanceFault) → IsAfterMemory (option_map_or instance_fault_number r 0)
 after_memory None = inl refl
 after_memory (Some TooMany) = inr (omega arith, λ e. omega (arith, e))
 after_memory (Some BadParent) = inr (omega arith, λ e. omega (arith, e))

@@ -6,6 +6,9 @@ mod Claimed
 mod Closeness
 mod Fit
 mod ColumnsOfGroups
+mod PeriodNumbers
+mod PeriodSamples
+mod PeriodSums
 mod PlannedHosts
 mod Questions
 mod RefusedRow

@@ -3,6 +3,10 @@ use Rattle.std.proofs.Common.{◌≡◌, ℕ, ◌<◌, ◌≤◌, Bool, true, fa
 use Rattle.std.proofs.Common.{◌∙◌, subst, inl, inr, arith}
 use Rattle.std.specs.Prelude.{◌==◌, nat_lt}
 use Rattle.std.proofs.lemmas.Bool.{cases_eq, ne_eqb, eq-eqb, lt-ltb, le-ltb}
+use Rattle.bw_files.specs.declared.fault.FileFault.TheVariants.{BadNumber, WeightOutOfRange}
+use Rattle.bw_files.specs.declared.fault.FileFault.TheVariants.{QuotaTooSmall, QuotaTooLarge}
+use Rattle.bw_files.specs.declared.fault.FileFault.TheVariants.{PeriodOutOfRange, TooManyWords}
+use Rattle.bw_files.specs.declared.fault.FileFault.TheVariants.{Empty}
 use Rattle.bw_model.specs.declared.host.HostFault.TheVariants.{BadProcessors, BadPeriod, BadSlice}
 use Rattle.bw_model.specs.declared.instance_fault.InstanceFault.TheVariants.{TooMany, BadParent}
 use Rattle.bw_model.specs.declared.instance_fault.InstanceFault.TheVariants.{BadWeight, TooDeep}
@@ -28,7 +32,7 @@ pub first_none : (number next : ℕ) → number ≡ 0 → first_refusal number n
 unfolding first_refusal
 first_none number next e = ap (λ (b : Bool). cond b next number) (eq-eqb number 0 e)
 
-first_some : (number next : ℕ) → (number ≡ 0 → ⊥) → first_refusal number next ≡ number
+pub first_some : (number next : ℕ) → (number ≡ 0 → ⊥) → first_refusal number next ≡ number
 unfolding first_refusal
 first_some number next e = ap (λ (b : Bool). cond b next number) (ne_eqb number 0 e)
 
@@ -49,9 +53,16 @@ refusal_positive (of_refusal.Instance OutOfMemory) = omega arith
 refusal_positive of_refusal.NotFound = omega arith
 refusal_positive of_refusal.RootFixed = omega arith
 refusal_positive of_refusal.GoalAbove = omega arith
+refusal_positive (of_refusal.Setting BadNumber) = omega arith
+refusal_positive (of_refusal.Setting WeightOutOfRange) = omega arith
+refusal_positive (of_refusal.Setting QuotaTooSmall) = omega arith
+refusal_positive (of_refusal.Setting QuotaTooLarge) = omega arith
+refusal_positive (of_refusal.Setting PeriodOutOfRange) = omega arith
+refusal_positive (of_refusal.Setting TooManyWords) = omega arith
+refusal_positive (of_refusal.Setting Empty) = omega arith
 
 -- what refuses host and rows refuses a question, too
-carried : (number next answer : ℕ) → 0 < answer → IsAfterMemory next → Answers number answer
+pub carried : (number next answer : ℕ) → 0 < answer → IsAfterMemory next → Answers number answer
     → Answers (first_refusal number next) answer
 carried number next answer positive later answers = elim (cases_eq number 0) [
   | inl none ↦ elim answers [

@@ -1,5 +1,5 @@
 -- A booked period, in columns of numbers.
-use Rattle.std.specs.Prelude.{◌≡◌, ℕ, List, ◌∷◌, [], length, map, slice_index}
+use Rattle.std.specs.Prelude.{◌≡◌, ℕ, List, length, map, slice_index}
 use Rattle.std.specs.List.{range_with_len}
 use Rattle.bw_model.specs.declared.stat.Stat.{Stat}
 use Rattle.bw_model.specs.Groups.{Groups, row_of}

@@ -11,10 +11,14 @@ pub mod Held
 pub mod Limited
 pub mod Logarithm
 pub mod Numbers
+pub mod PeriodLaws
 pub mod PeriodLimits
+pub mod Periods
 pub mod PlannedHosts
 pub mod Questions
 pub mod Reasoned
 pub mod RefusedRow
 pub mod Shares
+pub mod Tallies
 pub mod Tuned
+pub mod Walks

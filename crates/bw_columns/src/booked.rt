@@ -131,7 +131,11 @@ fn stats_after(
 }
 
 // Carry of each row: the slices of its limit that were not drawn.
-fn carries_after(alloc: Global, instance: &Instance, drawn: &[u64]) -> Result<Vec<u64>, AllocError>
+pub(crate) fn carries_after(
+    alloc: Global,
+    instance: &Instance,
+    drawn: &[u64],
+) -> Result<Vec<u64>, AllocError>
     requires { length drawn.now ≡ length instance.now.rows }
     ensures { IfOk result (λ carries. carries.items
         ≡ map (carry_after instance.now drawn.now) (range_with_len 0 (length instance.now.rows))) }

@@ -25,7 +25,7 @@ pub struct Columns<'a> {
     pub demands: &'a [u64],
 }
 
-fn parent_of(number: u32) -> Option<u32>
+pub(crate) fn parent_of(number: u32) -> Option<u32>
     ensures { result ≡ parent_in number }
 {
     if number == NO_PARENT {

@@ -1,5 +1,6 @@
-//! Laws about the numbers that the definitions read from the code.
+//! Laws about the numbers that the definitions read from the code, and about limits of periods.
 ghost use Rattle.std.specs.Prelude.{◌≡◌, ◌^◌};
+ghost use Rattle.bw_columns.specs.PeriodLaws.{PeriodLimitsAreThoseAsked};
 
 use crate::columns::{NO_LIMIT, NO_PARENT};
 use crate::logarithm::{SCALE_DIGITS, UNIT};
@@ -23,4 +24,10 @@ pub fn share_numbers()
     ensures weight { DEFAULT_WEIGHT ≡ 100 }
     ensures digits { SCALE_DIGITS ≡ 36 }
     ensures unit { UNIT ≡ 2 ^ SCALE_DIGITS }
+{}
+
+/// Law: in each of many periods the limit of a group is the one that [`crate::limit_of_period`]
+/// gives.
+pub fn limits_of_periods()
+    ensures { PeriodLimitsAreThoseAsked }
 {}

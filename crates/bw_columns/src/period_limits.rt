@@ -10,7 +10,7 @@ use bw_model::{HostShape, Quota};
 use bw_tree::period_limit;
 
 // The quota of a number of microseconds, which is none if it is the greatest.
-fn quota_of(number: u64) -> Result<Quota, FileFault>
+pub(crate) fn quota_of(number: u64) -> Result<Quota, FileFault>
     ensures { result ≡ quota_in (limit_in number) }
 {
     match limit_of(number) {

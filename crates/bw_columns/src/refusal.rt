@@ -2,6 +2,7 @@
 ghost use Rattle.std.specs.Prelude.{◌≡◌, ◌<◌};
 ghost use Rattle.bw_columns.specs.Numbers.{number_of_refusal};
 
+use bw_files::FileFault;
 use bw_model::{HostFault, InstanceFault};
 use std::alloc::AllocError;
 
@@ -20,6 +21,8 @@ pub enum Refusal {
     RootFixed,
     /// 29: a goal's group is another goal's group, or above it.
     GoalAbove,
+    /// 13 to 15: a group's quota, own period or burst.
+    Setting(FileFault),
 }
 
 impl Refusal {
@@ -35,6 +38,7 @@ impl Refusal {
             Refusal::NotFound => 20,
             Refusal::RootFixed => 26,
             Refusal::GoalAbove => 29,
+            Refusal::Setting(fault) => u32::from(fault.number()),
         }
     }
 }
@@ -47,5 +51,15 @@ impl From<AllocError> for Refusal {
 
     fn from(_: AllocError) -> Refusal {
         Refusal::Instance(InstanceFault::OutOfMemory)
+    }
+}
+
+impl From<FileFault> for Refusal {
+    ghost use Rattle.bw_columns.specs.declared.refusal.Refusal.TheVariants.{Setting};
+
+    ghost from_gives = { λ fault e. e ≡ Setting fault };
+
+    fn from(fault: FileFault) -> Refusal {
+        Refusal::Setting(fault)
     }
 }

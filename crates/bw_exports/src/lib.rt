@@ -18,6 +18,7 @@ mod least_weight_call;
 mod limiting_call;
 mod name_call;
 mod period_limit_call;
+mod periods_call;
 mod plan_call;
 mod planned_host_call;
 mod reading_call;

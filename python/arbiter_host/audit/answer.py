@@ -106,7 +106,7 @@ def head(ranked: Ranked) -> Iterator[str]:
     intervals = ranked.audit.intervals
     lengths = [each.seconds for each in intervals]
     span = " to ".join(dict.fromkeys(map(units.decimal, (min(lengths), max(lengths)))))
-    yield text.host_words(ranked.audit.plan)
+    yield text.host_words(ranked.audit.plan.model.host)
     yield f"intervals: {len(intervals)}, each of {span} s; the proved check accepted each plan"
     yield "off: what a group used less its plan, in hundredths of a CPU and in parts of the plan"
     unplanned = [each.unplanned for each in intervals if each.unplanned is not None]

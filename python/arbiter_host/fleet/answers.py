@@ -11,19 +11,19 @@ from dataclasses import astuple, dataclass
 from fractions import Fraction
 from typing import Any
 
-from arbiter import Columns, Host
+from arbiter import Columns, Host, Settings
 from arbiter.columns import column
 from arbiter_host import series
 from arbiter_host.faults import HostFault
 from arbiter_host.fleet.work import Job, Sent, SentRows
 from arbiter_host.model import Group, Model, checked
 from arbiter_host.plan import Engine, Plan, Planned, plan_of
-from arbiter_host.series import SampleCell
 
 # Most groups that an answer names for one reason.
 MOST_NAMED = 5
 # The types of the columns of rows.
 KINDS = ("I", "Q", "Q", "Q")
+SETTINGS = ("I", "Q", "Q", "Q", "Q")
 # What a reply of another form than that of `work` may raise.
 BROKEN = (ValueError, KeyError, TypeError, IndexError, AttributeError, OverflowError)
 
@@ -131,27 +131,24 @@ def placed(job: Job, plans: Iterator[Plan], told: dict[str, Any]) -> dict[str, A
     return {"before": sums(before), "pods": pods}
 
 
-def replayed(_: Job, plans: Iterator[Plan], told: dict[str, Any]) -> dict[str, Any]:
+def replayed(engine: Engine, host: Host, sent: Sent) -> dict[str, Any]:
     """The sums of each group over all samples."""
-    samples, quotas = [], dict(zip(told["columns"], told["quotas"], strict=True))
-    for counts in told["times"]:
-        cells = {path: SampleCell() for path in told["columns"]}
-        for times in counts:
-            plan = next(plans)
-            by_path = plan.by_path()
-            counters = plan.engine.book(plan.model.host, plan.answer,
-                                        [quotas.get(path) for path in by_path]).counters
-            for path, cell in cells.items():
-                cell.count(by_path[path], counters, times)
-        samples.append(cells)
-    return {"samples": len(samples), "unknown": list(map(str, told["unknown"])),
-            "groups_of_columns": [
-                {"group": path, **series.summed([cells[path] for cells in samples])}
-                for path in told["columns"]]}
+    (groups,), told = sent.plans, sent.told
+    asked = series.Asked(
+        host, groups.paths,
+        Settings(*(column(kind, each, "settings")
+                   for kind, each in zip(SETTINGS, groups.columns, strict=True))),
+        column("Q", told["demands"], "demand"), column("Q", told["carries"], "carry"),
+        int(told["periods"]))
+    cells = asked.cells(engine, told["columns"], lambda: None)
+    return {"samples": len(asked.demands) // len(asked.paths),
+            "unknown": list(map(str, told["unknown"])),
+            "groups_of_columns": [{"group": path, **series.summed(each)}
+                                  for path, each in cells.items()]}
 
 
 ACTIONS: dict[str, Callable[[Job, Iterator[Plan], dict[str, Any]], dict[str, Any]]] = {
-    "explain": explained, "diff": compared, "place": placed, "replay": replayed}
+    "explain": explained, "diff": compared, "place": placed}
 
 
 def answer_of(job: Job, sent: Sent | str, engine: Engine) -> dict[str, Any]:
@@ -162,8 +159,8 @@ def answer_of(job: Job, sent: Sent | str, engine: Engine) -> dict[str, Any]:
         if not all(type(each) is int for each in astuple(sent.host)):
             raise HostFault("a host of other than whole numbers")
         host, groups = checked(sent.host), len(sent.plans[0].paths) - 1 if sent.plans else 0
-        answer = ACTIONS[job.action](job, (accepted(engine, host, each) for each in sent.plans),
-                                     sent.told)
+        answer = replayed(engine, host, sent) if job.action == "replay" else ACTIONS[job.action](
+            job, (accepted(engine, host, each) for each in sent.plans), sent.told)
     except BROKEN as error:
         raise HostFault(f"what its worker answers cannot be read: {type(error).__name__}"
                         ) from error

@@ -8,7 +8,6 @@ from __future__ import annotations
 import functools
 from argparse import Namespace
 from array import array
-from collections import Counter
 from collections.abc import Mapping, Sequence
 from dataclasses import dataclass, field, replace
 from typing import Any, NamedTuple
@@ -17,7 +16,7 @@ from arbiter import Columns, Host
 from arbiter_host import change, demands, load, names, series
 from arbiter_host.faults import HostFault
 from arbiter_host.model import Model
-from arbiter_host.plan import Engine, Plan, engine_of
+from arbiter_host.plan import Engine, engine_of
 from arbiter_host.sources import by_options
 from arbiter_host.sources.samples import History
 
@@ -60,7 +59,7 @@ class HostFile:
 
 class SentRows(NamedTuple):
     """The rows of a plan as they travel: their paths, `.` first, and parents, weights, limits and
-    demands."""
+    demands. Of `replay` the columns are those of `Settings`."""
 
     paths: list[str]
     columns: tuple[array[int], ...]
@@ -155,25 +154,17 @@ def placed(job: Job, model: Model, engine: Engine) -> Asked:
 
 
 def replayed(job: Job, model: Model, engine: Engine, history: History) -> Asked:
-    """The rows of all samples, and how many periods each holds for."""
+    """The groups with their settings, and the demands of all samples."""
     missing: list[str] = []
     path_of = series.targets(model, history.columns, job.mapping,
                              missing if job.is_served else None)
     if not path_of or not history.samples:
         raise HostFault("no sample of a group of this host")
     periods = series.sample_periods(job.sample_usec, model.host.period_us)
-    plans, times = list[SentRows](), []
-    for _, asked in history.demands(job.unit, model.host):
-        series.set_demands(model, path_of, asked)
-        counts: Counter[Plan] = Counter()
-        for made, _, count in series.periods_of(engine, model, periods):
-            counts[made] += count
-        plans += [sent(each.model, each.answer.columns) for each in counts]
-        times.append(list(counts.values()))
-    quotas = dict(zip([".", *model.groups], series.quotas_of(model, engine)))
-    columns = list(path_of.values())
-    return plans, {"columns": columns, "times": times, "unknown": missing,
-                   "quotas": [quotas[path] for path in columns]}
+    asked = series.asked_of(engine, model, history, job.unit, path_of, periods)
+    return [SentRows(asked.paths, asked.settings)], {
+        "demands": asked.demands, "carries": asked.carries, "periods": periods,
+        "columns": list(path_of.values()), "unknown": missing}
 
 
 ACTIONS = {"explain": explained, "diff": compared, "place": placed}

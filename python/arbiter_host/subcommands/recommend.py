@@ -108,7 +108,7 @@ def run(options: argparse.Namespace) -> None:
 def hosts_words(advice: Recommendation) -> str:
     """The host, or how many there are."""
     if len(advice.plans) == 1:
-        return text.host_words(advice.plans[0][1])
+        return text.host_words(advice.plans[0][1].model.host)
     cpus = sum(after.model.host.processors for _, after in advice.plans)
     return f"hosts: {len(advice.plans)}, with {text.cpus(cpus)}"
 

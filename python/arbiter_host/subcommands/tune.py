@@ -57,7 +57,7 @@ class Told:
 
     def lines(self) -> Lines:
         answer = self.answer
-        lines: Lines = [(text.host_words(self.before), ""), *self.rounded()]
+        lines: Lines = [(text.host_words(self.before.model.host), ""), *self.rounded()]
         if answer.best is not None:
             lines += self.way(answer.best)
         else:
