@@ -17,6 +17,7 @@ mod Leaves
 mod Lightened
 mod Limits
 mod Meetings
+mod OneFromRoot
 mod OneReason
 mod Paths
 mod Raises

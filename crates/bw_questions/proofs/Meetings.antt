@@ -2,10 +2,11 @@
 use Rattle.std.proofs.Common.{◌≡◌, ℕ, zero, suc, ◌+◌, ◌-◌, ◌<◌, ◌≤◌, List, [], ◌∷◌, length, Option, None, Some}
 use Rattle.std.proofs.Common.{get_or, refl, ap, sym, ◌∙◌, arith, inl, inr}
 use Rattle.std.proofs.Common.{get_or-set_same, get_or-set_other}
-use Rattle.std.specs.Prelude.{slice_set}
+use Rattle.std.specs.Prelude.{slice_set, sum}
 use Rattle.std.proofs.lemmas.Bool.{cases_eq, cases_lt}
 use Rattle.std.proofs.lemmas.List.{length-set}
 use Rattle.bw_model.specs.declared.limits.TheConstants.{MAX_WEIGHT}
+use Rattle.bw_model.proofs.CallerLemmas.{sum-cons}
 use Rattle.bw_split.specs.Conditions.{CanSplit}
 use Rattle.bw_change_laws.specs.OneSplit.{AreWeighted, LighterHasNoMore}
 use Rattle.bw_questions.specs.Needs.{AreWithin, AreBetween, CanMeet, IsShort, MeetsNeeds}
@@ -34,6 +35,31 @@ room_less [] k w below last more = absurd (omega (arith, below))
 room_less (x ∷ xs) zero w below last more = omega (arith, last, more)
 room_less (x ∷ xs) (suc k) w below last more =
     omega (arith, room_less xs k w (omega (arith, below)) last more)
+
+-- Parts that are nowhere less than the needs add up to no less.
+pub needs_fit : (needs parts : List ℕ) → length parts ≡ length needs
+    → ((k : ℕ) → k < length parts → get_or needs k 0 ≤ get_or parts k 0) → sum needs ≤ sum parts
+needs_fit [] [] e le = omega arith
+needs_fit [] (y ∷ ys) e le = absurd (omega (arith, e))
+needs_fit (x ∷ xs) [] e le = absurd (omega (arith, e))
+needs_fit (x ∷ xs) (y ∷ ys) e le =
+    omega (
+      arith,
+      sum-cons x xs,
+      sum-cons y ys,
+      le 0 (omega arith),
+      needs_fit xs ys (omega (arith, e)) (λ k below. le (suc k) (omega (arith, below))),
+    )
+
+-- No less than the needs in all meets them.
+pub too_few : (floors tops most needs : List ℕ) (amount : ℕ) → AreWithin floors tops most needs
+    → length most ≡ length floors → (sum needs ≤ amount → ⊥)
+    → (less : ℕ) → less ≤ amount → CanMeet floors tops most needs less → ⊥
+too_few floors tops most needs amount within one_each over less fewer can =
+    let fit : sum needs ≤ sum can.1 =
+    needs_fit needs can.1
+    (omega (arith, can.2.split.split.lengths, one_each, within.needs_each)) can.2.met in
+    over (omega (arith, fit, can.2.split.split.whole, fewer))
 
 -- what can be split with other weights in range, or less of it
 module _ (amount : ℕ) (weights most : List ℕ) (can : CanSplit amount weights most) where

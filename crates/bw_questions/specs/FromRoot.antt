@@ -91,6 +91,12 @@ IsTunedFromRoot groups goals may (Met tuned) =
     IsLeastFromRoot groups goals may tuned ⊎ IsLeastOfAllFromRoot groups goals may tuned
 IsTunedFromRoot groups goals may (Unmet top) = AreNeverReached groups goals may top
 
+-- Two answers with weights that meet all goals have equal weights.
+abbrev pub ThereIsOneFromRoot : Type 0
+ThereIsOneFromRoot = (groups one two : Groups) (goals : List ℕ) (may : List Bool)
+    → IsTunedFromRoot groups goals may (Met one) → IsTunedFromRoot groups goals may (Met two)
+    → (h : ℕ) → weight_of two.rows h ≡ weight_of one.rows h
+
 -- the least weight that a row may have
 abbrev pub floor_of : List Row → List Bool → ℕ → ℕ
 floor_of rows may g = if slice_index_or may g false then MIN_WEIGHT else weight_of rows g

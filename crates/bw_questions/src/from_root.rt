@@ -2,6 +2,7 @@
 ghost use Rattle.std.specs.Prelude.{◌≡◌, length, IfOk};
 ghost use Rattle.bw_questions.specs.FromRoot.{IsTunedFromRoot};
 
+mod laws;
 mod least;
 mod lightened;
 mod meeting;
@@ -11,6 +12,7 @@ mod tops;
 mod weighed;
 
 use bw_model::Instance;
+pub use laws::there_is_one_from_root;
 pub use least::Tuned;
 use least::least_from_root;
 use lightened::lightened;

@@ -10,7 +10,7 @@ mod least;
 mod tuned;
 mod why;
 
-pub use from_root::{Tuned, tune_from_root};
+pub use from_root::{Tuned, there_is_one_from_root, tune_from_root};
 pub use guaranteed::{GuaranteeFault, guarantee};
 pub use held::{
     Held, Reading, RoundTimes, asked_is_admitted_as_planned, can_be_written,

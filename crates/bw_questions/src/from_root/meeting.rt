@@ -8,7 +8,7 @@ ghost use Rattle.bw_questions.specs.Needs.{IsShort, MeetsNeeds};
 
 use bw_change_laws::lighter_has_no_more;
 use bw_model::limits::MAX_WEIGHT;
-use bw_split::split;
+use bw_split::{fits_in, split};
 use std::alloc::{AllocError, Global};
 
 /// Weights of siblings, and the parts of an amount that the siblings have with them.
@@ -116,6 +116,9 @@ pub(crate) fn least_raise(
     ensures { IfOk result (IsLeastMeeting floors.now tops.now most.now needs.now amount) }
 {
     lighter_has_no_more();
+    if !fits_in(needs, amount) {
+        return Ok(None);
+    }
     let mut weights = copied(alloc, floors)?;
     let mut parts = split(alloc, amount, weights.as_slice(), most)?;
     while let Some(child) = short(parts.as_slice(), needs) {

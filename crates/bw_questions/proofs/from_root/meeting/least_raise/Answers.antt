@@ -1,9 +1,9 @@
 -- The goals of `least_raise` that are answered by hand.
-use Rattle.std.proofs.Common.{◌≡◌, ◌<◌, ℕ, None, Some, length, get_or, arith, ap}
+use Rattle.std.proofs.Common.{◌≡◌, ◌<◌, ℕ, None, Some, length, get_or, arith, ap, sym, ◌∙◌, true≢false}
 use Rattle.bw_split.specs.Conditions.{CanSplit}
 use Rattle.bw_questions.specs.Needs.{IsRaisedTo}
 use Rattle.bw_questions.proofs.Meetings.{set_same, can_weigh, never_met, raise-between, raise-least}
-use Rattle.bw_questions.proofs.Meetings.{no_value, room_less}
+use Rattle.bw_questions.proofs.Meetings.{no_value, room_less, too_few}
 use Rattle.bw_questions.proofs.from_root.meeting.least_raise.Goals as goal
 
 pub raised_weight-requires-clause-short : goal.raised_weight-requires-clause-short
@@ -112,3 +112,9 @@ loop-child-preserved c =
           c.requires.within c.loop-child.invariant.between c.in-Some.child below
           c.in-Some-raised.weight some.0 some.1 some.2 c.loop-child.invariant.least;
     }
+
+pub returns-then-not-fits_in : goal.returns-then-not-fits_in
+returns-then-not-fits_in c =
+    too_few c.args.floors.now c.args.tops.now c.args.most.now c.args.needs.now c.args.amount
+    c.requires.within c.requires.can.one_each
+    (λ fit. true≢false (sym (c.fits_in.ensures.1 fit) ∙ c.if-not-fits_in.true))
