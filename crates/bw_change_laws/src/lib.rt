@@ -18,8 +18,8 @@ mod room;
 mod weight;
 
 pub use asked::{
-    demand_only_cuts, greater_demands_serve_no_more, unmet_demand_changes_nothing,
-    unused_demand_changes_nothing,
+    demand_only_cuts, demands_inside_only_cut, greater_demands_serve_no_more,
+    unmet_demand_changes_nothing, unused_demand_changes_nothing,
 };
 pub use cut::{limit_gives_or_lets_go, limit_only_cuts, no_more_below};
 pub use fairness::{fair_within_half_a_slice, weight_is_a_floor};
