@@ -1,4 +1,4 @@
--- What siblings need of one amount, and the weights that give it to them.
+-- Needs of siblings from one amount, and the weights that meet them.
 use Rattle.std.specs.Prelude.{◌≡◌, ℕ, ◌-◌, ◌<◌, ◌≤◌, List, Option, None, Some, length}
 use Rattle.std.specs.Prelude.{slice_index, slice_set}
 use Rattle.bw_model.specs.declared.limits.TheConstants.{MAX_WEIGHT}

@@ -1,4 +1,4 @@
--- What groups need, and the least weights at each group, from the root down.
+-- Needs of groups, and the least weights at each group, from the root down.
 use Rattle.std.specs.Prelude.{◌≡◌, ℕ, ◌<◌, ◌≤◌, List, Option, None, Some, false, length, map}
 use Rattle.std.specs.Prelude.{slice_index}
 use Rattle.bw_model.specs.declared.limits.TheConstants.{MAX_WEIGHT, MAX_CAPACITY}

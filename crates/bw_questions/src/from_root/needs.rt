@@ -1,4 +1,4 @@
-//! What each group needs so that the goals inside it are met, from the last row up.
+//! Needs of the groups, with which the goals inside them are met, from the last row up.
 ghost use Rattle.std.specs.Prelude.{◌≡◌, ℕ, ◌<◌, ◌≤◌, false, length, slice_index, IfOk};
 ghost use Rattle.bw_model.specs.Groups.{is_leaf};
 ghost use Rattle.bw_questions.specs.Passes.{AreColumns, AreNeeds, AreNeedsBelow, IsLeastThat, Suffices};
@@ -10,7 +10,7 @@ use bw_model::limits::MAX_CAPACITY;
 use bw_plan::{child_values, child_weights};
 use std::alloc::{AllocError, Global};
 
-/// What each group needs, or the last group that needs more than it can be given.
+/// Needs of all groups, or the last group that needs more than it can be given.
 #[derive(Debug, Drop)]
 pub(crate) enum Needs {
     /// The least slices of each row with which the goals inside it can be met.
@@ -95,7 +95,7 @@ fn need_of(
     Ok(Some(first))
 }
 
-/// What each group needs, or a group that needs more than it can be given.
+/// The need of each group, or a group that needs more than it can be given.
 ///
 /// # Errors
 /// `AllocError` if memory was refused.
