@@ -122,7 +122,7 @@ module _ (a b : Groups) (group : ℕ) (xs ys : List ℕ) (va : IsInstance a) (vb
   within_b h below = within_most b vb ys is_other h (omega (arith, below, busier.tree.as_many))
 
   -- A group with less than its most in the busier instance has there no more than before.
-  NoMore : ℕ → Type 0
+  unfoldable pub NoMore : ℕ → Type 0
   NoMore h = (get_or ys h 0 ≤ get_or xs h 0) ⊎ (get_or xs h 0 ≡ get_or (mosts a va.tree) h 0)
 
   -- A group that has more, though it had its most, was not at its limit: its children had theirs.
@@ -136,7 +136,7 @@ module _ (a b : Groups) (group : ℕ) (xs ys : List ℕ) (va : IsInstance a) (vb
       (busier.limits p) inner (omega (arith, more, full, within_b p p_in)) in
       child_full a va xs is_plan c p c_in e (omega (arith, full, whole))
 
-  no_more : (h : ℕ) → h < length a.rows → is_under a.rows h group ≡ true → NoMore h
+  pub no_more : (h : ℕ) → h < length a.rows → is_under a.rows h group ≡ true → NoMore h
   unfolding NoMore
   no_more = from_the_root a.rows va.tree
       (λ h. is_under a.rows h group ≡ true

@@ -8,6 +8,7 @@ mod Carried
 mod CutLaw
 mod HostLaws
 mod IdleLaw
+mod InsideDemands
 mod InsideLaw
 mod Lacking
 mod Lists

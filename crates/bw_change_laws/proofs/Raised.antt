@@ -4,6 +4,7 @@ use Rattle.std.proofs.Common.{get_or, ap, sym, ◌∙◌, arith, inl, inr}
 use Rattle.std.proofs.lemmas.Bool.{cases_lt, cases_eq}
 use Rattle.bw_model.specs.Split.{IsBestSplit}
 use Rattle.bw_change_laws.specs.OneSplit.{AreWeighted, IsRaised, RaisedChildAloneGains}
+use Rattle.bw_change_laws.specs.OneSplit.{LighterHasNoMore}
 use Rattle.bw_change_laws.proofs.Lists.{find_greater, outside}
 use Rattle.bw_change_laws.proofs.Pairs.{best_pairs, no_swap}
 
@@ -142,3 +143,46 @@ raised_alone_gains amount w m v n xs ys child weighted more_weighted raised best
   others_lose amount amount w m v n xs ys child weighted more_weighted raised best next
       (omega arith),
 )
+
+-- A child that is no heavier, beside siblings that are no lighter, has no more of no more.
+pub lighter_no_more : LighterHasNoMore
+lighter_no_more amount less weights most other_weights parts others child fewer weighted
+    other_weighted lighter heavier best next room =
+    elim (cases_lt (get_or parts child 0) (get_or others child 0)) [
+      | inr fine ↦ fine
+      | inl gains ↦ elim (cases_lt child (length parts)) [
+        | inr out ↦ absurd
+            (let nothing : get_or others child 0 ≡ 0 = outside others child (omega (arith, out, same))
+            in omega (arith, nothing, gains))
+        | inl inside ↦ elim (find_greater others parts same
+            (omega (arith, best.split.whole, next.split.whole, fewer))) [
+              | inr equal ↦ absurd
+                  (let e : get_or others child 0 ≡ get_or parts child 0 =
+                  ap (λ xs. get_or xs child 0) equal in
+                  omega (arith, e, gains))
+              | inl found ↦ absurd
+                  (swapped found.0 (omega (arith, found.1, same)) inside gains found.2)
+            ]
+      ]
+    ]
+  where
+    same : length others ≡ length parts
+    same = next.split.lengths ∙ sym best.split.lengths
+
+    swapped : (k : ℕ) → k < length parts → child < length parts
+        → get_or parts child 0 < get_or others child 0 → get_or others k 0 < get_or parts k 0 → ⊥
+    swapped k k_in inside gains loses =
+        let apart : k ≢ child =
+        (λ here. let l : get_or others child 0 < get_or parts child 0 = rw here at loses in
+        let clash : ⊥ = omega (arith, l, gains) in clash) in
+        let under : get_or parts k 0 ≤ get_or most k 0 = best.split.within k k_in in
+        no_swap weights most parts other_weights most others
+        (best_pairs amount weights most parts weighted best)
+        (best_pairs less other_weights most others other_weighted next)
+        child k inside k_in same
+        (weighted.positive child (omega (arith, inside, weighted.one_each, best.split.lengths)))
+        (weighted.positive k (omega (arith, k_in, weighted.one_each, best.split.lengths)))
+        (other_weighted.positive child
+        (omega (arith, inside, other_weighted.one_each, best.split.lengths)))
+        (other_weighted.positive k (omega (arith, k_in, other_weighted.one_each, best.split.lengths)))
+        gains loses lighter room (heavier k apart) (omega (arith, loses, under))

@@ -1,6 +1,9 @@
 -- Laws of leaves that ask for more.
-use Rattle.std.specs.Prelude.{◌≡◌, ◌≢◌, ℕ, ◌<◌, ◌≤◌, List, true, length, min, slice_index}
+use Rattle.std.specs.Prelude.{◌≡◌, ◌≢◌, ℕ, ◌<◌, ◌≤◌, List, true, false, length, min}
+use Rattle.std.specs.Prelude.{slice_index}
 use Rattle.bw_model.specs.Groups.{Groups, IsInstance, weight_of, demand_of, limit_of, is_leaf}
+use Rattle.bw_model.specs.Groups.{is_under}
+use Rattle.bw_model.specs.Demand.{AreMaxTotals}
 use Rattle.bw_model.specs.Plan.{IsPlan}
 use Rattle.bw_change_laws.specs.Tree.{IsSameTree}
 
@@ -49,3 +52,19 @@ UnusedDemandChangesNothing = (groups busier : Groups) (amounts others : List ℕ
     → ((l : ℕ) → l < length groups.rows → is_leaf groups.rows l ≡ true
     → slice_index others l ≤ demand_of groups.rows l)
     → (h : ℕ) → h < length groups.rows → slice_index others h ≡ slice_index amounts h
+
+-- An instance with equal weights and limits and no smaller demands, of which those outside a group
+-- are equal.
+pub record IsBusierInside (groups busier : Groups) (group : ℕ) : Type 0 where
+  pub no_less : IsBusier groups busier
+  pub within : group < length groups.rows
+  pub outside : (h : ℕ) → is_under groups.rows group h ≡ false
+      → demand_of busier.rows h ≡ demand_of groups.rows h
+
+-- Where leaves of a group ask for more, it has what it has then, or its most of before if that is
+-- less.
+abbrev pub DemandsInsideOnlyCut : Type 0
+DemandsInsideOnlyCut = (groups busier : Groups) (group : ℕ) (most amounts others : List ℕ)
+    → IsInstance groups → IsInstance busier → IsBusierInside groups busier group
+    → AreMaxTotals groups most → IsPlan groups amounts → IsPlan busier others
+    → slice_index amounts group ≡ min (slice_index others group) (slice_index most group)

@@ -37,3 +37,14 @@ RestStaysSplit = (amount : ℕ) (weights most parts : List ℕ) (child : ℕ) �
     → child < length parts → IsBestSplit amount weights most parts
     → IsBestSplit (amount - slice_index parts child) (remove weights child) (remove most child)
     (remove parts child)
+
+-- Beside no lighter siblings, and with no more to split, a child of no greater weight that could take
+-- more has no more.
+abbrev pub LighterHasNoMore : Type 0
+LighterHasNoMore = (amount less : ℕ) (weights most other_weights parts others : List ℕ) (child : ℕ)
+    → less ≤ amount → AreWeighted weights most → AreWeighted other_weights most
+    → slice_index other_weights child ≤ slice_index weights child
+    → ((k : ℕ) → k ≢ child → slice_index weights k ≤ slice_index other_weights k)
+    → IsBestSplit amount weights most parts → IsBestSplit less other_weights most others
+    → slice_index parts child < slice_index most child
+    → slice_index others child ≤ slice_index parts child

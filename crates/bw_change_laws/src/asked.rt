@@ -1,6 +1,7 @@
 //! Laws of leaves that ask for more.
 ghost use Rattle.bw_change_laws.specs.Asked.{DemandOnlyCuts, GreaterDemandsServeNoMore};
 ghost use Rattle.bw_change_laws.specs.Asked.{UnmetDemandChangesNothing, UnusedDemandChangesNothing};
+ghost use Rattle.bw_change_laws.specs.Asked.{DemandsInsideOnlyCut};
 
 /// Law: a leaf gets what it gets with any greater demand, or its demand if that is less.
 pub fn demand_only_cuts()
@@ -20,4 +21,10 @@ pub fn unmet_demand_changes_nothing()
 /// Law: a plan that gives no leaf more than a smaller demand is the plan of the smaller demands.
 pub fn unused_demand_changes_nothing()
     ensures { UnusedDemandChangesNothing }
+{}
+
+/// Law: a group has what it has where leaves of it ask for more, or the most that it can be given if
+/// that is less. So the plan in which each leaf asks for the most tells all guarantees.
+pub fn demands_inside_only_cut()
+    ensures { DemandsInsideOnlyCut }
 {}

@@ -2,7 +2,7 @@
 //!
 //! They hold of any amount, any weights above 0 and any maxima.
 ghost use Rattle.bw_change_laws.specs.OneSplit.{MoreTakesFromNobody, RaisedChildAloneGains};
-ghost use Rattle.bw_change_laws.specs.OneSplit.{RestStaysSplit};
+ghost use Rattle.bw_change_laws.specs.OneSplit.{RestStaysSplit, LighterHasNoMore};
 
 /// Law: with one slice more to split, exactly one child gets one slice more, and no other child's
 /// part changes.
@@ -19,4 +19,10 @@ pub fn raised_child_alone_gains()
 /// Law: without one child and its part, the other children's parts are the best split of the rest.
 pub fn rest_stays_split()
     ensures { RestStaysSplit }
+{}
+
+/// Law: a child of no greater weight that could take more has no more where no sibling is lighter
+/// and there is no more to split.
+pub fn lighter_has_no_more()
+    ensures { LighterHasNoMore }
 {}

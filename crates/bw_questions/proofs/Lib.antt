@@ -1,6 +1,7 @@
 -- The files of lemmas.
 mod Alike
 mod AskingRows
+mod AtGroup
 mod Blame
 mod BusyRows
 mod ByAll
@@ -11,8 +12,12 @@ mod Halving
 mod Help
 mod Judged
 mod LeastAmount
+mod LeastLaw
 mod Leaves
+mod Lightened
 mod Limits
+mod Meetings
+mod OneFromRoot
 mod OneReason
 mod Paths
 mod Raises
@@ -24,3 +29,4 @@ mod Runs
 mod StillInstance
 mod TimeSlices
 mod TwoStarts
+mod Weighed

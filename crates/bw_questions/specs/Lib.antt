@@ -3,12 +3,15 @@ pub mod Busy
 pub mod Change
 pub mod Exact
 pub mod Fault
+pub mod FromRoot
 pub mod Guarantee
 pub mod HeldLaws
 pub mod HeldRule
 pub mod Hunger
 pub mod Laws
 pub mod Least
+pub mod Needs
+pub mod Passes
 pub mod Plans
 pub mod Raising
 pub mod Reading

@@ -3,12 +3,14 @@
 //! once, why each group gets what it gets, and which limits hold the plan on a host.
 #![tactic(auto)]
 
+mod from_root;
 mod guaranteed;
 mod held;
 mod least;
 mod tuned;
 mod why;
 
+pub use from_root::{Tuned, there_is_one_from_root, tune_from_root};
 pub use guaranteed::{GuaranteeFault, guarantee};
 pub use held::{
     Held, Reading, RoundTimes, asked_is_admitted_as_planned, calm_holds_nobody, can_be_written,

@@ -1,0 +1,139 @@
+-- Weights of rows that may change, with which all goals are met: the least ones from the root down.
+use Rattle.std.specs.Prelude.{◌≡◌, ◌≢◌, ◌⊎◌, ℕ, ◌<◌, ◌≤◌, List, Bool, true, false, Some, length, map}
+use Rattle.std.specs.Prelude.{slice_index, slice_index_or, if◌then◌else◌}
+use Rattle.std.specs.List.{range_with_len}
+use Rattle.bw_model.specs.declared.limits.TheConstants.{MIN_WEIGHT, MAX_WEIGHT}
+use Rattle.bw_model.specs.declared.row.Row.{Row}
+use Rattle.bw_model.specs.Groups.{Groups, IsInstance, parent_of, row_of, weight_of, demand_of}
+use Rattle.bw_model.specs.Groups.{limit_of, is_under}
+use Rattle.bw_model.specs.Plan.{IsPlan}
+use Rattle.bw_change_laws.specs.Tree.{IsSameTree}
+use Rattle.bw_questions.specs.Tune.{IsNoLighter}
+use Rattle.bw_questions.specs.declared.from_root.least.Tuned.{Tuned}
+use Rattle.bw_questions.specs.declared.from_root.least.Tuned.TheVariants.{Met, Unmet}
+
+-- An instance that differs from another in weights alone, and in those of rows that may change.
+pub record IsReweightedAt (groups others : Groups) (may : List Bool) : Type 0 where
+  pub valid : IsInstance others
+  pub shape : others.shape ≡ groups.shape
+  pub tree : IsSameTree groups.rows others.rows
+  pub demands : (h : ℕ) → demand_of others.rows h ≡ demand_of groups.rows h
+  pub limits : (h : ℕ) → limit_of others h ≡ limit_of groups h
+  pub weights : (h : ℕ) → slice_index_or may h false ≡ false
+      → weight_of others.rows h ≡ weight_of groups.rows h
+
+-- the plan gives each row its goal
+pub record AreReached (groups : Groups) (goals : List ℕ) : Type 0 where
+  pub amounts : List ℕ
+  pub plan : IsPlan groups amounts
+  pub met : (h : ℕ) → h < length groups.rows → slice_index goals h ≤ slice_index amounts h
+
+-- the plan gives its goal to a group and to each row below it
+pub record AreReachedUnder (groups : Groups) (goals : List ℕ) (top : ℕ) : Type 0 where
+  pub amounts : List ℕ
+  pub plan : IsPlan groups amounts
+  pub met : (h : ℕ) → h < length groups.rows → is_under groups.rows top h ≡ true
+      → slice_index goals h ≤ slice_index amounts h
+
+-- equal weights of each group above a row and of that group's siblings
+abbrev pub AgreesAbove : Groups → Groups → ℕ → Type 0
+AgreesAbove groups others h = (a s p : ℕ) → is_under groups.rows a h ≡ true → a ≢ h
+    → parent_of groups.rows a ≡ Some p → parent_of groups.rows s ≡ Some p
+    → weight_of others.rows s ≡ weight_of groups.rows s
+
+-- Weights of rows that may change, none less than those that stand, that meet all goals. Of all such
+-- weights that agree above a row, theirs of that row is the least.
+pub record IsLeastFromRoot (groups : Groups) (goals : List ℕ) (may : List Bool) (tuned : Groups)
+    : Type 0 where
+  pub reweighted : IsReweightedAt groups tuned may
+  pub no_lighter : IsNoLighter groups tuned
+  pub met : AreReached tuned goals
+  pub least : (others : Groups) → IsReweightedAt groups others may → IsNoLighter groups others
+      → AreReached others goals → (h : ℕ) → AgreesAbove tuned others h
+      → weight_of tuned.rows h ≤ weight_of others.rows h
+
+-- no weights of rows that may change, none less than those that stand, meet the goals of a group and
+-- below it
+pub record IsNeverReached (groups : Groups) (goals : List ℕ) (may : List Bool) (top : ℕ) : Type 0
+  where
+    pub within : top < length groups.rows
+    pub never : (others : Groups) → IsReweightedAt groups others may → IsNoLighter groups others
+        → AreReachedUnder others goals top → ⊥
+
+-- the least weights from the root down, or a group whose goals no weights meet together
+abbrev pub IsFromRoot : Groups → List ℕ → List Bool → Tuned → Type 0
+IsFromRoot groups goals may (Met tuned) = IsLeastFromRoot groups goals may tuned
+IsFromRoot groups goals may (Unmet top) = IsNeverReached groups goals may top
+
+-- Weights of rows that may change that meet all goals, where none that are no less than those that
+-- stand do. Of all such weights that agree above a row, theirs of that row is the least.
+pub record IsLeastOfAllFromRoot (groups : Groups) (goals : List ℕ) (may : List Bool)
+    (tuned : Groups) : Type 0 where
+  pub reweighted : IsReweightedAt groups tuned may
+  pub met : AreReached tuned goals
+  pub none_heavier : (others : Groups) → IsReweightedAt groups others may
+      → AreReached others goals → ¬ IsNoLighter groups others
+  pub least : (others : Groups) → IsReweightedAt groups others may → AreReached others goals
+      → (h : ℕ) → AgreesAbove tuned others h
+      → weight_of tuned.rows h ≤ weight_of others.rows h
+
+-- no weights of rows that may change meet the goals of a group and below it
+pub record AreNeverReached (groups : Groups) (goals : List ℕ) (may : List Bool) (top : ℕ) : Type 0
+  where
+    pub within : top < length groups.rows
+    pub never : (others : Groups) → IsReweightedAt groups others may
+        → ¬ AreReachedUnder others goals top
+
+-- The least weights from the root down that are no less than those that stand, or else of all, or a
+-- group whose goals no weights meet together.
+abbrev pub IsTunedFromRoot : Groups → List ℕ → List Bool → Tuned → Type 0
+IsTunedFromRoot groups goals may (Met tuned) =
+    IsLeastFromRoot groups goals may tuned ⊎ IsLeastOfAllFromRoot groups goals may tuned
+IsTunedFromRoot groups goals may (Unmet top) = AreNeverReached groups goals may top
+
+-- Two answers with weights that meet all goals have equal weights.
+abbrev pub ThereIsOneFromRoot : Type 0
+ThereIsOneFromRoot = (groups one two : Groups) (goals : List ℕ) (may : List Bool)
+    → IsTunedFromRoot groups goals may (Met one) → IsTunedFromRoot groups goals may (Met two)
+    → (h : ℕ) → weight_of two.rows h ≡ weight_of one.rows h
+
+-- the least weight that a row may have
+abbrev pub floor_of : List Row → List Bool → ℕ → ℕ
+floor_of rows may g = if slice_index_or may g false then MIN_WEIGHT else weight_of rows g
+
+-- one least weight for each row
+pub record AreFloors (rows : List Row) (may : List Bool) (floors : List ℕ) : Type 0 where
+  pub one_each : length floors ≡ length rows
+  pub each : (g : ℕ) → g < length rows → slice_index floors g ≡ floor_of rows may g
+
+-- the groups in which each row that may change has the least weight
+pub record IsLightened (groups : Groups) (may : List Bool) (light : Groups) : Type 0 where
+  pub reweighted : IsReweightedAt groups light may
+  pub least : (g : ℕ) → g < length groups.rows → slice_index_or may g false ≡ true
+      → weight_of light.rows g ≡ MIN_WEIGHT
+
+-- the greatest weight that a row may have
+abbrev pub top_of : List Row → List Bool → ℕ → ℕ
+top_of rows may g = if slice_index_or may g false then MAX_WEIGHT else weight_of rows g
+
+-- one greatest weight for each row
+pub record AreTops (rows : List Row) (may : List Bool) (tops : List ℕ) : Type 0 where
+  pub one_each : length tops ≡ length rows
+  pub each : (g : ℕ) → g < length rows → slice_index tops g ≡ top_of rows may g
+
+-- one weight in range for each row
+pub record AreRowWeights (rows : List Row) (weights : List ℕ) : Type 0 where
+  pub one_each : length weights ≡ length rows
+  pub in_range : (g : ℕ) → g < length rows → (MIN_WEIGHT ≤ slice_index weights g)
+      × (slice_index weights g ≤ MAX_WEIGHT)
+
+-- the row of a group with another weight
+abbrev pub weighed_row : List Row → List ℕ → ℕ → Row
+weighed_row rows weights g = record (row_of rows g) { weight = slice_index weights g }
+
+-- the groups with other weights
+abbrev pub weighed : Groups → List ℕ → Groups
+weighed groups weights = record {
+  shape = groups.shape;
+  rows = map (weighed_row groups.rows weights) (range_with_len 0 (length groups.rows));
+}

@@ -1,0 +1,201 @@
+//! The least weights of siblings with which each gets what it needs of one amount.
+ghost use Rattle.std.specs.Prelude.{◌≡◌, ℕ, ◌<◌, ◌≤◌, true, false, length, slice_index, slice_set};
+ghost use Rattle.std.specs.Prelude.{List, IfOk, IfSome, IfNone};
+ghost use Rattle.bw_model.specs.Split.{IsBestSplit};
+ghost use Rattle.bw_split.specs.Conditions.{CanSplit};
+ghost use Rattle.bw_questions.specs.Needs.{AreWithin, CanMeet, IsLeastAmount, IsLeastMeeting, IsRaisedTo};
+ghost use Rattle.bw_questions.specs.Needs.{IsShort, MeetsNeeds};
+
+use bw_change_laws::lighter_has_no_more;
+use bw_model::limits::MAX_WEIGHT;
+use bw_split::{fits_in, split};
+use std::alloc::{AllocError, Global};
+
+/// Weights of siblings, and the parts of an amount that the siblings have with them.
+#[derive(Debug, Drop)]
+pub(crate) struct Meeting {
+    /// The weight of each sibling.
+    pub(crate) weights: Vec<u64>,
+    /// The slices of each sibling.
+    pub(crate) parts: Vec<u64>,
+}
+
+fn copied(alloc: Global, numbers: &[u64]) -> Result<Vec<u64>, AllocError>
+    ensures { IfOk result (λ copy. copy.items ≡ numbers.now) }
+{
+    numbers.iter().copied().collect(alloc)
+}
+
+// The parts of an amount with another weight of one child.
+fn split_with(
+    alloc: Global,
+    amount: u64,
+    weights: &[u64],
+    most: &[u64],
+    child: usize,
+    weight: u64,
+) -> Result<Vec<u64>, AllocError>
+    requires can { CanSplit amount weights.now most.now }
+    requires child { child < length weights.now }
+    requires weight { (1 ≤ weight) × (weight ≤ MAX_WEIGHT) }
+    ensures { IfOk result
+        (λ parts. IsBestSplit amount (slice_set weights.now child weight) most.now parts.items) }
+{
+    let mut tried = copied(alloc, weights)?;
+    tried[child] = weight;
+    split(alloc, amount, tried.as_slice(), most)
+}
+
+// A weight for a child that falls short: with the one before it the child falls short too. None: it
+// does with the top.
+fn raised_weight(
+    alloc: Global,
+    amount: u64,
+    weights: &[u64],
+    most: &[u64],
+    child: usize,
+    top: u64,
+    need: u64,
+) -> Result<Option<u64>, AllocError>
+    requires can { CanSplit amount weights.now most.now }
+    requires child { child < length weights.now }
+    requires top { (slice_index weights.now child ≤ top) × (top ≤ MAX_WEIGHT) }
+    requires short { IsShort amount weights.now most.now child need
+        (slice_index weights.now child) }
+    ensures { IfOk result (IsRaisedTo amount weights.now most.now child need top) }
+{
+    // With `low` the child falls short.
+    let mut low = weights[child];
+    let mut high = top + 1;
+    while low + 1 < high {
+        let middle = low + (high - low) / 2;
+        let parts = split_with(alloc, amount, weights, most, child, middle)?;
+        if parts[child] < need {
+            low = middle;
+        } else {
+            high = middle;
+        }
+    }
+    Ok(if high > top { None } else { Some(high) })
+}
+
+// The first child that has less than it needs, by its place.
+fn short(parts: &[u64], needs: &[u64]) -> Option<usize>
+    requires { length parts.now ≡ length needs.now }
+    ensures some { IfSome result (λ k. (k < length parts.now)
+        × (slice_index parts.now k < slice_index needs.now k)) }
+    ensures none { IfNone result ((k : ℕ) → k < length parts.now
+        → slice_index needs.now k ≤ slice_index parts.now k) }
+{
+    for k in 0..parts.len() {
+        if parts[k] < needs[k] {
+            return Some(k);
+        }
+    }
+    None
+}
+
+/// The least weights of siblings, from their floors to their tops, with which each gets what it
+/// needs of an amount. None: no such weights do, of this amount or of a smaller one.
+///
+/// A raise of one weight stops at the last one with which the child fell short, and one more. All
+/// weights that meet the needs are at least as great, so no raise goes too far.
+///
+/// # Errors
+/// `AllocError` if memory was refused.
+pub(crate) fn least_raise(
+    alloc: Global,
+    amount: u64,
+    floors: &[u64],
+    tops: &[u64],
+    most: &[u64],
+    needs: &[u64],
+) -> Result<Option<Meeting>, AllocError>
+    requires can { CanSplit amount floors.now most.now }
+    requires within { AreWithin floors.now tops.now most.now needs.now }
+    ensures { IfOk result (IsLeastMeeting floors.now tops.now most.now needs.now amount) }
+{
+    lighter_has_no_more();
+    if !fits_in(needs, amount) {
+        return Ok(None);
+    }
+    let mut weights = copied(alloc, floors)?;
+    let mut parts = split(alloc, amount, weights.as_slice(), most)?;
+    while let Some(child) = short(parts.as_slice(), needs) {
+        let raised = raised_weight(
+            alloc,
+            amount,
+            weights.as_slice(),
+            most,
+            child,
+            tops[child],
+            needs[child],
+        )?;
+        let Some(weight) = raised else {
+            return Ok(None);
+        };
+        weights[child] = weight;
+        parts = split(alloc, amount, weights.as_slice(), most)?;
+    }
+    Ok(Some(Meeting { weights, parts }))
+}
+
+// Whether some weights of siblings give each what it needs of an amount.
+fn can_meet(
+    alloc: Global,
+    amount: u64,
+    floors: &[u64],
+    tops: &[u64],
+    most: &[u64],
+    needs: &[u64],
+) -> Result<bool, AllocError>
+    requires can { CanSplit amount floors.now most.now }
+    requires within { AreWithin floors.now tops.now most.now needs.now }
+    ensures some { IfOk result
+        (λ can. can ≡ true → CanMeet floors.now tops.now most.now needs.now amount) }
+    ensures none { IfOk result (λ can. can ≡ false → (less : ℕ) → less ≤ amount
+        → CanMeet floors.now tops.now most.now needs.now less → ⊥) }
+{
+    match least_raise(alloc, amount, floors, tops, most, needs)? {
+        Some(_) => Ok(true),
+        None => Ok(false),
+    }
+}
+
+/// The least amount from `first` to `limit` of which some weights of siblings, from their floors to
+/// their tops, give each what it needs. None: there is no such amount.
+///
+/// # Errors
+/// `AllocError` if memory was refused.
+pub(crate) fn least_amount(
+    alloc: Global,
+    first: u64,
+    limit: u64,
+    floors: &[u64],
+    tops: &[u64],
+    most: &[u64],
+    needs: &[u64],
+) -> Result<Option<u64>, AllocError>
+    requires can { CanSplit limit floors.now most.now }
+    requires within { AreWithin floors.now tops.now most.now needs.now }
+    ensures { IfOk result (IsLeastAmount floors.now tops.now most.now needs.now first limit) }
+{
+    if first > limit {
+        return Ok(None);
+    }
+    if can_meet(alloc, first, floors, tops, most, needs)? {
+        return Ok(Some(first));
+    }
+    // No amount from the first one to below `low` will do. `high` does, unless it is past the limit.
+    let mut low = first + 1;
+    let mut high = limit + 1;
+    while low < high {
+        let middle = low + (high - low) / 2;
+        if can_meet(alloc, middle, floors, tops, most, needs)? {
+            high = middle;
+        } else {
+            low = middle + 1;
+        }
+    }
+    Ok(if low > limit { None } else { Some(low) })
+}
