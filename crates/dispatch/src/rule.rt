@@ -1,8 +1,8 @@
 //! The dispatcher: its state, and the events that the rule allows.
-ghost use Rattle.std.specs.Prelude.{◌≡◌, ◌<◌, [], ◌++◌, ◌∷◌, OnOk, OnErr, IfOk, slice_get, length};
-ghost use Rattle.std.specs.Prelude.{Some, None, replicate};
+ghost use Rattle.std.specs.Prelude.{◌≡◌, ◌<◌, [], ◌++◌, ◌∷◌, OnOk, OnErr, IfOk, IfErr, slice_get};
+ghost use Rattle.std.specs.Prelude.{Some, None, length, replicate};
 ghost use Rattle.dispatch.specs.Rule.{allowed, happens, free_processor, leaf_run, new_leaf};
-ghost use Rattle.dispatch.specs.Rule.{Dispatches};
+ghost use Rattle.dispatch.specs.Rule.{Dispatches, IsRefusedPick};
 
 use crate::events::{Event, Refusal};
 use crate::leaves::{Leaf, leaf_ended, leaf_picked, leaf_woken, least};
@@ -183,6 +183,7 @@ impl Dispatcher {
     pub fn dispatch(&mut self, processor: u64) -> Result<Option<u64>, Refusal>
         ensures ok { IfOk result (Dispatches self.old processor self.new) }
         ensures err { OnErr result (self.new ≡ self.old) }
+        ensures refused { IfErr result (IsRefusedPick self.old processor) }
     {
         self.free_processor(processor)?;
         let Some(leaf) = least(&self.leaves) else {
