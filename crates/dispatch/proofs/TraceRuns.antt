@@ -31,7 +31,7 @@ none_runs : (k n : ℕ) → runs_of k (replicate n None) ≡ 0
 none_runs k zero = refl
 none_runs k (suc n) = omega (arith, none_runs k n)
 
--- what is 0 of each leaf, of a new one too
+-- a number that is 0 of each leaf, of a new one too
 zero_pushed : (f : Leaf → ℕ) (ls : List Leaf) (l d : Leaf) (k : ℕ) → f l ≡ 0
     → f d ≡ 0 → ((j : ℕ) → f (get_or ls j d) ≡ 0) → f (get_or (ls ++ l ∷ []) k d) ≡ 0
 zero_pushed f [] l d zero here none each = here

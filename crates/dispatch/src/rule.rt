@@ -107,7 +107,7 @@ impl Dispatcher {
         }
     }
 
-    // What a processor runs, if there is one of this number.
+    // The leaf that a processor runs, if it runs one, and if there is a processor of this number.
     fn processor(&self, processor: u64) -> Option<Option<u64>>
         ensures { result ≡ slice_get self.now.processors processor }
     {
@@ -140,7 +140,8 @@ impl Dispatcher {
         }
     }
 
-    /// So many tasks of a leaf wake. If the leaf had none, its clock is lifted to the clock of all.
+    /// Tasks of a leaf wake: this number of them. If the leaf had none, its clock is lifted to the
+    /// clock of all.
     ///
     /// # Errors
     ///
