@@ -185,7 +185,7 @@ both_of : (a b : Result (Unit {0}) Refusal) → and_then a b ≡ Ok tt → (a �
 both_of (Ok u) b ok = (refl, ok)
 both_of (Err f) b ok = absurd (cc ok)
 
-free_is : (q : Option (Option ℕ)) → free_processor q ≡ Ok tt → q ≡ Some None
+pub free_is : (q : Option (Option ℕ)) → free_processor q ≡ Ok tt → q ≡ Some None
 free_is None ok = absurd (cc ok)
 free_is (Some None) ok = refl
 free_is (Some (Some i)) ok = absurd (cc ok)

@@ -70,13 +70,13 @@ lead_ended ui ri used b slice overrun most short before =
 
 -- ---- states
 
--- what holds of the uses, the runs and the charges of a leaf i and of one j that waits
+-- the uses, the runs and the charges of a leaf i and of one j that waits
 pub record Numbers (slice overrun processors a b ui ri ci uj rj cj : ℕ) : Type 0 where
   pub charge_i : ui + slice * ri ≤ ci
   pub charge_j : cj ≡ uj + slice * rj
   pub lead : (ui + (slice + overrun) * ri) * b ≤ uj * a + most_ahead slice overrun processors a b
 
--- what holds of each state of a run
+-- each state of a run, of a leaf i and of one j that waits
 pub record Leads (slice overrun processors a b i j : ℕ) (t : DispatchState) : Type 0 where
   pub slice_is : t.slice ≡ slice
   pub processors_are : length t.processors ≡ processors

@@ -9,7 +9,7 @@ use Rattle.dispatch.specs.declared.input.Input.{Input}
 use Rattle.dispatch.specs.declared.input.Input.TheVariants as lines
 use Rattle.dispatch.specs.Accepted.{after_inputs, SetsUp, AllSetUp, AllUseAtMost, TraceIsARun}
 use Rattle.dispatch.specs.Replay.{input_after, MayFollow, AllFollow, nothing_set}
-use Rattle.dispatch.specs.Rule.{DispatchState, leaf_at, new_leaf, after, state_ended}
+use Rattle.dispatch.specs.Rule.{DispatchState, new_leaf, after, state_ended}
 use Rattle.dispatch.specs.Runs.{IsStart, AreAmounts, IsRun, UsesAtMost, runs_of}
 
 -- ---- lines
@@ -31,7 +31,7 @@ none_runs : (k n : ℕ) → runs_of k (replicate n None) ≡ 0
 none_runs k zero = refl
 none_runs k (suc n) = omega (arith, none_runs k n)
 
--- what is 0 of each leaf, of a new one too
+-- a number that is 0 of each leaf, of a new one too
 zero_pushed : (f : Leaf → ℕ) (ls : List Leaf) (l d : Leaf) (k : ℕ) → f l ≡ 0
     → f d ≡ 0 → ((j : ℕ) → f (get_or ls j d) ≡ 0) → f (get_or (ls ++ l ∷ []) k d) ≡ 0
 zero_pushed f [] l d zero here none each = here
@@ -111,15 +111,19 @@ slice_after s (End p used remains) =
 is_run : (s : DispatchState) (es : List Event) (overrun most : ℕ) → most ≡ s.slice + overrun
     → AllFollow s (map lines.Event es) → AllUseAtMost most es → IsRun overrun s es
 is_run s [] overrun most is all use_most = tt
-is_run s (e ∷ es) overrun most is all use_most =
-    (all.0.1, subst (λ (m : ℕ). UsesAtMost m e) is use_most.0,
-    is_run (after s e) es overrun most (is ∙ ap (λ m. m + overrun) (sym (slice_after s e))) all.1
-    use_most.1)
+is_run s (e ∷ es) overrun most is all use_most = (
+  all.0.1,
+  subst (λ (m : ℕ). UsesAtMost m e) is use_most.0,
+  is_run (after s e) es overrun most (is ∙ ap (λ m. m + overrun) (sym (slice_after s e))) all.1
+      use_most.1,
+)
 
 pub trace_is_a_run : TraceIsARun
 trace_is_a_run setup events overrun set_up all use_most =
     let parts = follow_apart nothing_set setup (map lines.Event events) all in
     let fresh = all_fresh nothing_set setup set_up parts.0 fresh_at_first in
-    let s = after_inputs nothing_set setup in
-    (fresh.start, fresh.amounts,
-    is_run s events overrun (s.slice + overrun) refl parts.1 use_most)
+    let s = after_inputs nothing_set setup in (
+      fresh.start,
+      fresh.amounts,
+      is_run s events overrun (s.slice + overrun) refl parts.1 use_most,
+    )

@@ -1,5 +1,5 @@
 -- An accepted trace is a run of the dispatcher, so the laws of runs hold of it.
-use Rattle.std.specs.Prelude.{◌≡◌, ℕ, ◌+◌, List, [], ◌∷◌, ◌++◌, map}
+use Rattle.std.specs.Prelude.{ℕ, ◌+◌, List, [], ◌∷◌, ◌++◌, map}
 use Rattle.dispatch.specs.declared.events.Event.{Event}
 use Rattle.dispatch.specs.declared.input.Input.{Input}
 use Rattle.dispatch.specs.declared.input.Input.TheVariants as lines

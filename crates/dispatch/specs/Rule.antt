@@ -1,5 +1,5 @@
 -- The rule of the dispatcher: its state, the events that the rule allows, and the state after each.
-use Rattle.std.specs.Prelude.{◌≡◌, ℕ, ◌+◌, ◌-◌, ◌*◌, ◌/◌, ◌<◌, ◌≤◌, ◌^◌, ◌==◌, ◌&&◌, ◌||◌, ◌↔◌}
+use Rattle.std.specs.Prelude.{◌≡◌, ℕ, ◌+◌, ◌-◌, ◌*◌, ◌/◌, ◌<◌, ◌≤◌, ◌^◌, ◌==◌, ◌&&◌, ◌||◌, ◌↔◌, ◌⊎◌}
 use Rattle.std.specs.Prelude.{nat_lt, min, max, Bool, List, [], ◌∷◌, length, get_or, Option}
 use Rattle.std.specs.Prelude.{None, Some, slice_get, slice_set, if◌then◌else◌, Result, Ok, Err}
 use Rattle.std.specs.Prelude.{is_ok}
@@ -252,3 +252,8 @@ RefusalIsExact = (s : DispatchState) (e : Event)
 abbrev pub is_new_least : List Leaf → Option ℕ → Leaf → Bool
 is_new_least ls None m = nat_lt 0 m.waiting
 is_new_least ls (Some i) m = waits_behind (get_or ls i (new_leaf 0)) m
+
+-- No pick is made for a processor: it is not free, or a pick that the rule allows is refused.
+abbrev pub IsRefusedPick : DispatchState → ℕ → Refusal → Type 0
+IsRefusedPick s p r = (free_processor (slice_get s.processors p) ≡ Err r)
+    ⊎ ((i : ℕ) × MayPick s p i × (allowed s (Pick p i) ≡ Err r))

@@ -60,7 +60,7 @@ abbrev pub most_ahead : (slice overrun processors a b : ℕ) → ℕ
 most_ahead slice overrun processors a b =
     slice * b + (processors - 1) * (slice * a) + processors * (overrun * b)
 
--- what the leaf has used, and what its running tasks may still use
+-- the use of the leaf, with all that its running tasks may still use
 abbrev pub use_at_most : ℕ → DispatchState → ℕ → ℕ
 use_at_most overrun s i =
     (leaf_at s i).used + (s.slice + overrun) * runs_of i s.processors

@@ -3,7 +3,7 @@
 /// An event. Leaves and processors are numbered from 0.
 #[derive(Clone, Copy, Debug, PartialEq)]
 pub enum Event {
-    /// So many tasks of a leaf wake.
+    /// Tasks of a leaf wake: this number of them.
     Wake {
         leaf: u64,
         tasks: u64,

@@ -1,8 +1,8 @@
 //! The dispatcher: its state, and the events that the rule allows.
-ghost use Rattle.std.specs.Prelude.{◌≡◌, ◌<◌, [], ◌++◌, ◌∷◌, OnOk, OnErr, IfOk, slice_get, length};
-ghost use Rattle.std.specs.Prelude.{Some, None, replicate};
+ghost use Rattle.std.specs.Prelude.{◌≡◌, ◌<◌, [], ◌++◌, ◌∷◌, OnOk, OnErr, IfOk, IfErr, slice_get};
+ghost use Rattle.std.specs.Prelude.{Some, None, length, replicate};
 ghost use Rattle.dispatch.specs.Rule.{allowed, happens, free_processor, leaf_run, new_leaf};
-ghost use Rattle.dispatch.specs.Rule.{Dispatches};
+ghost use Rattle.dispatch.specs.Rule.{Dispatches, IsRefusedPick};
 
 use crate::events::{Event, Refusal};
 use crate::leaves::{Leaf, leaf_ended, leaf_picked, leaf_woken, least};
@@ -107,7 +107,7 @@ impl Dispatcher {
         }
     }
 
-    // What a processor runs, if there is one of this number.
+    // The leaf that a processor runs, if it runs one, and if there is a processor of this number.
     fn processor(&self, processor: u64) -> Option<Option<u64>>
         ensures { result ≡ slice_get self.now.processors processor }
     {
@@ -140,7 +140,8 @@ impl Dispatcher {
         }
     }
 
-    /// So many tasks of a leaf wake. If the leaf had none, its clock is lifted to the clock of all.
+    /// Tasks of a leaf wake: this number of them. If the leaf had none, its clock is lifted to the
+    /// clock of all.
     ///
     /// # Errors
     ///
@@ -183,6 +184,7 @@ impl Dispatcher {
     pub fn dispatch(&mut self, processor: u64) -> Result<Option<u64>, Refusal>
         ensures ok { IfOk result (Dispatches self.old processor self.new) }
         ensures err { OnErr result (self.new ≡ self.old) }
+        ensures refused { IfErr result (IsRefusedPick self.old processor) }
     {
         self.free_processor(processor)?;
         let Some(leaf) = least(&self.leaves) else {

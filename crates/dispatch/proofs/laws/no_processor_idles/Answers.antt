@@ -1,3 +1,4 @@
+-- No processor idles while a leaf waits.
 use Rattle.dispatch.proofs.Least.{no_processor_idles}
 use Rattle.dispatch.proofs.laws.no_processor_idles.Goals as goal
 

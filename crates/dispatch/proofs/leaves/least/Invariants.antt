@@ -1,4 +1,4 @@
--- What stands at each turn of the loop in `least`: it is the least of the leaves so far.
+-- Invariant of each turn of the loop in `least`: it is the least of the leaves so far.
 use Rattle.std.proofs.Common.{◌<◌, IfSome}
 use Rattle.dispatch.proofs.LeastBelow.{LeastBelow}
 use Rattle.dispatch.proofs.leaves.least.Given as goal

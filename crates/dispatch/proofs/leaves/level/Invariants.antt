@@ -1,4 +1,4 @@
--- What stands at each turn of the loop in `level`: the least clock so far, lowered by the rest, is
+-- Invariant of each turn of the loop in `level`: the least clock so far, lowered by the rest, is
 -- that of all.
 use Rattle.std.proofs.Common.{◌≡◌, drop}
 use Rattle.dispatch.specs.Rule.{level_from, level}

@@ -1,4 +1,4 @@
--- What stands at each turn of the loop in `replay`: the finding from here on is that on the text.
+-- Invariant of each turn of the loop in `replay`: the finding from here on is that on the text.
 use Rattle.std.proofs.Common.{◌≡◌, ◌+◌, ◌≤◌, length, ◌==◌}
 use Rattle.std.specs.List.{slice_split}
 use Rattle.dispatch.specs.Replay.{finding_from, finding_of}
