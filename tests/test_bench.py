@@ -57,7 +57,7 @@ def stub(tmp_path):
 
 def test_types():
     """mypy and pyflakes find nothing in the modules that are typed."""
-    typed = ["instructions.py", "locks.py", "periods.py", "perturbed.py", "questions.py", "runs.py",
+    typed = ["calm_rounds.py", "instructions.py", "locks.py", "periods.py", "perturbed.py", "questions.py", "runs.py",
              "shapes.py", "../tests/meeting_names.py", "../scripts/indexes.py", "../scripts/kit.py", "../scripts/telling"]
     words = {"mypy": ["--strict", "--cache-dir", "/dev/null", *typed],
              "pyflakes": [*map(str, sorted((ROOT / "bench").glob("*.py")))]}
