@@ -23,6 +23,8 @@ mod name_cases;
 #[cfg(test)]
 mod reason_cases;
 #[cfg(test)]
+mod root_cases;
+#[cfg(test)]
 mod split_cases;
 #[cfg(test)]
 mod tune_cases;
