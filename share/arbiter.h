@@ -206,6 +206,20 @@ uint32_t arbiter_tune(uint64_t processors, uint64_t period_us, uint64_t slice_us
                       const uint64_t *goal_amounts, size_t goal_amounts_length, uint32_t guaranteed,
                       uint64_t *tuned, size_t tuned_length, uint8_t *together, size_t together_length, uint64_t *unmet);
 
+/* Weights under which each row has its goal, the least from the root down. `goals` has the slices that the plan is to give each row
+ * at least, 0 for none: also of groups with children, of rows inside one another, and of rows whose weight stays. `may` is not 0 at
+ * a row whose weight may change, within 1 to 10000.
+ * Where such weights meet all goals, *unmet is ARBITER_NO_GOAL, and `tuned` has the weight of each row. None is less than in
+ * `weights`, unless no such weights meet all goals. Of all that agree with them at each row above a row, and at the siblings of
+ * these, theirs of that row is the least. So there is one answer.
+ * Where none do, *unmet is a row: no weights meet the goals of it and below it together, whatever it is given. `tuned` is `weights`
+ * then. No plan is made: each group is split a few times for each raise of a weight. */
+uint32_t arbiter_tune_from_root(uint64_t processors, uint64_t period_us, uint64_t slice_us,
+                                const uint32_t *parents, size_t parents_length, const uint64_t *weights, size_t weights_length,
+                                const uint64_t *limits, size_t limits_length, const uint64_t *demands, size_t demands_length,
+                                const uint64_t *goals, size_t goals_length, const uint8_t *may, size_t may_length,
+                                uint64_t *tuned, size_t tuned_length, uint64_t *unmet);
+
 /* The limits of the next round, from what each leaf used in the last one. The rows are as everywhere, with the slices that each
  * leaf used, rounded up, in `used` in the place of demands. `hungry` is not 0 where the leaf would have used more; it is not read
  * at groups with children.

@@ -38,6 +38,7 @@ WORDS: dict[str, list[Any]] = {
     "reasons": TREE + ROOM * 2,
     "figures": TREE + ROOM * 6,
     "tune": TREE + COLUMN * 2 + [U32] + ROOM * 2 + [WRITTEN],
+    "tune_from_root": TREE + COLUMN * 2 + ROOM + [WRITTEN],
     "hold": TREE + COLUMN + ROOM * 7,
     "reading": HOST + [U64] * 3 + [U32] * 2 + COLUMN * 2 + [WRITTEN] * 3,
     "written": HOST + [U64] * 3 + [U32] + [WRITTEN] * 2,

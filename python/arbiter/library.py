@@ -238,6 +238,23 @@ class Library:
             return tuned.tolist()
         return Unmet(unmet.value, [place for place, flag in enumerate(together) if flag])
 
+    def tune_from_root(self, host: Host, rows: Rows, goals: Sequence[int],
+                       may: Sequence[bool]) -> list[int] | int:
+        """The weight of each row under which each has its goal, or a row whose goals cannot be met.
+
+        `goals` has the slices that the plan is to give each row at least, 0 for none. `may` tells
+        for each row whether its weight may change, within 1 to 10000. The weights are the least
+        from the root down. None is less than the row has, unless no such weights meet all goals. If
+        none do, the answer is a row: its goal and those below it cannot be met together. Refused as
+        a plan is, and by 50 WrongLength if there is not one goal and one `may` for each row.
+        """
+        columns, unmet = Columns.of(rows), c.U64()
+        flags = column(U8, [bool(each) for each in may], "may")
+        tuned = zeros(U64, len(columns))
+        self.ask("tune_from_root", host, columns, *given(column(U64, goals, "goal"), flags, tuned),
+                 ctypes.byref(unmet))
+        return tuned.tolist() if unmet.value == c.NO_GOAL else unmet.value
+
     def of_group(self, name: str, host: Host, rows: Rows, group: int, *amount: int) -> int:
         """The number that a question about the group of a row is answered with."""
         answer = c.U64()

@@ -6,6 +6,7 @@ pub mod Certified
 pub mod Checked
 pub mod Demand
 pub mod Figured
+pub mod FromRoot
 pub mod Groups
 pub mod Held
 pub mod Limited

@@ -42,7 +42,7 @@ fn refusal_of(fault: TuneFault) -> Refusal
 }
 
 // The weight of each row.
-fn weights_of(alloc: Global, instance: &Instance) -> Result<Vec<u64>, AllocError>
+pub(crate) fn weights_of(alloc: Global, instance: &Instance) -> Result<Vec<u64>, AllocError>
     ensures { IfOk result (λ weights. weights.items ≡ weights_of instance.now.rows) }
 {
     instance.rows().iter().map(|row| row.weight).collect(alloc)

@@ -1,0 +1,24 @@
+-- The least weights from the root down, in columns of numbers.
+use Rattle.std.specs.Prelude.{◌≡◌, ℕ, List, Bool}
+use Rattle.bw_model.specs.Groups.{Groups}
+use Rattle.bw_questions.specs.declared.from_root.least.Tuned.{Tuned}
+use Rattle.bw_questions.specs.declared.from_root.least.Tuned.TheVariants.{Met, Unmet}
+use Rattle.bw_questions.specs.FromRoot.{IsTunedFromRoot}
+use Rattle.bw_columns.specs.Tuned.{weights_of}
+use Rattle.bw_columns.specs.declared.tuned.TheConstants.{NO_GOAL}
+
+-- Of weights that meet all goals: the weights, and the number of no goal. Else the weights of the
+-- groups, and the row whose goals cannot be met together.
+abbrev pub IsToldOfRoot : Groups → Tuned → List ℕ → ℕ → Type 0
+IsToldOfRoot groups (Met tuned) weights unmet =
+    (weights ≡ weights_of tuned.rows) × (unmet ≡ NO_GOAL)
+IsToldOfRoot groups (Unmet top) weights unmet =
+    (weights ≡ weights_of groups.rows) × (unmet ≡ top)
+
+-- the least weights from the root down that meet all goals, or a group whose goals no weights meet
+-- together, told
+pub record IsFromRootTold (groups : Groups) (goals : List ℕ) (may : List Bool) (weights : List ℕ)
+    (unmet : ℕ) : Type 0 where
+  pub tuned : Tuned
+  pub held : IsTunedFromRoot groups goals may tuned
+  pub told : IsToldOfRoot groups tuned weights unmet

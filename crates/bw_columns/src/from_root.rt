@@ -1,0 +1,73 @@
+//! The least weights from the root down, with which all goals of a host and its rows are met.
+ghost use Rattle.std.specs.Prelude.{◌≡◌, true, length, IfOk, IfErr, OnOk};
+ghost use Rattle.bw_columns.specs.Asked.{groups_asked, refusal_where, Answers};
+ghost use Rattle.bw_columns.specs.Certificates.{flags_in};
+ghost use Rattle.bw_columns.specs.FromRoot.{IsFromRootTold, IsToldOfRoot};
+ghost use Rattle.bw_columns.specs.Numbers.{number_of_refusal};
+
+use crate::asked_instance::{Host, instance_where};
+use crate::claim::flags_of;
+use crate::columns::Columns;
+use crate::refusal::Refusal;
+use crate::tuned::{NO_GOAL, weights_of};
+use bw_model::Instance;
+use bw_questions::{Tuned, tune_from_root};
+use std::alloc::{AllocError, Global};
+
+/// The answer to goals of rows, by column.
+#[derive(Drop)]
+pub struct FromRootColumns {
+    /// The weight of each row: 1 to 10,000.
+    pub weights: Vec<u64>,
+    /// A row whose goals, with those below it, no weights meet together; [`NO_GOAL`] if all are met.
+    pub unmet: u64,
+}
+
+// The answer of an instance, by column.
+fn told(alloc: Global, instance: &Instance, tuned: &Tuned) -> Result<FromRootColumns, AllocError>
+    ensures { IfOk result (λ t. IsToldOfRoot instance.now tuned.now t.weights.items t.unmet) }
+{
+    match tuned {
+        Tuned::Met(tuned) => Ok(FromRootColumns {
+            weights: weights_of(alloc, tuned)?,
+            unmet: NO_GOAL,
+        }),
+        Tuned::Unmet(group) => Ok(FromRootColumns {
+            weights: weights_of(alloc, instance)?,
+            unmet: u64::from(*group),
+        }),
+    }
+}
+
+/// The least weights from the root down of a host and its rows.
+///
+/// `goals` has the least slices that each row is to get, 0 for none. `may` is not 0 for a row whose
+/// weight may change. `fit` is whether the caller's column for the weights has the rows' length.
+///
+/// # Errors
+/// The refusals of [`instance_where`].
+pub fn from_root_of(
+    alloc: Global,
+    fit: bool,
+    host: Host,
+    columns: &Columns<'_>,
+    goals: &[u64],
+    may: &[u8],
+) -> Result<FromRootColumns, Refusal>
+    requires goals { fit ≡ true → length goals.now ≡ length columns.now.parents.now }
+    requires may { fit ≡ true → length may.now ≡ length columns.now.parents.now }
+    ensures told { IfOk result (λ t. IsFromRootTold (groups_asked host columns.now) goals.now
+        (flags_in may.now) t.weights.items t.unmet) }
+    ensures weights { IfOk result
+        (λ t. length t.weights.items ≡ length columns.now.parents.now) }
+    ensures fit { OnOk result (fit ≡ true) }
+    ensures none { OnOk result (refusal_where fit host columns.now ≡ 0) }
+    ensures err { IfErr result
+        (λ e. Answers (refusal_where fit host columns.now) (number_of_refusal e)) }
+{
+    let instance = instance_where(alloc, fit, host, columns)?;
+    let flags = flags_of(alloc, may)?;
+    let tuned = tune_from_root(alloc, &instance, goals, flags.as_slice())?;
+    let told = told(alloc, &instance, &tuned)?;
+    Ok(told)
+}
