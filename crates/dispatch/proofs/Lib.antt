@@ -2,6 +2,7 @@
 mod Accepts
 mod Counts
 mod Exact
+mod Gains
 mod Happens
 mod Leads
 mod LeastBelow

@@ -1,7 +1,7 @@
 -- Runs of the dispatcher from a common start, and what the rule promises of them. A use and a lead
 -- are in nanoseconds. No promise divides: a use over an amount is compared by products.
 use Rattle.std.specs.Prelude.{◌≡◌, ◌≢◌, ℕ, ◌+◌, ◌-◌, ◌*◌, ◌<◌, ◌≤◌, ◌==◌, Bool, true, List, []}
-use Rattle.std.specs.Prelude.{◌∷◌, length}
+use Rattle.std.specs.Prelude.{◌∷◌, ◌++◌, length}
 use Rattle.std.specs.Prelude.{Option, None, Some, slice_get, if◌then◌else◌}
 use Rattle.std.specs.List.{sum_by}
 use Rattle.dispatch.specs.declared.events.Event.{Event}
@@ -76,6 +76,19 @@ LeadIsBounded = (s : DispatchState) (overrun i j : ℕ) (events : List Event) �
     let a = (leaf_at t i).amount in let b = (leaf_at t j).amount in
     use_at_most overrun t i * b
     ≤ (leaf_at t j).used * a + most_ahead s.slice overrun (length s.processors) a b
+
+-- Between any two times of a run, of two leaves that wait throughout, neither gains on the other by
+-- more than both leads together.
+abbrev pub GainIsBounded : Type 0
+GainIsBounded = (s : DispatchState) (overrun i j : ℕ) (before later : List Event) → IsStart s
+    → IsRun overrun s (before ++ later) → WaitsThroughout i s (before ++ later)
+    → WaitsThroughout j s (before ++ later) → i ≢ j →
+    let t = after_all s before in let u = after_all s (before ++ later) in
+    let a = (leaf_at u i).amount in let b = (leaf_at u j).amount in
+    (leaf_at u i).used * b + (leaf_at t j).used * a
+    ≤ (leaf_at u j).used * a + (leaf_at t i).used * b
+    + (most_ahead s.slice overrun (length s.processors) a b
+    + most_ahead s.slice overrun (length s.processors) b a)
 
 -- the use of all leaves together
 abbrev pub used_by_all : DispatchState → ℕ

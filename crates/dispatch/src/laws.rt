@@ -1,5 +1,6 @@
 //! Laws of the rule: each is the contract of a function that does nothing.
-ghost use Rattle.dispatch.specs.Runs.{LeadIsBounded, ShareIsKept, NoProcessorIdles};
+ghost use Rattle.dispatch.specs.Runs.{LeadIsBounded, GainIsBounded, ShareIsKept};
+ghost use Rattle.dispatch.specs.Runs.{NoProcessorIdles};
 ghost use Rattle.dispatch.specs.Runs.{NoneIsPickedPastItsPlan, IsLiftedOnlyFromSleep};
 ghost use Rattle.dispatch.specs.Runs.{LiftIsAtMostTheLeast};
 ghost use Rattle.dispatch.specs.Rule.{RefusalIsExact};
@@ -13,6 +14,14 @@ ghost use Rattle.dispatch.specs.Accepted.{TraceIsARun};
 /// waits is never lifted.
 pub fn lead_is_bounded()
     ensures { LeadIsBounded }
+{}
+
+/// Between two times of a run, of two leaves that wait throughout, neither gains on the other by more
+/// than both leads together.
+///
+/// The premises are those of [`lead_is_bounded`], for both leaves.
+pub fn gain_is_bounded()
+    ensures { GainIsBounded }
 {}
 
 /// A leaf that waits throughout has at least its part of what all leaves used, whatever the others
