@@ -223,10 +223,10 @@ uint32_t arbiter_tune_from_root(uint64_t processors, uint64_t period_us, uint64_
 /* The limits of the next round, from what each leaf used in the last one. The rows are as everywhere, with the slices that each
  * leaf used, rounded up, in `used` in the place of demands. `hungry` is not 0 where the leaf would have used more; it is not read
  * at groups with children.
- * Writes to `demands` 1000000 for a hungry leaf and what it used for another, to `amounts` the plan of these demands, and to `held`
- * each leaf's limit. Where the plan gives each leaf its demand or its own limit, this is its own limit or ARBITER_NO_LIMIT, as in
- * any round of another group. No leaf is limited above its own limit, nor below its guarantee. The last four columns are the
- * certificate of the amounts, as of arbiter_certify, for the rows with `demands`. docs/PROVED.md has the rule. Two plans. */
+ * Writes to `demands` 1000000 for a hungry leaf and what it used for another, to `amounts` the plan of these, and to `held` limits.
+ * Each row has its own limit or ARBITER_NO_LIMIT where the plan gives each leaf its demand or its own limit; a group with children
+ * always has. No leaf is limited above its own limit, nor below its guarantee. The last four columns are the certificate of the
+ * amounts, as of arbiter_certify, for the rows with `demands`. docs/PROVED.md has the rule. Two plans. */
 uint32_t arbiter_hold(uint64_t processors, uint64_t period_us, uint64_t slice_us,
                       const uint32_t *parents, size_t parents_length, const uint64_t *weights, size_t weights_length,
                       const uint64_t *limits, size_t limits_length, const uint64_t *used, size_t used_length,
@@ -255,7 +255,7 @@ uint32_t arbiter_reading(uint64_t processors, uint64_t period_us, uint64_t slice
                          const uint64_t *ran, size_t ran_length, const uint64_t *waited, size_t waited_length,
                          uint64_t *used, uint64_t *asked, uint32_t *hungry);
 
-/* What is written for a leaf's limit of a round. `limit` is that of arbiter_hold, and `own` its own limit, both in slices.
+/* What is written for a leaf's limit of a round. `limit` is that of arbiter_hold, if any, and `own` its own, both in slices.
  * `stands_us` is the quota that stands in it, in microseconds of the host's period; 0 where another one stands. It has `tasks`.
  * Writes to `quota` ARBITER_NO_LIMIT where its own limit is to be written, since that allows no more. Else it is in microseconds
  * of the host's period, from the limit to a sixty-fourth above it and not above the own limit. What stands there stays, since the
