@@ -30,7 +30,7 @@ LONGEST = 60
 LIMIT_PERIOD, HUNGRY = 10**8, 100
 
 
-class Used(NamedTuple):
+class UsedTime(NamedTuple):
     """What a group did in a round, in nanoseconds: it used, its tasks waited in sum, and one or
     more of them waited."""
 
@@ -93,13 +93,13 @@ class Scheduler:
                 break
         return found
 
-    def read(self) -> tuple[dict[int, Used], int]:
+    def read(self) -> tuple[dict[int, UsedTime], int]:
         """What each group of the last plan did since the last reading, by the number of its folder,
         and the nanoseconds of that time."""
         self.say("read")
         *leaves, last = self.answer("read")
         try:
-            return {int(words[1]): Used(*map(int, words[2:5])) for words in leaves}, int(last[1])
+            return {int(words[1]): UsedTime(*map(int, words[2:5])) for words in leaves}, int(last[1])
         except (ValueError, TypeError, IndexError) as error:
             raise self.fault("it answers what is no reading") from error
 
@@ -119,12 +119,12 @@ class Scheduler:
             self.process.wait()
 
 
-class Loop(hold.Loop):
+class ScheduledLoop(hold.Loop):
     """The rounds of a tree whose plan the scheduler serves."""
 
     def __init__(self, scheduler: Scheduler, *words: Any, **more: Any) -> None:
         super().__init__(*words, **more)
-        self.scheduler, self.used, self.passed = scheduler, dict[int, Used](), 0
+        self.scheduler, self.used, self.passed = scheduler, dict[int, UsedTime](), 0
         # The groups with a limit of their own.
         self.with_limit = set[str]()
         # kubelet's groups are served too, since nothing in them is written
@@ -165,7 +165,9 @@ class Loop(hold.Loop):
 
     def limit(self, path: str, line: Line) -> int:
         """The limit of a leaf in nanoseconds of its period; 0 where no group sets one."""
-        if not any(path == each or path.startswith(f"{each}/") for each in self.with_limit):
+        names = path.split("/")
+        above = ("/".join(names[:length]) for length in range(1, len(names) + 1))
+        if self.with_limit.isdisjoint(above):
             return 0
         part: int = line["limit"] * self.host.slice_us * LIMIT_PERIOD // self.host.period_us
         return max(part, 1)

@@ -49,8 +49,9 @@ def begun_with(folder, engine):
         program.write_text(LOADER.format(python=sys.executable, folder=str(folder)))
         program.chmod(program.stat().st_mode | stat.S_IXUSR)
         loader = scheduler.Scheduler(str(world.tree), str(program))
-        return world, scheduler.Loop(loader, engine, safe_files.Root(str(world.tree)),
-                                     str(world.tree), TWO, clock=lambda: world.now)
+        return world, scheduler.ScheduledLoop(
+            loader, engine, safe_files.Root(str(world.tree)), str(world.tree), TWO,
+            clock=lambda: world.now)
     return begin
 
 
@@ -128,7 +129,7 @@ def test_without_a_loader(monkeypatch, folder):
     with pytest.raises(HostFault, match="apt-get install arbiter-scheduler"):
         scheduler.Scheduler("/sys/fs/cgroup")
     program = folder / "arbiter-scheduler"
-    program.write_text("#!/bin/sh\necho arbiter-scheduler: this kernel has no sched_ext >&2\nexit 1\n")
+    program.write_text("#!/bin/sh\necho this kernel has no sched_ext >&2\nexit 1\n")
     program.chmod(0o755)
     with pytest.raises(HostFault, match="this kernel has no sched_ext"):
         scheduler.Scheduler("/sys/fs/cgroup")

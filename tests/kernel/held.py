@@ -1,4 +1,5 @@
-"""The loop of limits in a guest: `hold.c` is its inner part, over the C library that was built here.
+"""The loop of limits in a guest: `hold.c` is its inner part, over the C library that was built
+here. And the scheduler that serves a plan, with its loader alone.
 """
 from __future__ import annotations
 

@@ -133,8 +133,8 @@ def script(scenario: Scenario, span: Span, beside: str = "", early: str = "") ->
         f"/guest watch $begin $last -- {files} &",
         *([f"/guest grid $first $((begin - {QUIET})) {' '.join(limited)} &"] if limited else ()),
         *([beside] if beside else ()),
-        *[f"/guest load load $first $last {scenario.period} 0 {mask:x} {scenario.period} > /dev/null &"
-          for mask in [(1 << scenario.processors) - 1] * scenario.outside],
+        *[f"/guest load load $first $last {scenario.period} 0 {(1 << scenario.processors) - 1:x}"
+          f" {scenario.period} > /dev/null &"] * scenario.outside,
         *tasks,
         "echo ready $(/guest now)",
         "wait",

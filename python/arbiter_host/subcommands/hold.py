@@ -225,8 +225,8 @@ def run(asked: argparse.Namespace) -> None:
         words = (engine, root, asked.source, host)
         if is_scheduled(asked, root):
             from arbiter_host import scheduler
-            loop: hold.Loop = scheduler.Loop(scheduler.Scheduler(asked.source), *words, None, ways,
-                                             service.clock)
+            loop: hold.Loop = scheduler.ScheduledLoop(
+                scheduler.Scheduler(asked.source), *words, None, ways, service.clock)
         else:
             loop = hold.Loop(*words, kept, ways, service.clock)
         hold.run(loop, times, service.wait, functools.partial(service.show, host),
