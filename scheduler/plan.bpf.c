@@ -347,11 +347,11 @@ static __always_inline void find_leaf(struct task_struct *p, struct task *task)
     bpf_spin_unlock(&lock);
 }
 
-/* Stops the CPU whose leaf is furthest ahead, if that is two slices ahead of one that wakes. */
+/* Stops the CPU whose leaf is furthest ahead, if it is ahead of one that wakes. */
 static __always_inline void preempt(struct task_struct *p, u32 row, u32 queue, u32 own)
 {
     struct leaf *leaf = leaf_of(row);
-    u64 most = leaf->clock + 2 * leaf->stride;
+    u64 most = leaf->clock;
     s32 victim = -1;
     u32 cpu;
 

@@ -99,7 +99,8 @@ class Scheduler:
         self.say("read")
         *leaves, last = self.answer("read")
         try:
-            return {int(words[1]): UsedTime(*map(int, words[2:5])) for words in leaves}, int(last[1])
+            found = {int(words[1]): UsedTime(*map(int, words[2:5])) for words in leaves}
+            return found, int(last[1])
         except (ValueError, TypeError, IndexError) as error:
             raise self.fault("it answers what is no reading") from error
 
