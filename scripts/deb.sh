@@ -17,7 +17,9 @@ need_debhelper() {
 debs() {
   local name
   find_version || return 1
-  for name in arbiter arbiter-check libarbiter1 libarbiter-dev; do echo "  ${name}_${version}_MACHINE.deb"; done
+  for name in arbiter arbiter-check arbiter-scheduler libarbiter1 libarbiter-dev; do
+    echo "  ${name}_${version}_MACHINE.deb"
+  done
   echo "  arbiter-host_${version}_all.deb"
 }
 
@@ -44,7 +46,10 @@ make_debs() ( # DIR LOG
   umask 022
   check_deb_version && mkdir -p -- "$1" "$scratch/arbiter" && stage_debs "$scratch/arbiter" ||
     exit 1
-  [ -e "$scratch/arbiter/installed/bin/arbiter-check" ] || export DEB_BUILD_PROFILES=noindependent
+  DEB_BUILD_PROFILES=''
+  [ -e "$scratch/arbiter/installed/bin/arbiter-check" ] || DEB_BUILD_PROFILES=noindependent
+  [ -e "$scratch/arbiter/installed/sbin/arbiter-scheduler" ] || DEB_BUILD_PROFILES+=' noscheduler'
+  export DEB_BUILD_PROFILES
   if ! (cd "$scratch/arbiter" && dpkg-buildpackage -b -us -uc) >"$2" 2>&1 </dev/null; then
     tail -n 40 "$2" >&2
     exit 1

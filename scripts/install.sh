@@ -19,6 +19,21 @@ make_checker() {
   independent/build "${checker%/*}" >&2
 }
 
+# The scheduler of `hold --by scheduler`, where clang, bpftool and libbpf were there to make it.
+scheduler=out/scheduler/arbiter-scheduler
+scheduler_packages='clang bpftool libbpf-dev libelf-dev zlib1g-dev make gcc'
+
+# Makes the scheduler, if what compiles it is there. Otherwise it names what is missing.
+make_scheduler() {
+  [ -f scheduler/Makefile ] || return 0
+  if ! command -v clang >/dev/null || ! command -v bpftool >/dev/null || ! command -v make >/dev/null ||
+    [ ! -e /usr/include/bpf/libbpf.h ]; then
+    echo "build: no arbiter-scheduler without libbpf 1.4: apt-get install $scheduler_packages" >&2
+    return 0
+  fi
+  make -C scheduler OUT="$PWD/${scheduler%/*}" >&2
+}
+
 # Installed files: a file of the clone or the target of a link, its place below DIR, and its mode
 # or the word link.
 find_installed() {
@@ -45,6 +60,10 @@ find_installed() {
   [ ! -x "$checker" ] || installed+=(
     "$checker" bin/arbiter-check 755
     share/arbiter-check.1 share/man/man1/arbiter-check.1 644
+  )
+  [ ! -x "$scheduler" ] || installed+=(
+    "$scheduler" sbin/arbiter-scheduler 755
+    share/arbiter-scheduler.8 share/man/man8/arbiter-scheduler.8 644
   )
 }
 

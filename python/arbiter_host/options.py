@@ -34,6 +34,8 @@ UNITS = ("cpu", "m", "%", "slices", "us")
 NODE_WEIGHTS = ("linear", "log", "runtime-log")
 RANKS = ("least-loss", "most-left")
 WAYS = ("systemd", "persistent", "files")
+# Of `hold`: limits, or the kernel's scheduler.
+LIMITS, SCHEDULER = "limits", "scheduler"
 MAX_DEPTH = 64
 # The word of a running service.
 SERVICE = re.compile("(k8s|docker|podman|systemd)://")
@@ -180,9 +182,12 @@ TABLE = (
     Option(("--root",), "root", "doing", ("apply", "hold"), "the top of the tree (default"
            " /sys/fs/cgroup); nothing outside it is opened for writing", "DIR",
            default="/sys/fs/cgroup"),
-    Option(("--by",), "by", "doing", ("apply",), "`systemd` sets properties of units by systemctl"
-           " and files else, `persistent` the same so that they are kept over a boot, `files`"
-           " writes files alone (default systemd)", choices=WAYS, default="systemd"),
+    Option(("--by",), "by", "doing", ("apply", "hold"), "`systemd` sets properties of units by"
+           " systemctl and files else, `persistent` the same so that they are kept over a boot,"
+           " `files` writes files alone (default systemd)", choices=WAYS, default="systemd",
+           choices_of={"hold": (LIMITS, SCHEDULER)}, defaults={"hold": LIMITS},
+           helps={"hold": "`scheduler` gives the plan to the kernel's scheduler (arbiter-scheduler)"
+                          " and writes no file (default limits)"}),
     Option(("--undo",), "undo", "doing", ("apply", "hold"), "the undo file, which must be new"
            " (default arbiter-undo-DATE-TIME.json here)", "FILE",
            helps={"hold": "the undo file, which must be new, in a folder that only this user may"

@@ -297,6 +297,7 @@ _arbiterctl() {
                 -o|--output) mapfile -t COMPREPLY < <(compgen -W "json openmetrics" -- "$word") ;;
                 --depth) ;;
                 --root) ;;
+                --by) mapfile -t COMPREPLY < <(compgen -W "limits scheduler" -- "$word") ;;
                 --undo) ;;
                 --read) ;;
                 --cpus) ;;
@@ -304,7 +305,7 @@ _arbiterctl() {
                 --slice) ;;
                 --library) ;;
                 *)
-                    [[ $word == -* ]] && mapfile -t COMPREPLY < <(compgen -W "-o --output --depth -v --verbose --yes --root --undo --force --weights --read --cpus --period --slice --library -h --help" -- "$word")
+                    [[ $word == -* ]] && mapfile -t COMPREPLY < <(compgen -W "-o --output --depth -v --verbose --yes --root --by --undo --force --weights --read --cpus --period --slice --library -h --help" -- "$word")
                     ;;
             esac
             ;;

@@ -4,10 +4,14 @@
    guest until AT                             sleeps
    guest beat                                 makes the clock of the board beat 8192 times a second
    guest load NAME START END PERIOD NAP CPUS WORK..
+   guest nice N load ..                       the same as a nice task
+   guest farm NAME START END WORK CPUS        jobs of WORK, each a new task, one after another
        One task. PERIOD, NAP and WORK are microseconds; CPUS is a mask of the processors that it may
        use. In the k-th period from START on it uses the k-th WORK of processor time, round and
        round, and then sleeps until the next period; what a period did not serve is dropped. With
-       a NAP there are no periods: it uses the first WORK, sleeps for NAP, and so on. At END it
+       a NAP there are no periods: it uses the first WORK, sleeps for NAP, and so on, and prints
+       `pieces NAME NUMBER MEDIAN LATE MOST`: how long a piece of work took from its waking on, in
+       microseconds; 99 of 100 took no longer than LATE. At END it
        prints `task NAME HAD WANTED MET PERIODS MOVES SEEN..`: microseconds had and asked for, the
        periods that served all, how often it saw itself on another processor than before, and how
        often it saw itself on each processor.
@@ -31,15 +35,20 @@
 #include <string.h>
 #include <sys/io.h>
 #include <sys/prctl.h>
+#include <sys/resource.h>
+#include <sys/wait.h>
 #include <time.h>
 #include <unistd.h>
 
 #define MOST_PROCESSORS 64
 #define MOST_FILES 64
 #define MOST_TASKS 32768
+#define MOST_PIECES 100000
 #define MICRO 1000LL
 #define MILLI 1000000LL
 #define SECOND 1000000000LL
+/* For so long no piece of work is told: tasks begin together.  */
+#define SETTLED (3 * SECOND)
 /* For so long after a time its counters are read: by then each processor has had a turn.  */
 #define COUNTED (300 * MICRO)
 /* For so long before the first time the time of others is read. That takes up to a third of a
@@ -127,6 +136,23 @@ static void tell(const char *name, int64_t had, int64_t wanted, int64_t met, int
         exit(1);
 }
 
+static int64_t took[MOST_PIECES];
+static int pieces;
+
+static int by_size(const void *one, const void *other) {
+    int64_t a = *(const int64_t *)one, b = *(const int64_t *)other;
+    return (a > b) - (a < b);
+}
+
+static void tell_pieces(const char *name) {
+    if (pieces == 0)
+        return;
+    qsort(took, pieces, sizeof *took, by_size);
+    printf("pieces %s %d %lld %lld %lld\n", name, pieces, (long long)took[pieces / 2],
+           (long long)took[pieces * 99 / 100], (long long)took[pieces - 1]);
+    fflush(stdout);
+}
+
 static int load(int count, char **words) {
     if (count < 7)
         return 2;
@@ -143,7 +169,10 @@ static int load(int count, char **words) {
         int64_t before = mark;
         if (nap) {
             mark = work_for(mark, work, end);
-            next = read_clock(CLOCK_MONOTONIC) + nap;
+            int64_t now = read_clock(CLOCK_MONOTONIC);
+            if (at > start + SETTLED && now < end && pieces < MOST_PIECES)
+                took[pieces++] = (now - at) / MICRO;
+            next = now + nap;
         } else if (work >= period) {
             spin_until(next); /* who asks for the whole period never sleeps in it */
         } else {
@@ -155,7 +184,30 @@ static int load(int count, char **words) {
         if (read_clock(CLOCK_MONOTONIC) < next)
             sleep_until(next);
     }
+    tell_pieces(words[0]);
     tell(words[0], read_clock(CLOCK_THREAD_CPUTIME_ID) - first, wanted, met, periods);
+    return 0;
+}
+
+static int farm(int count, char **words) {
+    if (count < 5)
+        return 2;
+    int64_t start = atoll(words[1]), end = atoll(words[2]), work = atoll(words[3]) * MICRO;
+    int64_t jobs = 0;
+    prctl(PR_SET_TIMERSLACK, 1);
+    prctl(PR_SET_NAME, "load");
+    keep_to(strtoull(words[4], NULL, 16));
+    sleep_until(start);
+    for (; read_clock(CLOCK_MONOTONIC) < end; jobs++) {
+        int job = fork();
+        if (job == 0) {
+            work_for(read_clock(CLOCK_THREAD_CPUTIME_ID), work, end);
+            _exit(0);
+        }
+        if (job < 0 || waitpid(job, NULL, 0) < 0)
+            return 1;
+    }
+    tell(words[0], jobs * work, jobs * work, jobs, jobs);
     return 0;
 }
 
@@ -284,12 +336,20 @@ int main(int count, char **words) {
         sleep_until(atoll(words[2]));
         return 0;
     }
+    if (count >= 5 && strcmp(words[1], "nice") == 0) {
+        if (setpriority(PRIO_PROCESS, 0, atoi(words[2])) != 0)
+            perror("guest: setpriority");
+        words += 2;
+        count -= 2;
+    }
     if (count >= 3 && strcmp(words[1], "load") == 0)
         return load(count - 2, words + 2);
+    if (count >= 3 && strcmp(words[1], "farm") == 0)
+        return farm(count - 2, words + 2);
     if (count >= 3 && strcmp(words[1], "watch") == 0)
         return watch(count - 2, words + 2);
     if (count >= 4 && strcmp(words[1], "grid") == 0)
         return grid(count - 2, words + 2);
-    fprintf(stderr, "guest: now, until, beat, load, watch or grid\n");
+    fprintf(stderr, "guest: now, until, beat, load, nice, farm, watch or grid\n");
     return 2;
 }

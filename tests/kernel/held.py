@@ -1,4 +1,5 @@
-"""The loop of limits in a guest: `hold.c` is its inner part, over the C library that was built here.
+"""The loop of limits in a guest: `hold.c` is its inner part, over the C library that was built
+here. And the scheduler that serves a plan, with its loader alone.
 """
 from __future__ import annotations
 
@@ -13,6 +14,7 @@ from kernel import faults, layout, machine, packages
 from kernel.scenario import Scenario
 
 TOP = Path(__file__).resolve().parents[2]
+SCHEDULER = TOP / "scheduler"
 ARCHIVE = TOP / "crates/bw_exports/out/libarbiter.a"
 SECOND = 1000000000
 # How hold.c writes that there is no limit.
@@ -30,6 +32,8 @@ class Way:
     has_weights: bool = False
     has_burst: bool = False
     is_loop: bool = False
+    # The kernel's scheduler serves the plan, which is taken once.
+    is_scheduled: bool = False
 
     @property
     def words(self) -> str:
@@ -51,6 +55,7 @@ WAYS = {way.name: way for way in (
     Way("loop-weights", is_loop=True, has_weights=True),
     Way("loop-weights-1s", is_loop=True, has_weights=True, period=1000000),
     Way("watched", is_loop=True, has_limits=False),
+    Way("scheduler", has_limits=False, is_scheduled=True),
 )}
 
 
@@ -59,6 +64,29 @@ def loop_line(scenario: Scenario, way: Way) -> str:
     words = ["/hold", "$first", "$last", str(SECOND), str(way.period), str(scenario.processors),
              way.words, layout.HOME, *map(shlex.quote, scenario.paths)]
     return f"{' '.join(words)} &"
+
+
+def scheduler_lines(scenario: Scenario, amounts: dict[str, int], limits: dict[str, int]
+                    ) -> tuple[str, str]:
+    """The lines of a guest's script that load the scheduler with a plan, and that which ends it.
+    Limits are nanoseconds of 100 ms."""
+    slices = scenario.processors * scenario.period // scenario.slice
+    plan = "; ".join([f"echo plan {slices}", *(
+        f"echo leaf $(stat -c %i {shlex.quote(layout.place(path))}) {amounts[path]}"
+        f" {limits.get(path, 0)}" for path in scenario.leaves), "echo end"])
+    early = (f"rm -f /plan.in; mkfifo /plan.in\n/arbiter-scheduler {layout.HOME} < /plan.in"
+             " > /plan.out 2>&1 &\nscheduler=$!\nexec 9> /plan.in\n"
+             f"{{ {plan}; }} >&9\n"
+             "until grep -q -v ready /plan.out; do sleep 0.2; done")
+    beside = (f"(/guest until $last; echo read >&9; /guest until $((last + {SECOND // 4}));"
+              " kill $scheduler; wait; sed 's/^/scheduler /' /plan.out) &\nexec 9>&-")
+    return early, beside
+
+
+def scheduler_program(folder: Path) -> bytes:
+    """The scheduler's loader, compiled for a guest, which has no libraries."""
+    packages.said(["make", "-C", str(SCHEDULER), f"OUT={folder}", "LDFLAGS=-static"])
+    return (folder / "arbiter-scheduler").read_bytes()
 
 
 def hold_program(folder: Path, archive: Path) -> bytes:
@@ -94,10 +122,13 @@ def begun(script: str, key: str) -> str:
 
 
 def lines_of(kernel: packages.Kernel, board: machine.Board, setting: machine.Setting,
-             scripts: Sequence[str], archive: Path | None = ARCHIVE) -> list[str]:
-    """Boots a guest for runs one after another, with the loop over a C library. Returns what it
-    printed."""
+             scripts: Sequence[str], archive: Path | None = ARCHIVE, is_scheduled: bool = False
+             ) -> list[str]:
+    """Boots a guest for runs one after another, with the loop over a C library, and with the
+    scheduler. Returns what it printed."""
     work = f"echo '+cpu' > {layout.TOP}/cgroup.subtree_control\n{layout.BEAT}" + "".join(scripts)
     with tempfile.TemporaryDirectory(prefix="arbiter-hold-") as name:
         more = {"hold": (0o100755, hold_program(Path(name), archive))} if archive else {}
-    return machine.run(kernel, board, setting, work, more)
+        if is_scheduled:
+            more["arbiter-scheduler"] = (0o100755, scheduler_program(Path(name)))
+    return machine.run(kernel, board, setting, work, more, 512 if is_scheduled else 256)

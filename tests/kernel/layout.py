@@ -98,14 +98,19 @@ def task(scenario: Scenario, path: str, leaf: Leaf, number: int) -> str:
         # the work between two naps is that of the demand, as a part of all time
         part = works[0] / scenario.period
         works = [round(leaf.nap * part / (1 - part))]
-    words = [path, "$first", "$((last + 100000000))", str(scenario.period), str(leaf.nap),
-             f"{leaf.mask(number):x}", *map(str, works)]
+    mask, span = f"{leaf.mask(number):x}", (path, "$first", "$((last + 100000000))")
+    words = ["load", *span, str(scenario.period), str(leaf.nap), mask, *map(str, works)]
+    if leaf.fork:
+        words = ["farm", *span, str(leaf.fork), mask]
+    if number < leaf.nice:
+        words = ["nice", "19", *words]
     return (f"(echo 0 > {shlex.quote(place(path, 'cgroup.procs'))};"
-            f" exec /guest load {' '.join(words)}) &")
+            f" exec /guest {' '.join(words)}) &")
 
 
-def script(scenario: Scenario, span: Span, beside: str = "") -> str:
-    """The whole script of one run. `beside` is a line that begins before the tasks do."""
+def script(scenario: Scenario, span: Span, beside: str = "", early: str = "") -> str:
+    """The whole script of one run. `beside` is a line that begins before the tasks do, and `early`
+    are lines that have ended before any time is set."""
     settle, rounds = scenario.rounds(span.settle), scenario.rounds(span.seconds)
     limited = ([place(path, "cpu.stat") for path in scenario.files("cpu.max")] if span.has_grid
                else [])
@@ -119,6 +124,7 @@ def script(scenario: Scenario, span: Span, beside: str = "") -> str:
     lines = [
         *features(scenario.features),
         *groups(scenario),
+        *([early] if early else ()),
         f"first=$((($(/guest now) / {GRID} + {lead}) * {GRID} + {span.late} * 1000))",
         f"begin=$((first + {settle * scenario.round} * 1000))",
         f"last=$((begin + {rounds * scenario.round} * 1000))",
@@ -127,6 +133,8 @@ def script(scenario: Scenario, span: Span, beside: str = "") -> str:
         f"/guest watch $begin $last -- {files} &",
         *([f"/guest grid $first $((begin - {QUIET})) {' '.join(limited)} &"] if limited else ()),
         *([beside] if beside else ()),
+        *[f"/guest load load $first $last {scenario.period} 0 {(1 << scenario.processors) - 1:x}"
+          f" {scenario.period} > /dev/null &"] * scenario.outside,
         *tasks,
         "echo ready $(/guest now)",
         "wait",

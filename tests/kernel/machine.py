@@ -148,7 +148,8 @@ def wait(words: list[str], seconds: float) -> str:
 def run(kernel: packages.Kernel, board: Board, setting: Setting, work: str,
         more: dict[str, tuple[int, bytes]] | None = None, memory: int = 256) -> list[str]:
     """Boots a guest that runs a shell script. Returns the lines that the script printed."""
-    emulator = packages.emulator(setting.shift is not None and board.processors > 1)
+    # before 8.1 it also dies of a kernel that patches itself while several processors run
+    emulator = packages.emulator(board.processors > 1 and not setting.is_kvm)
     with tempfile.TemporaryDirectory(prefix="arbiter-guest-") as name:
         folder = Path(name)
         program = packages.guest_program(folder)

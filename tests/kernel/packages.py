@@ -25,7 +25,12 @@ EMULATOR = "qemu-system-x86_64"
 BUSYBOX = Path("/bin/busybox")
 # Names of kernels, and the Debian packages that name their newest version.
 KERNELS = {"6.1": "linux-image-cloud-amd64", "6.12": "linux-image-6.12-cloud-amd64"}
+# A kernel that may be given a scheduler (sched_ext): the newest of Debian 13's backports. Its image
+# and its config are in two packages that its own one names.
+NEWEST = "7"
+SPLIT = ("linux-binary-", "linux-base-")
 BACKPORTS = "deb http://deb.debian.org/debian bookworm-backports main\n"
+NEWER = "deb http://deb.debian.org/debian trixie-backports main\n"
 FAIR = (8, 1)
 SECONDS = 900
 
@@ -124,24 +129,46 @@ def any_kernel() -> Kernel:
 
 
 def kernel(name: str) -> Kernel:
-    """A kernel of `KERNELS`, the newest that apt knows."""
+    """A kernel of `KERNELS`, or `NEWEST`: the newest that apt knows."""
+    if name == NEWEST:
+        return newest()
     if name not in KERNELS:
-        raise KernelFault(f"kernel {name}: one of {', '.join(KERNELS)}")
-    found = re.search(r"Depends: (linux-image-\S+)", said(["apt-cache", "depends", KERNELS[name]]))
-    if not found:
-        raise KernelFault(f"apt knows no {KERNELS[name]}: apt-get update")
-    folder = cache_folder() / found[1]
+        raise KernelFault(f"kernel {name}: one of {', '.join((*KERNELS, NEWEST))}")
+    image = depends(KERNELS[name])
+    folder = cache_folder() / image
     with alone():
-        fetch([found[1]], folder)
+        fetch([image], folder)
     return in_folder(name, folder)
+
+
+def depends(package: str, apt: tuple[str, ...] = ()) -> str:
+    """The package of an image that a package without files names."""
+    found = re.search(r"Depends: (linux-image-\S+)", said(["apt-cache", *apt, "depends", package]))
+    if not found:
+        raise KernelFault(f"apt knows no {package}: apt-get update")
+    return found[1]
+
+
+def newest() -> Kernel:
+    """The kernel of `NEWEST`. One that is unpacked stays, so that runs are of one kernel."""
+    there = sorted(cache_folder().glob(f"linux-image-{NEWEST}.*-amd64"))
+    with alone():
+        if not there:
+            apt = backports(NEWER, "apt-newer")
+            image = depends("linux-image-cloud-amd64", apt)
+            there = [cache_folder() / image]
+            fetch([image.replace("linux-image-", each) for each in SPLIT], there[0], apt)
+    return in_folder(NEWEST, there[-1])
 
 
 def in_folder(name: str, folder: Path) -> Kernel:
     """A kernel that is unpacked in a folder."""
     release = folder.name.removeprefix("linux-image-")
-    config = (folder / "boot" / f"config-{release}").read_text(encoding="utf-8")
-    ticks = re.search(r"^CONFIG_HZ=(\d+)$", config, re.MULTILINE)
-    image = folder / "boot" / f"vmlinuz-{release}"
+    config, image = folder / f"boot/config-{release}", folder / f"boot/vmlinuz-{release}"
+    if not image.exists():
+        config, image = (folder / f"usr/lib/modules/{release}" / each
+                         for each in ("config", "vmlinuz"))
+    ticks = re.search(r"^CONFIG_HZ=(\d+)$", config.read_text(encoding="utf-8"), re.MULTILINE)
     return Kernel(name, release, image, int(ticks[1] if ticks else 0))
 
 
@@ -153,12 +180,12 @@ def emulator_of(words: tuple[str, ...]) -> Emulator:
                     if found else False)
 
 
-def backports() -> tuple[str, ...]:
-    """Options of apt that read bookworm-backports alone, with lists of their own."""
-    top = cache_folder() / "apt"
-    for name in ("lists/partial", "cache/archives/partial"):
-        (top / name).mkdir(parents=True, exist_ok=True)
-    (top / "sources.list").write_text(BACKPORTS, encoding="utf-8")
+def backports(source: str = BACKPORTS, name: str = "apt") -> tuple[str, ...]:
+    """Options of apt that read backports alone, with lists of their own."""
+    top = cache_folder() / name
+    for folder in ("lists/partial", "cache/archives/partial"):
+        (top / folder).mkdir(parents=True, exist_ok=True)
+    (top / "sources.list").write_text(source, encoding="utf-8")
     words = ("-o", f"Dir::Etc::sourcelist={top}/sources.list", "-o", "Dir::Etc::sourceparts=-",
              "-o", f"Dir::State::lists={top}/lists", "-o", f"Dir::Cache={top}/cache")
     said(["apt-get", "-q", *words, "update"])

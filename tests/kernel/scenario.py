@@ -21,7 +21,8 @@ class Leaf:
 
     `nap` is microseconds that a task sleeps after its work; 0 is a task that goes by periods.
     `cpus` is the mask of the processors that its tasks may use. With `is_spread` each task keeps
-    to one of them, in turn.
+    to one of them, in turn. So many tasks as `nice` says are at nice 19. With a `fork` each task
+    works for so many microseconds in a new task, again and again.
     """
 
     demands: tuple[int, ...]
@@ -29,6 +30,8 @@ class Leaf:
     nap: int
     cpus: int
     is_spread: bool = False
+    nice: int = 0
+    fork: int = 0
 
     def mask(self, number: int) -> int:
         """The processors that a task may use; tasks are numbered from 0."""
@@ -56,6 +59,8 @@ class Scenario:
     features: tuple[str, ...] = ()
     # The only kernel that it is for; empty: all.
     kernel: str = ""
+    # Tasks that always work in no group of the scenario.
+    outside: int = 0
     settings: list[tuple[str, ...]] = field(default_factory=list)
     paths: list[str] = field(default_factory=list)
     leaves: dict[str, Leaf] = field(default_factory=dict)
@@ -108,12 +113,15 @@ def options_parser() -> argparse.ArgumentParser:
     parser.add_argument("--slice", type=int, default=1000)
     parser.add_argument("--tasks", type=pair, action="append", default=[])
     parser.add_argument("--nap", type=pair, action="append", default=[])
+    parser.add_argument("--nice", type=pair, action="append", default=[])
+    parser.add_argument("--fork", type=pair, action="append", default=[])
     parser.add_argument("--pin", type=pair, action="append", default=[])
     parser.add_argument("--spread", action="store_true")
     parser.add_argument("--features", type=lambda text: tuple(text.split(",")), default=())
     parser.add_argument("--kernel", default="")
     parser.add_argument("--offset", type=int)
     parser.add_argument("--unjudged", default="")
+    parser.add_argument("--outside", type=int, default=0)
     return parser
 
 
@@ -131,7 +139,7 @@ def leaf_of(path: str, demands: tuple[int, ...], options: argparse.Namespace) ->
         raise KernelFault(f"{path}: not 1 to {MOST_TASKS} tasks")
     every = (1 << options.processors) - 1
     return Leaf(demands, tasks, of_group(options.nap, path, 0), of_group(options.pin, path, every),
-                options.spread)
+                options.spread, of_group(options.nice, path, 0), of_group(options.fork, path, 0))
 
 
 def parse(name: str, text: str) -> Scenario:
@@ -156,7 +164,7 @@ def parse(name: str, text: str) -> Scenario:
             raise KernelFault(f"{name}: {line!r} has no place in a scenario")
     found.steps = found.steps or [now]
     for key in ("processors", "sockets", "period", "slice", "offset", "unjudged", "features",
-                "kernel"):
+                "kernel", "outside"):
         setattr(found, key, getattr(options, key))
     for path in now:
         demands = tuple(step.get(path, 0) for step in found.steps)

@@ -16,7 +16,8 @@ from dataclasses import dataclass, replace
 from typing import Any
 
 from kernel import faults, layout, machine, packages
-from kernel.held import ARCHIVE, WAYS, Way, begun, lines_of, loop_line, rounds_in
+from kernel.held import (ARCHIVE, WAYS, Way, begun, lines_of, loop_line, rounds_in,
+                         scheduler_lines)
 from kernel.planned import begin
 from kernel.scenario import Scenario
 from laboratory import compare, exact, planned, readings
@@ -65,6 +66,15 @@ def limits_of(scenario: Scenario, amounts: dict[str, int], way: Way) -> Iterator
                 yield "write", path, "cpu.max.burst", str(quota // 10)
 
 
+def own_limits(scenario: Scenario, amounts: dict[str, int]) -> dict[str, int]:
+    """The limits of the scheduler, in nanoseconds of 100 ms: a leaf's own one, and the plan of one
+    below a limit."""
+    own = scenario.files("cpu.max")
+    found = {path: int(1000000 * (exact.quota_of(text) or 0)) for path, text in own.items()}
+    below = {path for path in scenario.leaves for above in found if path.startswith(f"{above}/")}
+    return {**found, **{path: int(1000000 * scenario.points(amounts[path])) for path in below}}
+
+
 def held_by(scenario: Scenario, way: Way) -> Scenario:
     """What the guest is given: the scenario, with the plan as limits and weights."""
     if way.is_loop or not way.has_limits:
@@ -93,8 +103,12 @@ class Job:
 
     def script(self) -> str:
         """The script of the guest."""
-        beside = loop_line(self.scenario, self.way) if self.way.is_loop else ""
-        return layout.script(held_by(self.scenario, self.way), self.span, beside)
+        early, beside = "", loop_line(self.scenario, self.way) if self.way.is_loop else ""
+        if self.way.is_scheduled:
+            amounts = plan(self.scenario)
+            early, beside = scheduler_lines(self.scenario, amounts,
+                                            own_limits(self.scenario, amounts))
+        return layout.script(held_by(self.scenario, self.way), self.span, beside, early)
 
 
 def span_of(way: Way, options: argparse.Namespace, repeat: int) -> layout.Span:
@@ -108,13 +122,15 @@ def ran(kernel: packages.Kernel, jobs: Sequence[Job], setting: machine.Setting
     """Boots one guest for jobs of one board, and compares them with their plans."""
     lines = lines_of(kernel, jobs[0].scenario.board, setting,
                      [begun(job.script(), job.key(kernel)) for job in jobs],
-                     ARCHIVE if any(job.way.is_loop for job in jobs) else None)
+                     ARCHIVE if any(job.way.is_loop for job in jobs) else None,
+                     any(job.way.is_scheduled for job in jobs))
     told = rounds_in(lines)
     runs = readings.runs([line for line in lines if not line.startswith("held ")])
     for job, run in zip(jobs, runs, strict=True):
         outcome = compare.outcome_of(job.scenario, run, job.span)
         yield {"release": kernel.release, "way": job.way.name, "repeat": job.repeat,
                "seconds": job.span.seconds, "rounds": told.get(run.key, []),
+               "pieces": run.pieces,
                **brief(outcome), "refusal": refusal_of(outcome, job.way)}
 
 

@@ -48,6 +48,9 @@ class Run:
     grid: dict[str, list[int]] = field(default_factory=dict)
     refused: list[str] = field(default_factory=list)
     told: list[str] = field(default_factory=list)
+    # How long pieces of work took, of each task that naps: their number, and the microseconds of
+    # the middle one, of 99 of 100 and of the longest.
+    pieces: list[tuple[str, int, int, int, int]] = field(default_factory=list)
     ready: int = 0
     guest: dict[str, str] = field(default_factory=dict)
 
@@ -95,6 +98,13 @@ def add(run: Run, line: str, file: str) -> str:
     elif words[:1] == ["task"]:
         had, _, _, _, moves, *seen = map(int, words[2:])
         run.tasks.append(Task(words[1], had, moves, tuple(seen)))
+    elif words[:1] == ["pieces"]:
+        number, middle, late, most = map(int, words[2:])
+        run.pieces.append((words[1], number, middle, late, most))
+    elif words[:1] == ["scheduler"]:
+        run.told.append(line)
+        if words[1] == "arbiter-scheduler:" and "ended after" not in line:
+            run.refused.append(line)
     elif words[:1] == ["refused"]:
         run.refused.append(line.removeprefix("refused "))
     elif words and file and run.readings:

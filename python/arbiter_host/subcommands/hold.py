@@ -196,6 +196,17 @@ def metrics_file(asked: argparse.Namespace, stack: ExitStack) -> File | None:
     return file
 
 
+def is_scheduled(asked: argparse.Namespace, root: safe_files.Root) -> bool:
+    """Whether the kernel's scheduler is given the plan. Without --yes rounds are shown alone."""
+    if asked.by != options.SCHEDULER:
+        return False
+    if asked.weights:
+        raise UsageFault("--by scheduler: --weights writes files, and it writes none")
+    if asked.yes and not is_real(root):
+        raise UsageFault("--by scheduler: the kernel has one scheduler, that of the host's tree")
+    return bool(asked.yes)
+
+
 def run(asked: argparse.Namespace) -> None:
     """Holds the plan on a tree until an end or a signal; without --yes it shows rounds alone."""
     if not 1 <= asked.depth <= MAX_DEPTH:
@@ -211,6 +222,12 @@ def run(asked: argparse.Namespace) -> None:
         stack.callback(root.close)
         service = Service(Notifier(), metrics_file(asked, stack))
         stack.enter_context(service.begun())
-        loop = hold.Loop(engine, root, asked.source, host, kept, ways, service.clock)
+        words = (engine, root, asked.source, host)
+        if is_scheduled(asked, root):
+            from arbiter_host import scheduler
+            loop: hold.Loop = scheduler.ScheduledLoop(
+                scheduler.Scheduler(asked.source), *words, None, ways, service.clock)
+        else:
+            loop = hold.Loop(*words, kept, ways, service.clock)
         hold.run(loop, times, service.wait, functools.partial(service.show, host),
                  lambda: service.notifier.send("READY=1"))

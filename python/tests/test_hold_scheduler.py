@@ -1,0 +1,144 @@
+"""Hold by the kernel's scheduler: what a stand-in for its loader is told, and what it answers."""
+import os
+import stat
+import sys
+
+import pytest
+from arbiter_host import hold, safe_files, scheduler
+from arbiter_host.faults import HostFault
+from held import FREE, TWO, World
+
+# A loader that keeps its commands in a file. Each reading is the next line of another one: of each
+# group of the plan the nanoseconds that it used and waited, by its place in the plan.
+LOADER = """\
+#!{python}
+import sys
+readings = iter(open({folder!r} + "/readings").read().splitlines())
+log = open({folder!r} + "/log", "w", buffering=1)
+log.write("top " + sys.argv[1] + "\\n")
+print("ready", flush=True)
+groups, plans = [], 0
+for line in sys.stdin:
+    log.write(line)
+    words = line.split()
+    if words[0] == "plan":
+        groups, plans = [], plans + 1
+    elif words[0] == "leaf":
+        groups.append(words[1])
+    elif words[0] == "end":
+        print("plan", plans, flush=True)
+    elif words[0] == "read":
+        each = next(readings, "")
+        if each == "fail":
+            sys.exit("arbiter-scheduler: the kernel ended the scheduler (1026)")
+        for group, told in zip(groups, each.split(";")):
+            used, waited = told.split(",")
+            print("leaf", group, used, waited, waited, 0)
+        print("leaf 0 5 5 5 0")
+        print("read", 1000000000 if plans else 0, flush=True)
+log.write("ended\\n")
+"""
+
+
+@pytest.fixture(name="begun")
+def begun_with(folder, engine):
+    """Begins a loop over a tree of plain files, whose loader has these readings."""
+    def begin(groups, *readings):
+        world, program = World(folder, groups), folder / "loader"
+        (folder / "readings").write_text("\n".join(readings) + "\n")
+        program.write_text(LOADER.format(python=sys.executable, folder=str(folder)))
+        program.chmod(program.stat().st_mode | stat.S_IXUSR)
+        loader = scheduler.Scheduler(str(world.tree), str(program))
+        return world, scheduler.ScheduledLoop(
+            loader, engine, safe_files.Root(str(world.tree)), str(world.tree), TWO,
+            clock=lambda: world.now)
+    return begin
+
+
+def commands(folder):
+    """What the loader was told, and whether it ended by itself."""
+    return (folder / "log").read_text().splitlines()
+
+
+def number(world, path):
+    """The number of a group's folder."""
+    return os.stat(world.tree / path).st_ino
+
+
+GROUPS = [("a", 100, FREE), ("b", 100, "80000 100000"), ("c", 200, FREE)]
+
+
+def test_a_plan_is_given_and_nothing_is_written(folder, begun):
+    """The first round is read as by limits. In the second a used 0.5 CPUs and waited for 1.5; b
+    used all that its limit allows, and c used 0.4 CPUs."""
+    world, loop = begun(GROUPS, "", "", "500000000,1500000000;800000000,1200000000;400000000,0")
+
+    def first():
+        for path in "abc":
+            world.uses(path, 60)
+
+    (one, stood), (two, then) = world.run(loop, first, lambda: None)
+    assert {path: each["plan"] for path, each in one["groups"].items()} == {
+        "a": 60, "b": 60, "c": 60}
+    assert {path: (each["used"], each["want"], each["plan"], each["hungry"])
+            for path, each in two["groups"].items()} == {
+        "a": (50, 200, 80, True), "b": (80, 200, 80, True), "c": (40, 40, 40, False)}
+    assert (one["written"], two["written"]) == (3, 3)
+    told = commands(folder)
+    a, b, c = (number(world, path) for path in "abc")
+    # b is below a limit: 80 slices of a period are 80 ms of 100
+    assert told == [
+        f"top {world.tree}", "read", "read", "plan 200", f"leaf {a} 60 0",
+        f"leaf {b} 60 {one['groups']['b']['limit'] * 1000000}", f"leaf {c} 60 0", "end", "read",
+        "plan 200", f"leaf {a} 80 0", f"leaf {b} 80 80000000", f"leaf {c} 40 0", "end", "ended"]
+    assert [world.maximum(path) for path in "abc"] == [FREE, "80000 100000", FREE]
+    assert stood == then and [each.name for each in folder.glob("undo*")] == []
+
+
+def test_a_leaf_below_a_limit_is_limited(folder, begun):
+    """A limit above a leaf gives it one; a group that comes is planned from its second reading."""
+    world, loop = begun([("p", 100, "90000 100000"), ("p/x", 100, FREE), ("q", 100, FREE)],
+                        *[""] * 4)
+    world.run(loop, lambda: world.add("r"), lambda: world.uses("r", 9))
+    limits = {line.split()[1]: line.split()[3] for line in commands(folder)
+              if line.startswith("leaf")}
+    names = {str(number(world, path)): path for path in ("p/x", "q", "r")}
+    assert {names[group]: limit != "0" for group, limit in limits.items()} == {
+        "p/x": True, "q": False, "r": False}
+
+
+def test_a_loader_that_ends_ends_the_loop(begun):
+    """What it said is the fault, and is no failed reading that may pass."""
+    world, loop = begun(GROUPS, "", "", "fail")
+    with pytest.raises(hold.WriteFault, match="the kernel ended the scheduler"):
+        world.run(loop, *[lambda: None] * 4)
+    assert loop.scheduler.process.poll() is not None
+
+
+def test_what_is_no_reading_is_refused(begun):
+    """Words that are no numbers."""
+    world, loop = begun(GROUPS, "", "", "x,y;0,0;0,0")
+    with pytest.raises(hold.WriteFault, match="no reading"):
+        world.run(loop, *[lambda: None] * 3)
+
+
+def test_without_a_loader(monkeypatch, folder):
+    """One line names the package; a loader that refuses says why itself."""
+    monkeypatch.setenv("PATH", str(folder))
+    monkeypatch.setattr(scheduler, "FOLDERS", str(folder))
+    with pytest.raises(HostFault, match="apt-get install arbiter-scheduler"):
+        scheduler.Scheduler("/sys/fs/cgroup")
+    program = folder / "arbiter-scheduler"
+    program.write_text("#!/bin/sh\necho this kernel has no sched_ext >&2\nexit 1\n")
+    program.chmod(0o755)
+    with pytest.raises(HostFault, match="this kernel has no sched_ext"):
+        scheduler.Scheduler("/sys/fs/cgroup")
+
+
+def test_refused_words(ctl, folder, world):
+    """Another tree than the host's, and weights."""
+    for words, said in ((["--yes", "--undo", folder / "u"], "the kernel has one scheduler"),
+                        (["--weights"], "--weights writes files")):
+        _, err = ctl.run("hold", world.tree, "--root", world.tree, "--by", "scheduler", *words,
+                         status=2)
+        assert said in err

@@ -1,0 +1,469 @@
+/* Loads the scheduler of plan.bpf.c, gives it plans, and tells what was used.
+ * SPDX-License-Identifier: MIT OR Apache-2.0
+ *
+ *   arbiter-scheduler [--trace FILE] TOP
+ *
+ * TOP is the folder of the groups that are planned. It reads commands from standard input, one a
+ * line:
+ *
+ *   plan SLICES                   a plan begins: the slices of all CPUs in its period
+ *   leaf GROUP AMOUNT LIMIT_NS    a leaf's amount in slices, and its limit in 100 ms (0: none)
+ *   end                           the plan is taken; answers `plan NUMBER`
+ *   read                          answers `leaf GROUP USED_NS WAITED_NS SOME_NS STOPS` for each
+ *                                 leaf, of the time since the last reading, and `read PASSED_NS`
+ *
+ * GROUP is the number of a group's folder; 0 is the rest. WAITED_NS is what its tasks waited in
+ * sum, SOME_NS how long one or more waited. When the input ends or a signal comes it ends, and the
+ * kernel schedules by weights again. So it does if this process is killed.
+ */
+#define _GNU_SOURCE
+#include <bpf/bpf.h>
+#include <bpf/libbpf.h>
+#include <dirent.h>
+#include <errno.h>
+#include <fcntl.h>
+#include <limits.h>
+#include <poll.h>
+#include <signal.h>
+#include <stdarg.h>
+#include <stdbool.h>
+#include <stdio.h>
+#include <stdlib.h>
+#include <string.h>
+#include <sys/resource.h>
+#include <sys/signalfd.h>
+#include <sys/stat.h>
+#include <time.h>
+#include <unistd.h>
+
+#include "plan.h"
+typedef __u16 u16;
+typedef __u32 u32;
+typedef __u64 u64;
+typedef __s32 s32;
+#include "plan.skel.h"
+
+#define CGROUPS "/sys/fs/cgroup"
+#define STATE "/sys/kernel/sched_ext/state"
+#define TYPES "/sys/kernel/btf/vmlinux"
+#define MOST_LINE 200
+#define MOST_AMOUNT 1000000000ULL
+/* Bytes of the ring of steps: some minutes of a small host. */
+#define TRACE_BYTES (16 << 20)
+#define DEFAULT_WEIGHT 100
+
+/* A leaf as the last plan had it, and what was read of it. */
+struct row {
+    u64 group;
+    u64 plan;
+    struct leaf read;
+};
+
+static struct plan *program;
+static struct bpf_link *link_;
+static struct row table[MOST_LEAVES];
+static u32 rows = 1;
+static u64 plans, read_ns;
+static const char *top, *trace;
+static struct event *steps;
+static size_t step_count, step_room;
+static char log_[400];
+
+static void fail(const char *form, ...)
+{
+    va_list words;
+    va_start(words, form);
+    fputs("arbiter-scheduler: ", stderr);
+    vfprintf(stderr, form, words);
+    fputc('\n', stderr);
+    va_end(words);
+    exit(1);
+}
+
+/* Keeps the end of what libbpf says, for the one line of a fault. */
+static int keep_log(enum libbpf_print_level level, const char *form, va_list words)
+{
+    char text[4096];
+    int length = vsnprintf(text, sizeof text, form, words);
+    if (level != LIBBPF_WARN || length <= 0)
+        return 0;
+    if (length >= (int)sizeof text)
+        length = sizeof text - 1;
+    size_t from = length >= (int)sizeof log_ ? length - (sizeof log_ - 1) : 0;
+    memcpy(log_, text + from, length - from + 1);
+    for (char *at = log_; *at; at++)
+        if (*at == '\n')
+            *at = ' ';
+    return 0;
+}
+
+static u64 now_ns(void)
+{
+    struct timespec now;
+    clock_gettime(CLOCK_MONOTONIC, &now);
+    return now.tv_sec * 1000000000ULL + now.tv_nsec;
+}
+
+static bool read_text(const char *folder, const char *name, char *text, size_t size)
+{
+    char path[PATH_MAX];
+    ssize_t length = -1;
+    int file = -1;
+    if (snprintf(path, sizeof path, "%s/%s", folder, name) < (int)sizeof path)
+        file = open(path, O_RDONLY | O_CLOEXEC);
+    if (file >= 0) {
+        length = read(file, text, size - 1);
+        close(file);
+    }
+    text[length > 0 ? length : 0] = 0;
+    return length > 0;
+}
+
+/* What the kernel needs, looked at before anything is loaded. */
+static void check_kernel(void)
+{
+    char text[64];
+    if (geteuid() != 0)
+        fail("only root may load a scheduler");
+    if (access("/sys/kernel/sched_ext", F_OK) != 0)
+        fail("this kernel has no sched_ext (CONFIG_SCHED_CLASS_EXT, from Linux 6.12 on)");
+    if (access(TYPES, R_OK) != 0)
+        fail("this kernel does not tell its types (CONFIG_DEBUG_INFO_BTF): no " TYPES);
+    if (read_text("/sys/kernel/sched_ext", "state", text, sizeof text)
+        && strncmp(text, "disabled", 8) != 0)
+        fail("another scheduler is loaded: " STATE " is %.*s", (int)strcspn(text, "\n"), text);
+    if (libbpf_num_possible_cpus() > MOST_CPUS)
+        fail("more than %d CPUs", MOST_CPUS);
+}
+
+static u64 weight_of(const char *folder)
+{
+    char text[32];
+    return read_text(folder, "cpu.weight", text, sizeof text) ? strtoull(text, NULL, 10) : 0;
+}
+
+/* The weights of the groups of a folder that have tasks. */
+static u64 weights_in(const char *folder)
+{
+    u64 sum = 0;
+    DIR *found = opendir(folder);
+    for (struct dirent *each; found && (each = readdir(found));) {
+        char path[PATH_MAX], text[128];
+        if (each->d_type != DT_DIR || each->d_name[0] == '.'
+            || snprintf(path, sizeof path, "%s/%s", folder, each->d_name) >= (int)sizeof path)
+            continue;
+        if (read_text(path, "cgroup.events", text, sizeof text) && strstr(text, "populated 1"))
+            sum += weight_of(path);
+    }
+    if (found)
+        closedir(found);
+    return sum;
+}
+
+/* The part of the host that is the planned groups' by weights: of 1. Tasks of the root count as one
+ * group. */
+static double planned_part(void)
+{
+    char path[PATH_MAX];
+    double part = 1;
+    snprintf(path, sizeof path, "%s", top);
+    while (strlen(path) > strlen(CGROUPS)) {
+        u64 own = weight_of(path), all;
+        *strrchr(path, '/') = 0;
+        all = weights_in(path);
+        if (strcmp(path, CGROUPS) == 0)
+            all += DEFAULT_WEIGHT;
+        if (own && all > own)
+            part *= (double)own / all;
+    }
+    if (strcmp(top, CGROUPS) == 0) {
+        u64 all = weights_in(top);
+        part = (double)(all + 1) / (all + 1 + DEFAULT_WEIGHT);
+    }
+    return part;
+}
+
+static void set_memory(void)
+{
+    struct rlimit all = { RLIM_INFINITY, RLIM_INFINITY };
+    setrlimit(RLIMIT_MEMLOCK, &all);
+}
+
+static void load(void)
+{
+#ifndef DEVELOPING
+    libbpf_set_print(keep_log);
+#endif
+    set_memory();
+    program = plan__open();
+    if (!program)
+        fail("the program cannot be read: %s", log_);
+    program->rodata->has_trace = trace != NULL;
+    program->rodata->cpus_there = libbpf_num_possible_cpus();
+    program->rodata->cpus_online = sysconf(_SC_NPROCESSORS_ONLN);
+    if (trace)
+        bpf_map__set_max_entries(program->maps.events, TRACE_BYTES);
+    if (plan__load(program) != 0)
+        fail("the kernel refused the program: %s", log_);
+}
+
+static void attach(void)
+{
+    link_ = bpf_map__attach_struct_ops(program->maps.plan_ops);
+    if (!link_)
+        fail("the kernel refused the scheduler: %s", strerror(errno));
+}
+
+/* The row of a group: its own, or a free one. */
+static u32 row_of(u64 group)
+{
+    u32 free_row = 0, here;
+    int groups = bpf_map__fd(program->maps.rows_of_groups);
+    if (bpf_map_lookup_elem(groups, &group, &here) == 0)
+        return here;
+    for (u32 row = 1; row < rows && !free_row; row++)
+        if (!table[row].group)
+            free_row = row;
+    if (!free_row && rows == MOST_LEAVES)
+        fail("more than %d leaves", MOST_LEAVES - 1);
+    if (!free_row)
+        free_row = rows++;
+    if (bpf_map_update_elem(groups, &group, &free_row, BPF_ANY) != 0)
+        fail("group %llu: %s", group, strerror(errno));
+    table[free_row].group = group;
+    table[free_row].read = program->bss->leaves[free_row];
+    return free_row;
+}
+
+/* The leaves of the last plan that are in none now: their rows are free. */
+static bool drop_old(void)
+{
+    bool has_dropped = false;
+    for (u32 row = 1; row < rows; row++)
+        if (table[row].group && table[row].plan != plans) {
+            bpf_map_delete_elem(bpf_map__fd(program->maps.rows_of_groups), &table[row].group);
+            table[row].group = 0;
+            has_dropped = true;
+        }
+    return has_dropped;
+}
+
+static void take_plan(u64 slices, u64 given, bool is_new)
+{
+    LIBBPF_OPTS(bpf_test_run_opts, options);
+    u64 least = slices * (1 - planned_part()), left = slices > given ? slices - given : 0;
+    program->bss->given[0].amount = left > least ? left : least;
+    is_new |= drop_old();
+    program->data->rows = rows;
+    /* the scheduler begins with the first plan */
+    if (!link_)
+        attach();
+    else if (bpf_prog_test_run_opts(bpf_program__fd(program->progs.take_plan), &options) != 0
+         || options.retval)
+        fail("the plan was not taken: %s, %d", strerror(errno), (int)options.retval);
+    if (is_new)
+        program->data->tree++;
+    printf("plan %llu\n", plans);
+}
+
+/* A leaf's counters now. Those of the time that its tasks wait go on up to now. */
+static struct leaf read_leaf(u32 row, u64 now)
+{
+    struct leaf leaf = *(volatile struct leaf *)&program->bss->leaves[row];
+    if (leaf.waiting > 0 && now > leaf.until_ns) {
+        leaf.some_ns += now - leaf.until_ns;
+        leaf.waited_ns += (now - leaf.until_ns) * leaf.waiting;
+    }
+    return leaf;
+}
+
+static u64 rise(u64 now, u64 before)
+{
+    return now > before ? now - before : 0;
+}
+
+static void tell_round(void)
+{
+    u64 now = now_ns();
+    for (u32 row = 0; row < rows; row++) {
+        struct leaf leaf = read_leaf(row, now), *before = &table[row].read;
+        if (row && !table[row].group)
+            continue;
+        printf("leaf %llu %llu %llu %llu %llu\n", table[row].group,
+               rise(leaf.used_ns, before->used_ns), rise(leaf.waited_ns, before->waited_ns),
+               rise(leaf.some_ns, before->some_ns), rise(leaf.stops, before->stops));
+        *before = leaf;
+    }
+    printf("read %llu\n", read_ns ? now - read_ns : 0);
+    read_ns = now;
+}
+
+/* The whole number of a word up to a bound. */
+static u64 number(const char *word, u64 most)
+{
+    char *end;
+    errno = 0;
+    u64 found = word ? strtoull(word, &end, 10) : 0;
+    if (!word || *word < '0' || *word > '9' || errno || *end || found > most)
+        fail("%s: not a number up to %llu", word ? word : "nothing", most);
+    return found;
+}
+
+/* One command. */
+static void obey(char *line)
+{
+    static u64 slices, given;
+    static bool is_open, is_new;
+    char *rest = line, *word = strsep(&rest, " ");
+    if (strcmp(word, "plan") == 0 && !is_open) {
+        slices = number(rest, MOST_AMOUNT);
+        given = 0;
+        is_open = true;
+        is_new = false;
+        plans++;
+    } else if (strcmp(word, "leaf") == 0 && is_open) {
+        u64 group = number(strsep(&rest, " "), ~0ULL);
+        u64 amount = number(strsep(&rest, " "), MOST_AMOUNT);
+        u64 limit = number(rest, LIMIT_PERIOD_NS * MOST_CPUS);
+        u32 before = rows, row = row_of(group);
+        is_new |= before != rows || !table[row].plan;
+        table[row].plan = plans;
+        program->bss->given[row] = (struct given){ amount ? amount : 1, limit };
+        given += amount;
+    } else if (strcmp(word, "end") == 0 && is_open) {
+        is_open = false;
+        take_plan(slices, given, is_new);
+    } else if (strcmp(word, "read") == 0 && !is_open) {
+        tell_round();
+    } else {
+        fail("no command: %.40s", line);
+    }
+    fflush(stdout);
+}
+
+/* The commands of what was read. What a line lacks comes later. */
+static bool take_input(void)
+{
+    static char text[1 << 16];
+    static size_t length;
+    ssize_t more = read(0, text + length, sizeof text - 1 - length);
+    if (more <= 0)
+        return more < 0 && errno == EINTR;
+    length += more;
+    text[length] = 0;
+    char *line = text, *end;
+    while ((end = strchr(line, '\n'))) {
+        *end = 0;
+        if (end - line > MOST_LINE)
+            fail("a line of more than %d letters", MOST_LINE);
+        obey(line);
+        line = end + 1;
+    }
+    length -= line - text;
+    memmove(text, line, length);
+    if (length > MOST_LINE)
+        fail("a line of more than %d letters", MOST_LINE);
+    return true;
+}
+
+static int keep_step(void *context, void *data, size_t size)
+{
+    (void)context;
+    if (size != sizeof *steps)
+        return 0;
+    if (step_count == step_room) {
+        step_room = step_room ? 2 * step_room : 1024;
+        steps = realloc(steps, step_room * sizeof *steps);
+        if (!steps)
+            fail("no memory for the trace");
+    }
+    steps[step_count++] = *(struct event *)data;
+    return 0;
+}
+
+static int by_order(const void *one, const void *other)
+{
+    u64 a = ((const struct event *)one)->at, b = ((const struct event *)other)->at;
+    return (a > b) - (a < b);
+}
+
+/* Writes the steps of the rule in their order. */
+static void write_trace(void)
+{
+    FILE *file = fopen(trace, "we");
+    if (!file)
+        fail("%s: %s", trace, strerror(errno));
+    qsort(steps, step_count, sizeof *steps, by_order);
+    fprintf(file, "processors %u\nslice %llu\n", program->rodata->cpus_there, SLICE_NS);
+    for (u32 row = 0; row < rows; row++)
+        fprintf(file, "leaf %u %llu\n", row, (u64)program->bss->leaves[row].amount);
+    for (size_t at = 0; at < step_count; at++) {
+        struct event *each = &steps[at];
+        if (each->kind == EVENT_WAKE)
+            fprintf(file, "wake %u 1\n", each->row);
+        else if (each->kind == EVENT_PICK)
+            fprintf(file, "pick %u %u\n", each->cpu, each->row);
+        else
+            fprintf(file, "end %u %llu %u\n", each->cpu, (u64)each->used_ns, each->remains);
+    }
+    if (fclose(file) != 0)
+        fail("%s: %s", trace, strerror(errno));
+}
+
+static int signals(void)
+{
+    sigset_t all;
+    sigemptyset(&all);
+    sigaddset(&all, SIGTERM);
+    sigaddset(&all, SIGINT);
+    sigaddset(&all, SIGHUP);
+    sigprocmask(SIG_BLOCK, &all, NULL);
+    return signalfd(-1, &all, SFD_CLOEXEC);
+}
+
+/* Obeys until the input ends, a signal comes, or the kernel ends the scheduler. */
+static void serve(void)
+{
+    struct ring_buffer *ring = NULL;
+    struct pollfd both[] = { { .fd = 0, .events = POLLIN }, { .fd = signals(), .events = POLLIN } };
+    if (trace)
+        ring = ring_buffer__new(bpf_map__fd(program->maps.events), keep_step, NULL, NULL);
+    while (poll(both, 2, 1000) >= 0 || errno == EINTR) {
+        if (program->bss->exit_kind)
+            fail("the kernel ended the scheduler (%llu): weights schedule again",
+                 (u64)program->bss->exit_kind);
+        if (both[1].revents || (both[0].revents && !take_input()))
+            break;
+    }
+    /* (what ends with the scheduler is no step of the rule) */
+    if (ring)
+        ring_buffer__consume(ring);
+    bpf_link__destroy(link_);
+    if (ring)
+        write_trace();
+    fprintf(stderr, "arbiter-scheduler: ended after %llu plans; counts set right %llu"
+        ", taken out of turn %llu\n", plans, (u64)program->bss->healed, (u64)program->bss->rescued);
+}
+
+int main(int count, char **words)
+{
+    if (count == 4 && strcmp(words[1], "--trace") == 0) {
+        trace = words[2];
+        words += 2;
+        count -= 2;
+    }
+    if (count != 2 || words[1][0] == '-') {
+        fputs("Usage: arbiter-scheduler [--trace FILE] TOP\n", stderr);
+        return 2;
+    }
+    check_kernel();
+    top = realpath(words[1], NULL);
+    if (!top || strncmp(top, CGROUPS, strlen(CGROUPS)) != 0)
+        fail("%s: no folder of " CGROUPS, words[1]);
+    load();
+    puts("ready");
+    fflush(stdout);
+    serve();
+    plan__destroy(program);
+    return 0;
+}
