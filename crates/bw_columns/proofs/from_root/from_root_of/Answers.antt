@@ -1,5 +1,5 @@
 -- The goals of `from_root_of` that are answered by hand.
-use Rattle.std.proofs.Common.{◌≡◌, ℕ, List, Bool, length, map, ap, sym, ◌∙◌, subst}
+use Rattle.std.proofs.Common.{◌≡◌, ℕ, List, Bool, length, map, ap, sym, ◌∙◌, subst, inl, inr}
 use Rattle.std.proofs.lemmas.List.{length-map}
 use Rattle.bw_model.specs.declared.row.Row.{Row}
 use Rattle.bw_model.specs.Groups.{Groups}
@@ -31,14 +31,14 @@ moved : (P : Groups → List Bool → Type 0) (g h : Groups) (xs ys : List Bool)
 moved P g h xs ys groups flags known =
     subst (λ (one : Groups). P one ys) groups (subst (λ (some : List Bool). P g some) flags known)
 
-pub tune_from_root-requires-goals : goal.tune_from_root-requires-goals
-tune_from_root-requires-goals c =
+pub tune_from_root-requires-clause-goals : goal.tune_from_root-requires-clause-goals
+tune_from_root-requires-clause-goals c =
     c.requires.goals c.in_ok-instance.ensures.fit
     ∙ sym (rows_length (table_of c.args.columns.now))
     ∙ ap (λ (g : Groups). length g.rows) (sym c.in_ok-instance.ensures.groups)
 
-pub tune_from_root-requires-may : goal.tune_from_root-requires-may
-tune_from_root-requires-may c =
+pub tune_from_root-requires-clause-may : goal.tune_from_root-requires-clause-may
+tune_from_root-requires-clause-may c =
     ap (length {A = Bool}) (c.as_slice.ensures.value ∙ c.in_ok-flags.ensures)
     ∙ length-map c.args.may.now _
     ∙ c.requires.may c.in_ok-instance.ensures.fit
