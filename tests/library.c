@@ -54,6 +54,12 @@ int main(void)
     char path[8];
     const uint64_t granted[3] = {ARBITER_NO_LIMIT, 15, 9}, base[3] = {ARBITER_NO_LIMIT, 10, 9}, served[3] = {20, 12, 8}, left_of[3] = {0, 3, 1};
     const uint64_t sums_of[6][3] = {{100007, 60007, 40007}, {8, 8, 8}, {7, 8, 8}, {7, 25007, 55007}, {7, 8, 7}, {7, 10007, 7}};
+    const uint64_t quota_of_one[3] = {ARBITER_NO_LIMIT, 50000, ARBITER_NO_LIMIT}, own_periods[3] = {100000, 100000, 100000};
+    const uint64_t burst_of_one[3] = {0, 25000, 0}, in_samples[6] = {0, 4, 20, 0, 20, 0};
+    const uint64_t none = ARBITER_NO_LIMIT;
+    const uint64_t cells_of[9][6] = {{40, 8, 32, 25, 25, 0}, {48, 8, 40, 25, 40, 0}, {none, 25, none, none, 25, none}, {0, 0, 0, 0, 2, 0},
+                                     {0, 0, 0, 0, 75000, 0}, {0, 0, 0, 0, 1, 0}, {0, 0, 0, 0, 25000, 0}, {0}, {0}};
+    uint64_t saved[3] = {0, 0, 0}, cells[9][6] = {{7}};
     uint64_t left[3] = {7, 7, 7}, sums[6][3] = {{7, 7, 7}, {7, 7, 7}, {7, 7, 7}, {7, 7, 7}, {7, 7, 7}, {7, 7, 7}};
 
     if (arbiter_plan(0, 100000, 5000, parents, 3, weights, 3, limits, 3, demands, 3, amounts, 3) != 1 || amounts[0] != 1)
@@ -219,5 +225,17 @@ int main(void)
         for (int each = 0; each < 6; each++)
             if (left[g] != left_of[g] || sums[each][g] != sums_of[each][g])
                 return 62;
+    /* The quota and the burst again: in two samples of two periods 6 slices are saved up, then 11, of which 5 count. */
+    if (arbiter_periods(1, 100000, 5000, parents, 3, weights, 3, quota_of_one, 3, own_periods, 3, burst_of_one, 3, in_samples, 6, 2, saved, 3,
+                        cells[0], 6, cells[1], 6, cells[2], 6, cells[3], 6, cells[4], 6, cells[5], 6, cells[6], 6, cells[7], 6, cells[8], 5) != 50
+            || cells[0][0] != 7 || saved[0] != 0)
+        return 63;
+    if (arbiter_periods(1, 100000, 5000, parents, 3, weights, 3, quota_of_one, 3, own_periods, 3, burst_of_one, 3, in_samples, 6, 2, saved, 3,
+                        cells[0], 6, cells[1], 6, cells[2], 6, cells[3], 6, cells[4], 6, cells[5], 6, cells[6], 6, cells[7], 6, cells[8], 6) != 0)
+        return 64;
+    for (int each = 0; each < 9; each++)
+        for (int cell = 0; cell < 6; cell++)
+            if (cells[each][cell] != cells_of[each][cell] || saved[cell % 3] != 0)
+                return 65;
     return 0;
 }

@@ -55,9 +55,15 @@ static uint32_t above[5], faults[5];
 static uint64_t columns[7][5], lines[5], names_count, refused_count;
 static uint8_t names[64];
 
+/* Two samples of a pod with a quota and a burst. */
+static const uint64_t quotas[5] = {ARBITER_NO_LIMIT, 50000, ARBITER_NO_LIMIT, ARBITER_NO_LIMIT, ARBITER_NO_LIMIT};
+static const uint64_t lasting[5] = {100000, 100000, 100000, 100000, 100000}, bursts[5] = {0, 25000, 0, 0, 0};
+static const uint64_t two_samples[10] = {0, 0, 2, 2, 20, 0, 0, 20, 20, 20};
+static uint64_t carried[5], cells[9][10];
+
 #define ROWS 1, 100000, 5000, parents, 5, weights, 5, limits, 5, demands, 5
 /* The calls before the check. */
-#define CALLS 15
+#define CALLS 16
 
 static void mark(void)
 {
@@ -71,7 +77,9 @@ static void mark(void)
         lines[g] = names[g] = 7;
     }
     for (int g = 0; g < 5; g++)
-        tuned[g] = 7;
+        tuned[g] = carried[g] = 7;
+    for (int cell = 0; cell < 90; cell++)
+        cells[cell / 10][cell % 10] = 7;
     together[0] = together[1] = unmet = 7;
     rest = count = row = 7;
     names_count = refused_count = 7;
@@ -90,7 +98,10 @@ static int is_marked(void)
             if (columns[column][g] != 7)
                 return 0;
     for (int g = 0; g < 5; g++)
-        if (tuned[g] != 7)
+        if (tuned[g] != 7 || carried[g] != 7)
+            return 0;
+    for (int cell = 0; cell < 90; cell++)
+        if (cells[cell / 10][cell % 10] != 7)
             return 0;
     if (together[0] != 7 || together[1] != 7 || unmet != 7)
         return 0;
@@ -119,6 +130,9 @@ static uint32_t call(int which)
     case 13: return arbiter_tune(ROWS, goal_groups, 2, asks_too_much, 2, 1, tuned, 5, together, 2, &unmet);
     case 14: return arbiter_book(ROWS, limits, 5, demands, 5, columns[0], 5, columns[1], 5, columns[2], 5, columns[3], 5,
                                 columns[4], 5, columns[5], 5, columns[6], 5);
+    case 15: return arbiter_periods(1, 100000, 5000, parents, 5, weights, 5, quotas, 5, lasting, 5, bursts, 5, two_samples, 10, 5,
+                                   carried, 5, cells[0], 10, cells[1], 10, cells[2], 10, cells[3], 10, cells[4], 10,
+                                   cells[5], 10, cells[6], 10, cells[7], 10, cells[8], 10);
     default: return arbiter_check(ROWS, amounts, 5, flags, 5, nums, 5, dens, 5, places, 5, &row);
     }
 }

@@ -1,4 +1,4 @@
-"""Periods by the C library: the limit of each, what it leaves, and its counters.
+"""Periods by the C library: the limit of each, what it leaves, its counters, and many in one call.
 
 They are compared with a model that is written from the kernel's documentation, and with the
 counters that `period` shows.
@@ -13,11 +13,13 @@ from typing import List, Optional
 import pytest
 
 import arbiter
+from arbiter.columns import given
+from plan_model import Instance, Row
 from support import same
 from test_library import number_of, random_tree
 
 SEED = 20261128
-LIMITS, BOOKED, SERIES = 2000, 150, 12
+LIMITS, BOOKED, SERIES, SAMPLES = 2000, 150, 12, 60
 MOST = 2**64 - 1
 HOST = arbiter.Host(1, 100000, 5000)
 TWO = [arbiter.Row(), arbiter.Row(0, limit=15, demand=20), arbiter.Row(0, limit=9, demand=20)]
@@ -195,3 +197,148 @@ def test_counters_of_period(module, program, number):
                 shown.append(each)
                 each = {}
     same(shown, series_of(module, HOST, groups, demands)[1:], f"series {number}")
+
+
+def settings_of(groups):
+    """Groups of a parent, a weight, a quota (None: none), an own period and a burst, by column."""
+    parents, weights, quotas, periods, bursts = zip(*groups)
+    return arbiter.Settings(
+        array("I", [2**32 - 1 if parent is None else parent for parent in parents]),
+        array("Q", weights), array("Q", [MOST if quota is None else quota for quota in quotas]),
+        array("Q", periods), array("Q", bursts))
+
+
+def samples(module, host, groups, demands, times, carries):
+    """The sums by name, and what the last period leaves."""
+    left = array("Q", carries)
+    found = module.periods(host, settings_of(groups), array("Q", sum(demands, [])), times, left)
+    return {name: list(column) for name, column in zip(found._fields, found)}, list(left)
+
+
+def samples_by_model(host, groups, demands, times, carries):
+    """The same, a period after the other."""
+    sums = {name: [] for name in arbiter.Samples._fields}
+    quotas = [limit_by_model(host, quota, period, 0, 0) for _, _, quota, period, _ in groups]
+    for asked in demands:
+        cells = {name: [0] * len(groups) for name in sums}
+        for _ in range(times):
+            rows = [arbiter.Row(parent, weight, limit_by_model(host, quota, period, burst, carry),
+                                demand)
+                    for (parent, weight, quota, period, burst), carry, demand in zip(
+                        groups, carries, asked)]
+            amounts = Instance([Row(*row) for row in rows], host.capacity).plan()
+            carries, counted = after_period(host, rows, quotas, amounts,
+                                            [dict.fromkeys(COUNTERS, 0)] * len(rows))
+            for number, (row, want, counts) in enumerate(zip(rows, wants_by_model(rows), counted)):
+                is_short = counts["nr_throttled"] and amounts[number] < row.limit
+                added = {**counts, "amounts": amounts[number], "wants": want,
+                         "limits": MOST if row.limit is None else row.limit,
+                         "nr_short": int(bool(is_short)),
+                         "nr_starved": int(want > 0 and amounts[number] == 0)}
+                for name, column in cells.items():
+                    column[number] = min(column[number] + added[name], MOST)
+        for name, column in cells.items():
+            sums[name] += column
+    return sums, carries
+
+
+# A quota of 10 slices and a burst of 5, beside a group twice as heavy.
+PAIR = [(None, 100, None, 100000, 0), (0, 100, 50000, 100000, 25000), (0, 200, None, 100000, 0)]
+
+
+def test_two_samples_by_hand(module):
+    """It saves up 6 and then 11 slices, of which 5 count in the third period."""
+    sums, left = samples(module, HOST, PAIR, [[0, 4, 20], [0, 20, 0]], 2, [0, 0, 0])
+    same(sums, {"amounts": [40, 8, 32, 25, 25, 0], "wants": [48, 8, 40, 25, 40, 0],
+                "limits": [MOST, 25, MOST, MOST, 25, MOST], "nr_throttled": [0, 0, 0, 0, 2, 0],
+                "throttled_usec": [0, 0, 0, 0, 75000, 0], "nr_bursts": [0, 0, 0, 0, 1, 0],
+                "burst_usec": [0, 0, 0, 0, 25000, 0], "nr_short": [0] * 6, "nr_starved": [0] * 6})
+    same(left, [0, 0, 0])
+
+
+def random_samples(chance):
+    """Groups of a host of 1 to 96 CPUs, demands, the periods of a sample, and carries."""
+    host = arbiter.Host(chance.choice([1, 2, 70, 96]), *chance.choice([
+        (100000, 5000), (100000, 10000), (6000, 2000)]))
+    groups = [PAIR[0]]
+    for number in range(1, chance.randrange(1, 8)):
+        quota = chance.choice([None, chance.randrange(1000, 120000)])
+        burst = chance.choice([0, 0 if quota is None else quota, chance.randrange(60000)])
+        groups.append((chance.randrange(number), chance.choice([1, 100, 10000]), quota,
+                       chance.choice([100000, 50000, 7919]), burst))
+    inner = {group[0] for group in groups}
+    demands = [[0 if number in inner else chance.choice([0, chance.randrange(host.capacity + 9)])
+                for number in range(len(groups))] for _ in range(chance.randrange(1, 4))]
+    carries = [chance.choice([0, chance.randrange(30), MOST]) for _ in groups]
+    return host, groups, demands, chance.choice([0, 1, 2, 3, chance.randrange(40)]), carries
+
+
+@pytest.mark.parametrize("number", range(SAMPLES))
+def test_random_samples(module, number):
+    case = random_samples(random.Random(SEED + number))
+    same(samples(module, *case), samples_by_model(*case), f"case {number}")
+
+
+def test_a_day_in_parts(module):
+    """What a call leaves is what the next one begins with."""
+    demands = [[0, each, 20] for each in (4, 20, 20, 0, 11)]
+    whole, left = samples(module, HOST, PAIR, demands, 7, [0, 0, 0])
+    first, between = samples(module, HOST, PAIR, demands[:2], 7, [0, 0, 0])
+    second, end = samples(module, HOST, PAIR, demands[2:], 7, between)
+    same({name: column + second[name] for name, column in first.items()}, whole)
+    same(end, left)
+
+
+def test_more_periods_than_can_be_planned(module):
+    """Periods that come again are not planned again. A sum stops at its greatest value."""
+    sums, left = samples(module, HOST, PAIR, [[0, 4, 20]], 2**63, [0, 0, 0])
+    same(sums["amounts"], [MOST, MOST, MOST])
+    same(left, [0, 11, 0])
+    sums, _ = samples(module, HOST, PAIR, [[0, 4, 20]], 10**12, [0, 11, 0])
+    same((sums["amounts"], sums["limits"][1]), ([20 * 10**12, 4 * 10**12, 16 * 10**12],
+                                                15 * 10**12))
+
+
+def changed(place, **fields):
+    """The pair, of which one group has other settings."""
+    names = ("parent", "weight", "quota", "period", "burst")
+    return [tuple(fields.get(name, value) for name, value in zip(names, group))
+            if number == place else group for number, group in enumerate(PAIR)]
+
+
+TWO_SAMPLES = [[0, 4, 20], [0, 20, 0]]
+
+
+@pytest.mark.parametrize("number, host, groups, demands, carries", [
+    (50, HOST, PAIR, TWO_SAMPLES, [0, 0]), (50, HOST, PAIR, [[0, 4, 20], [0]], [0, 0, 0]),
+    (50, HOST, PAIR, [], [0, 0, 0]), (50, replace(HOST, processors=0), PAIR, [[0]], [0, 0, 0]),
+    (1, replace(HOST, processors=0), changed(1, quota=999), TWO_SAMPLES, [0, 0, 0]),
+    (1, arbiter.Host(1009, 5000, 5000), PAIR, TWO_SAMPLES, [0, 0, 0]),
+    (3, replace(HOST, slice_us=7), PAIR, TWO_SAMPLES, [0, 0, 0]),
+    (13, HOST, changed(1, quota=999, weight=0), TWO_SAMPLES, [0, 0, 0]),
+    (14, HOST, changed(2, quota=10**15 + 1), TWO_SAMPLES, [0, 0, 0]),
+    (15, HOST, changed(2, period=999), TWO_SAMPLES, [0, 0, 0]),
+    (14, HOST, changed(2, burst=10**15 + 1), TWO_SAMPLES, [0, 0, 0]),
+    (5, HOST, changed(1, parent=1), TWO_SAMPLES, [0, 0, 0]),
+    (6, HOST, changed(1, weight=0), [[0, 1000001, 0]], [0, 0, 0]),
+    (8, HOST, PAIR, [[0, 4, 20], [1, 4, 20]], [0, 0, 0]),
+    (9, HOST, PAIR, [[0, 4, 20], [0, 1000001, 20], [1, 4, 20]], [0, 0, 0]),
+    (10, HOST, changed(0, quota=50000), TWO_SAMPLES, [0, 0, 0]),
+])
+def test_refused_samples(module, number, host, groups, demands, carries):
+    """The first refusal, with nothing written."""
+    asked, left = array("Q", sum(demands, [])), array("Q", carries)
+    told = [array("Q", [7] * len(asked)) for _ in arbiter.Samples._fields]
+    same(module.calls.arbiter_periods(*module.host(host), *given(*settings_of(groups), asked), 3,
+                                      *given(left, *told)), number)
+    same((list(left), [list(each) for each in told]), (carries, [[7] * len(asked)] * len(told)))
+
+
+@pytest.mark.parametrize("place", range(len(arbiter.Samples._fields)))
+def test_room_for_each_sum(module, place):
+    """A column of sums of another length is refused."""
+    asked, left = array("Q", [0, 4, 20]), array("Q", [0, 0, 0])
+    told = [array("Q", [7] * (3 - (each == place))) for each in range(len(arbiter.Samples._fields))]
+    same(module.calls.arbiter_periods(*module.host(HOST), *given(*settings_of(PAIR), asked), 3,
+                                      *given(left, *told)), 50)
+    same({number for each in told for number in each}, {7})

@@ -8,6 +8,7 @@ import shutil
 import signal
 import subprocess
 import sys
+from array import array
 
 import arbiter
 import pytest
@@ -50,7 +51,7 @@ def answer(library, call, words):
         return "refused", refused.number, refused.name, refused.row
     if isinstance(told, Script):
         return told._replace(columns=list(vars(told.columns).values()))
-    return (told, words[-1]) if call == "book" else told
+    return (told, words[-1]) if call in ("book", "periods") else told
 
 
 def some_rows(chance):
@@ -76,6 +77,18 @@ def certified(library, host, rows):
     return ([0] * len(rows), arbiter.Certificate.zeros(len(rows))) if len(found_) == 4 else found_
 
 
+def of_periods(host, rows, chance):
+    """Two samples of three periods, of which some have wrong settings."""
+    count, columns = len(rows), arbiter.Columns.of(rows)
+    quotas = [chance.choice((MOST, chance.randrange(2000, 200000))) for _ in range(count)]
+    quotas[0], wrong = MOST, chance.randrange(8 * count)
+    if wrong < count:
+        quotas[wrong] = 999
+    settings = arbiter.Settings(columns.parents, columns.weights, array("Q", quotas),
+                                array("Q", [100000] * count), array("Q", [5000] * count))
+    return host, settings, columns.demands * 2, 3, array("Q", range(count))
+
+
 def of_tree(library, host, rows, chance):
     """Each call about a tree, with its words."""
     amounts, evidence = certified(library, host, rows)
@@ -90,6 +103,7 @@ def of_tree(library, host, rows, chance):
     for each in ([None if chance.random() < 0.5 else chance.randrange(40)
                   for _ in range(len(rows))], []):
         yield "book", (host, rows, each, amounts, arbiter.Counters.zeros(len(rows)))
+    yield "periods", of_periods(host, rows, chance)
     for few in ([], goals[:1], goals):
         yield from (("tune", (host, rows, few, guaranteed)) for guaranteed in (False, True))
     yield "guarantee", (host, rows, group)
@@ -145,7 +159,7 @@ def test_random_trees(both):
         rows = some_rows(chance)
         more = compare(both, of_tree(both[0], host, rows, chance))
         met, refused = met + more[0], refused + more[1]
-    assert met == 22 * TREES and met / 4 < refused < met * 3 / 4
+    assert met == 23 * TREES and met / 4 < refused < met * 3 / 4
 
 
 def test_no_tree(both):
@@ -172,7 +186,7 @@ def test_examples(both, path):
     told = both[0].script(host, text)
     assert len(told.names) > 1
     asked = [("script", (host, text)), *of_tree(both[0], host, told.columns, random.Random(SEED))]
-    assert compare(both, asked)[0] == 23
+    assert compare(both, asked)[0] == 24
 
 
 def test_many_groups(both):

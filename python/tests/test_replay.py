@@ -3,7 +3,7 @@ import csv
 import io
 import json
 import xml.etree.ElementTree
-from fractions import Fraction
+from array import array
 
 import pytest
 from arbiter import Host
@@ -56,41 +56,28 @@ def test_the_length_of_a_sample(ctl):
     assert at["06:00"]["bursts"] > 0 and at["07:00"]["bursts"] == 0
 
 
-def counted(engine, model, periods):
-    """What each group gets in so many periods, one after another."""
-    total = [0] * (len(model.groups) + 1)
-    for _ in range(periods):
-        (found, _, _), = series.periods_of(engine, model, 1)
-        total = [one + gets for one, gets in zip(total, found.answer.amounts)]
-    return total
-
-
 @settings(max_examples=30, deadline=None, suppress_health_check=list(HealthCheck))
 @given(quota=st.integers(1, 30), burst=st.integers(0, 30), before=st.integers(0, 40),
        after=st.integers(0, 40), periods=st.integers(1, 60))
 def test_repeated_periods_are_periods(engine, quota, burst, before, after, periods):
-    """Periods that are counted at once give the sums of periods that are planned one by one."""
-    def made():
-        model = Model(Host(1, 100000, 5000))
-        model.add(Group("a", 300, quota * 5000, 100000, min(burst, quota) * 5000))
-        model.add(Group("b", 100, quota * 2500, 100000, min(burst, quota) * 2500))
-        model.groups["a"].demand, model.groups["b"].demand = Fraction(before * 50), Fraction(400)
-        return model
+    """Periods that are counted at once give the sums of samples of one period each."""
+    model = Model(Host(1, 100000, 5000))
+    model.add(Group("a", 300, quota * 5000, 100000, min(burst, quota) * 5000))
+    model.add(Group("b", 100, quota * 2500, 100000, min(burst, quota) * 2500))
+    wants = [[0, demand, 8] for demand in (before, after, before)]
 
-    one, two = made(), made()
-    for model, run in ((one, counted), (two, None)):
-        sums = []
-        for demand in (before, after, before):
-            model.groups["a"].demand = Fraction(demand * 50)
-            if run:
-                sums.append(run(engine, model, periods))
-            else:
-                total = [0, 0, 0]
-                for found, _, times in series.periods_of(engine, model, periods):
-                    total = [each + gets * times for each, gets in zip(total, found.answer.amounts)]
-                sums.append(total)
-        model.notes = sums
-    assert one.notes == two.notes
+    def cells(samples, count):
+        asked = series.Asked(model.host, [".", "a", "b"], series.settings_of(model),
+                             array("Q", sum(samples, [])), array("Q", [0, 0, 0]), count)
+        return asked.cells(engine, asked.paths, lambda: None)
+
+    whole = cells(wants, periods)
+    for path, single in cells([each for each in wants for _ in range(periods)], 1).items():
+        parts = [single[begin:begin + periods] for begin in range(0, 3 * periods, periods)]
+        for cell, part in zip(whole[path], parts, strict=True):
+            assert cell.data() == {name: sum(each.data()[name] for each in part)
+                                   for name in cell.data()}
+            assert cell.limit == sum(each.limit for each in part)
 
 
 def demands_of(data, path="f.csv"):
