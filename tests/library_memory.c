@@ -45,6 +45,8 @@ static const uint64_t greatest[5] = {100, 10000, 100, 300, 10000};
 static const uint32_t goal_groups[2] = {1, 4};
 static const uint64_t goal_amounts[2] = {6, 14};
 static const uint64_t asks_too_much[2] = {7, 14};
+static const uint64_t most_for_one[5] = {0, 0, 0, 0, 16};
+static const uint8_t may[5] = {0, 1, 1, 1, 1};
 static uint64_t tuned[5], unmet;
 static uint8_t together[2];
 static uint32_t places[5], groups[5], blamed[5], actives[5], count, row;
@@ -63,7 +65,7 @@ static uint64_t carried[5], cells[9][10];
 
 #define ROWS 1, 100000, 5000, parents, 5, weights, 5, limits, 5, demands, 5
 /* The calls before the check. */
-#define CALLS 16
+#define CALLS 17
 
 static void mark(void)
 {
@@ -133,6 +135,9 @@ static uint32_t call(int which)
     case 15: return arbiter_periods(1, 100000, 5000, parents, 5, weights, 5, quotas, 5, lasting, 5, bursts, 5, two_samples, 10, 5,
                                    carried, 5, cells[0], 10, cells[1], 10, cells[2], 10, cells[3], 10, cells[4], 10,
                                    cells[5], 10, cells[6], 10, cells[7], 10, cells[8], 10);
+    /* the second pod of the host is to have 16: only lower weights give it that */
+    case 16: return arbiter_tune_from_root(1, 100000, 5000, parents, 5, greatest, 5, limits, 5, demands, 5, most_for_one, 5,
+                                          may, 5, tuned, 5, &unmet);
     default: return arbiter_check(ROWS, amounts, 5, flags, 5, nums, 5, dens, 5, places, 5, &row);
     }
 }

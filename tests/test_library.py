@@ -425,6 +425,7 @@ KINDS = {
     "certify": (CERTIFIED, [], 9),
     "reasons": ([c.U8, c.U32], [], 6),
     "hold": ([c.U8, c.U64, c.U64, *CERTIFIED], [], 12),
+    "tune_from_root": ([c.U64, c.U8, c.U64], [c.U64], 7),
     "check": (CERTIFIED, [c.U32], 4),
 }
 

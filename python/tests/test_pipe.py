@@ -106,6 +106,8 @@ def of_tree(library, host, rows, chance):
     yield "periods", of_periods(host, rows, chance)
     for few in ([], goals[:1], goals):
         yield from (("tune", (host, rows, few, guaranteed)) for guaranteed in (False, True))
+    for least in ([chance.choice((0, 0, 3, 9)) for _ in rows], []):
+        yield "tune_from_root", (host, rows, least, [chance.random() < 0.5 for _ in rows])
     yield "guarantee", (host, rows, group)
     for call in ("least_weight", "least_limit", "least_processors"):
         yield call, (host, rows, group, amount)

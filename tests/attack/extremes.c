@@ -99,7 +99,7 @@ static uint64_t told(const uint32_t *parents, const uint64_t *weights, const uin
     uint8_t *hungry = copied(weights, n), *together = guard_block(1, 0);
     uint64_t *held = guard_block(n * 8, 0), *round = guard_block(n * 8, 1), *tuned = guard_block(n * 8, 0), unmet = 7;
     const uint32_t last = (uint32_t)n - 1;
-    uint32_t answers[13];
+    uint32_t answers[14];
 
     answers[0] = arbiter_plan(HOST, ALL(n), amounts, n);
     answers[1] = arbiter_certify(HOST, ALL(n), amounts, n, flags, n, nums, n, dens, n, places, n);
@@ -118,10 +118,17 @@ static uint64_t told(const uint32_t *parents, const uint64_t *weights, const uin
     for (int each = 0; each < 6; each++)
         sums[each] = guard_block(n * 8, 1);
     answers[12] = arbiter_book(HOST, ALL(n), limits, n, demands, n, carries, n, sums[0], n, sums[1], n, sums[2], n, sums[3], n, sums[4], n, sums[5], n);
-    for (int each = 0; each < 13; each++)
-        sum = sum * 31 + answers[each];
     for (size_t g = 0; g < n; g++)
         sum = sum * 31 + held[g] + 3 * round[g] + 5 * tuned[g] + 7 * (g ? 0 : unmet + together[0]);
+    uint64_t *goals = guard_block(n * 8, 1);
+    for (size_t g = 0; g < n; g++)
+        goals[g] = g + 1 < n ? 0 : 1;
+    answers[13] = arbiter_tune_from_root(HOST, ALL(n), goals, n, hungry, n, tuned, n, &unmet);
+    guard_drop(goals);
+    for (int each = 0; each < 14; each++)
+        sum = sum * 31 + answers[each];
+    for (size_t g = 0; g < n; g++)
+        sum = sum * 31 + tuned[g] + 7 * (g ? 0 : unmet);
     for (size_t g = 0; g < n; g++)
         sum = sum * 31 + carries[g] + 3 * sums[0][g] + 5 * sums[1][g] + 7 * sums[2][g] + 11 * sums[3][g] + 13 * sums[4][g] + 17 * sums[5][g];
     for (size_t g = 0; g < n; g++)
@@ -130,7 +137,7 @@ static uint64_t told(const uint32_t *parents, const uint64_t *weights, const uin
         sum = sum * 31 + amounts[g] + 3 * nums[g] + 5 * dens[g] + 7 * flags[g] + 11 * places[g] + 13 * groups[g] + 17 * reasons[g];
     for (int each = 0; each < 4; each++)
         sum = sum * 31 + least[each];
-    calls += 13;
+    calls += 14;
     demand(1, __LINE__);
     for (int each = 0; each < 6; each++)
         guard_drop(sums[each]);
@@ -197,6 +204,7 @@ static void nothing(void)
     IS(5, arbiter_refused_row(ALL(0), &row));
     IS(5, arbiter_hold(HOST, ALL(0), flags, 0, amounts, 0, amounts, 0, amounts, 0, flags, 0, amounts, 0, amounts, 0, places, 0));
     IS(5, arbiter_tune(HOST, ALL(0), parents, 0, amounts, 0, 1, amounts, 0, flags, 0, &number));
+    IS(5, arbiter_tune_from_root(HOST, ALL(0), amounts, 0, flags, 0, amounts, 0, &number));
     IS(50, arbiter_plan(0, 0, 0, parents, 0, weights, 0, limits, 0, demands, 0, &number, 1));
     IS(13, arbiter_name(57, (char *)flags, 0));
     IS(strlen(ARBITER_VERSION), arbiter_version((char *)flags, 0));
@@ -236,6 +244,7 @@ static void millions(void)
     uint8_t *hungry = mapped(n);
     IS(4, arbiter_hold(HOST, ALL(n), hungry, n, held, n, round, n, amounts, n, flags, n, nums, n, dens, n, places, n));
     IS(4, arbiter_tune(HOST, ALL(n), parents, n, weights, n, 0, held, n, flags, n, &number));
+    IS(4, arbiter_tune_from_root(HOST, ALL(n), weights, n, hungry, n, held, n, &number));
     munmap(held, n * 8), munmap(round, n * 8), munmap(hungry, n);
     IS(50, arbiter_plan(HOST, parents, n, weights, 3, limits, n, demands, n, amounts, n));
     IS(50, arbiter_plan(HOST, ALL(n), amounts, n - 1));

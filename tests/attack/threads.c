@@ -11,7 +11,7 @@
 
 #define THREADS 16
 #define MOST 200
-#define CALLS 15
+#define CALLS 16
 #define NONE ARBITER_NO_LIMIT
 #define TEXT 4000
 #define LINES 90
@@ -86,6 +86,7 @@ static void ask(const struct tree *tree, struct answers *found)
                                  &found->refused_count);
     numbers[14] = arbiter_book(HOST, ROWS, tree->limits, n, found->amounts, n, found->carries, n, found->sums[0], n, found->sums[1], n,
                                found->sums[2], n, found->sums[3], n, found->sums[4], n, found->sums[5], n);
+    numbers[15] = arbiter_tune_from_root(HOST, ROWS, found->amounts, n, tree->hungry, n, found->tuned, n, &found->unmet);
     atomic_fetch_add(&calls, CALLS);
 }
 

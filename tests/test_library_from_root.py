@@ -1,0 +1,155 @@
+"""The least weights from the root down, by the C library.
+
+They are compared with weights worked by hand, and on tiny trees with each choice of a few weights,
+by the slow model's plans.
+"""
+import itertools
+import random
+from typing import Iterator, List, Optional, Sequence
+
+import pytest
+
+import arbiter
+from plan_model import Row
+from support import same
+from test_library import REFUSED, number_of, rows_of
+from test_library_questions import HOST, is_under, model_of
+
+SEED, TREES = 20261129, 150
+# The weights that the model tries, and the fewest trees of each kind.
+TRIED, LEAST_OF_EACH = (1, 2, 3, 5), 8
+# Of 20 slices `web` (1) gets 10, and the groups of `pod` (2) 5 each.
+EVEN = [Row(None), Row(0, demand=20), Row(0), Row(2, demand=20), Row(2, demand=20)]
+ALL = [False, True, True, True, True]
+
+
+@pytest.fixture(scope="module")
+def module(library):
+    """The library under test, as the Python module calls it."""
+    return arbiter.Library(str(library))
+
+
+@pytest.mark.parametrize("goals, may, answer", [
+    ([0, 0, 0, 0, 0], ALL, [100] * 5),
+    # The twelfth slice of row 1 costs 23 / 136, and the ninth of row 2 17 / 100.
+    ([0, 12, 0, 0, 0], ALL, [100, 136, 100, 100, 100]),
+    # A goal inside a pod: the pod needs 8 for it at the greatest weight, and has 10. Of these the
+    # eighth slice of row 3 costs 15 / 300, as the third of row 4 does behind it.
+    ([0, 0, 0, 8, 0], ALL, [100, 100, 100, 300, 100]),
+    # The pod alone may change. Of 15 row 3 has 8, as it comes first. The fifteenth slice of the pod
+    # costs 29 / 264, and the sixth of row 1 11 / 100.
+    ([0, 0, 0, 8, 0], [False, False, True, False, False], [100, 100, 264, 100, 100]),
+    # Row 1 keeps 5, and its weight stays. The pod's fourteenth slice costs 27 / 208, and the seventh
+    # of row 1 13 / 100. Row 3 has all 14, as its last one costs 27 / 2700, and the first of row 4
+    # 1 / 100.
+    ([0, 5, 0, 14, 0], [False, False, True, True, False], [100, 100, 208, 2700, 100]),
+    # Goals of a group and of one inside it. The eighth slice of row 3 costs 15 / 167, and the fifth
+    # of row 4 9 / 100.
+    ([0, 0, 12, 8, 0], ALL, [100, 100, 136, 167, 100]),
+    # 12 and 12 are more than 20: the root's goals cannot be met together.
+    ([0, 12, 12, 0, 0], ALL, 0),
+    # Both groups of the pod cannot have 11 of 20, whatever the pod has.
+    ([0, 0, 0, 11, 11], ALL, 2),
+    # Its demand is 20.
+    ([0, 0, 0, 21, 0], ALL, 3),
+])
+def test_worked(module, goals, may, answer):
+    """Weights worked by hand, or a row whose goals no weights meet together."""
+    found = module.tune_from_root(HOST, EVEN, goals, may)
+    same(found, answer)
+    if isinstance(found, list):
+        assert is_met(HOST, with_weights(EVEN, found), goals), found
+        assert all(weight == row.weight for weight, row, each in zip(found, EVEN, may) if not each)
+
+
+@pytest.mark.parametrize("number, row, host, tuples", REFUSED,
+                         ids=[f"{case[0]}, {at}" for at, case in enumerate(REFUSED)])
+def test_refused(module, number, row, host, tuples):
+    """Host and rows are refused as those of a plan are."""
+    rows = rows_of(tuples)
+    none, each = [0] * len(rows), [True] * len(rows)
+    same(number_of(module.tune_from_root, host, rows, none, each), (number, row))
+
+
+@pytest.mark.parametrize("goals, may", [(4, 5), (5, 4), (6, 5), (5, 6)])
+def test_wrong_length(module, goals, may):
+    """One goal and one `may` for each row."""
+    same(number_of(module.tune_from_root, HOST, EVEN, [0] * goals, [True] * may), (50, None))
+
+
+# Beside each choice of a few weights
+
+
+def with_weights(rows: Sequence[Row], weights: Sequence[int]) -> List[Row]:
+    return [Row(row.parent, weight, row.limit, row.demand) for row, weight in zip(rows, weights)]
+
+
+def is_met(host, rows: Sequence[Row], goals: Sequence[int], top: int = 0) -> bool:
+    """Whether the plan gives each row from a top down its goal."""
+    amounts = model_of(host, rows).plan()
+    return all(amount >= goal for row, (amount, goal) in enumerate(zip(amounts, goals))
+               if is_under(rows, top, row))
+
+
+def choices(rows: Sequence[Row], may: Sequence[bool], raised: bool) -> Iterator[Sequence[int]]:
+    """Each choice of the tried weights for the rows that may change, of those that lower none."""
+    tried = [[weight for weight in TRIED if not raised or weight >= row.weight] if each
+             else [row.weight] for row, each in zip(rows, may)]
+    return itertools.product(*tried)
+
+
+def agrees_above(rows: Sequence[Row], one: Sequence[int], other: Sequence[int], row: int) -> bool:
+    """Whether the weights above a row agree, and those of the siblings of these."""
+    above: Optional[int] = rows[row].parent
+    while above:
+        parent = rows[above].parent
+        if any(one[each] != other[each] for each, it in enumerate(rows) if it.parent == parent):
+            return False
+        above = parent
+    return True
+
+
+def tiny(chance: random.Random) -> List[Row]:
+    """A tree of two levels, with tried weights that stand and few limits."""
+    rows = [Row(None), Row(0), Row(0)]
+    rows += [Row(chance.randrange(3)) for _ in range(chance.randrange(1, 4))]
+    inner = {row.parent for row in rows}
+    for number, row in enumerate(rows[1:], 1):
+        row.weight = chance.choice(TRIED[:3])
+        row.limit = chance.choice([None] * 5 + [chance.randrange(1, 8)])
+        row.demand = 0 if number in inner else chance.randrange(1, 12)
+    return rows
+
+
+def test_tiny_trees(module):
+    """No choice meets the goals with less at a row, agreeing above it, nor where none is found."""
+    chance = random.Random(SEED)
+    seen = {"as they stand": 0, "raised": 0, "lowered": 0, "unmet": 0}
+    host = arbiter.Host(1, 100000, 10000)
+    for tree in range(TREES):
+        rows = tiny(chance)
+        may = [False, *(chance.random() < 0.7 for _ in rows[1:])]
+        amounts = model_of(host, rows).plan()
+        goals = [0, *(max(0, amount + chance.choice((-9, -9, -1, 0, 1, 2))) for amount in amounts[1:])]
+        found = module.tune_from_root(host, rows, goals, may)
+        told = f"tree {tree}, goals {goals}, may {may}"
+        if not isinstance(found, list):
+            for weights in choices(rows, may, False):
+                assert not is_met(host, with_weights(rows, weights), goals, found), told
+            seen["unmet"] += 1
+            continue
+        assert is_met(host, with_weights(rows, found), goals), told
+        assert all(weight == row.weight for weight, row, each in zip(found, rows, may) if not each)
+        raised = all(weight >= row.weight for weight, row in zip(found, rows))
+        if not raised:
+            assert not any(is_met(host, with_weights(rows, weights), goals)
+                           for weights in choices(rows, may, True)), told
+        for weights in choices(rows, may, raised):
+            if is_met(host, with_weights(rows, weights), goals):
+                for row in range(1, len(rows)):
+                    if agrees_above(rows, found, weights, row):
+                        assert found[row] <= weights[row], f"{told}: {found}, {weights}"
+        changed = any(weight != row.weight for weight, row in zip(found, rows))
+        seen["lowered" if not raised else "raised" if changed else "as they stand"] += 1
+    print(seen)
+    assert min(seen.values()) >= LEAST_OF_EACH, seen
