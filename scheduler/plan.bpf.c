@@ -5,8 +5,8 @@
  * the leaf with the least clock of all that have a task waiting. That pick charges a whole slice;
  * what was not used is given back when the slice ends. So a leaf past its plan gets what nobody
  * else wants, and no CPU idles while a leaf that may run has a task that this CPU may take. Sleep
- * earns no credit: a leaf whose first task wakes is lifted to the least clock of those that want. A
- * new plan is a common start: all clocks are equal.
+ * earns no credit: a leaf whose first task wakes is lifted to the least clock of those that want,
+ * without what is charged in advance. A new plan is a common start: all clocks are equal.
  *
  * Tasks wait in their leaf's queue, in turn. The leaf with the least clock is the root of a tree of
  * winners, so a pick costs the number of levels, whatever the number of leaves. Tasks that only
@@ -212,27 +212,38 @@ static __always_inline void count_waiting(struct leaf *leaf, u64 now, s32 more)
     leaf->waiting += more;
 }
 
-/* The leaf with the least clock of those that want, because they wait or run; or nobody. */
-static __always_inline u32 least_row(void)
+/* A leaf's clock without the slices that are charged in advance: it may be no less. */
+static __always_inline u64 clock_of_use(struct leaf *leaf)
 {
-    u32 cpu, least = winners[1];
+    return leaf->clock - leaf->running * leaf->stride;
+}
+
+/* The least clock of use of the leaves that want, because a task of theirs waits or runs. Where
+ * nobody wants it is the greatest clock: what was used on an idle host counts no longer. */
+static __always_inline u64 least_clock(void)
+{
+    u32 cpu, first = winners[1];
+    bool is_found = first < NOBODY;
+    u64 least = is_found ? clock_of_use(leaf_of(first)) : greatest;
 
     bpf_for(cpu, 0, cpus_there) {
         struct on_cpu *on = on_cpu(cpu);
-        if (on->is_busy && is_first(on->row, least))
-            least = on->row;
+        u64 clock = clock_of_use(leaf_of(on->row));
+        if (on->is_busy && (!is_found || is_before(clock, least))) {
+            least = clock;
+            is_found = true;
+        }
     }
     return least;
 }
 
-/* A task wants to run. The first one of a leaf lifts it, to just before the least. Where nobody wants
- * it begins with the greatest clock: what was used on an idle host counts no longer. */
+/* A task wants to run. The first one of a leaf lifts it: not over what others have used, or each
+ * waking would cost it a slice. */
 static __always_inline void come(struct task *task, struct leaf *leaf)
 {
     task->is_there = 1;
     if (leaf->there++ == 0) {
-        u32 least = least_row();
-        u64 clock = least < NOBODY ? leaf_of(least)->clock - 1 : greatest;
+        u64 clock = least_clock();
         if (is_before(leaf->clock, clock))
             leaf->clock = clock;
     }

@@ -18,7 +18,8 @@ GRID = 100000000
 QUIET = 650000000
 # The board's clock without its driver, so that nobody takes its interrupt.
 BEAT = """\
-cd /sys/bus/pnp/drivers/rtc_cmos && for clock in *:*; do echo $clock > unbind; done; cd /
+cd /sys/bus/pnp/drivers/rtc_cmos 2> /dev/null && for clock in *:*; do echo $clock > unbind; done
+cd /sys/bus/platform/drivers/rtc_cmos 2> /dev/null && echo rtc_cmos > unbind 2> /dev/null; cd /
 /guest beat
 """
 
