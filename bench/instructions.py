@@ -11,8 +11,9 @@ the machine is. What the kernel does is not counted.
 
 A number is of one group, and at `demand` of one leaf. What the set-up takes is taken off.
 
-Status 1: a number is over 5 % above the one that is kept, also when it is counted again. Status 2:
-the program cannot be counted, or nothing is kept to compare with. It is no part of ./test.
+Status 1: a number is over 5 % above the one that is kept, also when it is counted again. Or lines
+that find a group take over 3 % more where a third of the groups was removed and made again. Status
+2: the program cannot be counted, or nothing is kept to compare with. It is no part of ./test.
 """
 import argparse
 import os
@@ -26,19 +27,24 @@ from pathlib import Path
 from typing import NamedTuple
 
 from runs import answers, counted, fixed_random, note, program_of, stop
-from shapes import OF_EACH, Tree, host, text_of
+from shapes import AGAIN, OF_EACH, Tree, host, text_of
 
 TOP = Path(__file__).resolve().parent.parent
 KEPT = TOP / "bench/instructions.txt"
 SHAPES = ["flat", "pairs", "chains of 32", "random"]
 WORK = ["mkdir", "setup", "demand", "read", "write", "plan", "total", "cert", "report", "period",
         "check"]
+# Lines that find a group, counted after a removal too.
+LINES = ["demand", "read", "write"]
 # The work that is counted on trees of so many groups, and the shapes of these.
-SIZES = {4096: (WORK, SHAPES), 16384: (["mkdir", "plan", "check"], ["flat", "random"])}
+SIZES = [(4096, WORK, SHAPES), (16384, ["mkdir", "plan", "check"], ["flat", "random"]),
+         (4096, LINES, ["flat" + AGAIN, "random" + AGAIN])]
 # Times that a line of all groups is given, so that the first of them tells less.
 ROUNDS = 5
 # A number may be so many times the one that is kept.
 MOST = 1.05
+# After a removal it may be so many times the one before.
+MOST_AGAIN = 1.03
 
 
 class Row(NamedTuple):
@@ -98,7 +104,7 @@ def piece(program: str, tree: Tree, row: Row) -> Piece:
 
 def rows_of(only: Iterable[str]) -> list[Row]:
     """The rows of some work, those of one piece of work after each other."""
-    return [Row(work, shape, groups) for work in only for groups, (some, shapes) in SIZES.items()
+    return [Row(work, shape, groups) for work in only for groups, some, shapes in SIZES
             if work in some for shape in shapes]
 
 
@@ -167,6 +173,12 @@ def grown(kept: Table, found: Table) -> list[Row]:
     return [row for row, number in found.items() if number > kept[row] * MOST]
 
 
+def dearer(found: Table) -> list[Row]:
+    """The rows of trees of which a part was removed that are over 3 % above those before."""
+    return [row for row, number in found.items() if row.shape.endswith(AGAIN)
+            and number > found[row._replace(shape=row.shape.removesuffix(AGAIN))] * MOST_AGAIN]
+
+
 def cell(kept: Table, found: Table, row: Row) -> str:
     """A number, how it changed, and bold where it grew too much."""
     if row not in found:
@@ -180,7 +192,7 @@ def cell(kept: Table, found: Table, row: Row) -> str:
 
 def printed(kept: Table, found: Table) -> Iterator[str]:
     """The table for bench/measured.md."""
-    places = [(shape, groups) for groups, (_, shapes) in SIZES.items() for shape in shapes]
+    places = [(shape, groups) for groups, _, shapes in SIZES for shape in shapes]
     places = [place for place in places if place in {(row.shape, row.groups) for row in found}]
     yield f"| Work | {' | '.join(f'{shape}, {groups}' for shape, groups in places)} |"
     yield "|---" * (len(places) + 1) + "|"
@@ -255,7 +267,9 @@ def main() -> None:
     for row in failed:
         note(f"GREW: {row.work}, {row.shape}, {row.groups} groups: {found[row]:.1f} instructions a"
              f" group, and {kept[row]:.1f} are kept")
-    sys.exit(1 if failed else 0)
+    for row in dearer(found):
+        note(f"DEARER: {row.work}, {row.shape}, {row.groups} groups: {found[row]:.1f} instructions")
+    sys.exit(1 if failed or dearer(found) else 0)
 
 
 if __name__ == "__main__":

@@ -50,6 +50,8 @@ SHAPES: dict[str, Callable[[int], list[str]]] = {
     "flat": flat, "pairs": pairs, **{f"chains of {depth}": chains(depth) for depth in DEPTHS},
     "chain of 64 with siblings": chain_with_siblings, "random": at_random,
 }
+# The end of a shape's name where each third leaf was removed, and made again as it was.
+AGAIN = ", a third made again"
 
 
 class Tree:
@@ -61,7 +63,7 @@ class Tree:
 
     def __init__(self, shape: str, groups: int) -> None:
         chosen = random.Random(11)
-        self.paths = SHAPES[shape](groups)
+        self.paths = SHAPES[shape.removesuffix(AGAIN)](groups)
         above = {path.rpartition("/")[0] for path in self.paths}
         leaves = [path for path in self.paths if path not in above]
         middle = 96000 / len(leaves)
@@ -73,6 +75,10 @@ class Tree:
                   for path in limited]
         read = [f"read {path} cpu.max" for path in self.paths]
         self.made = [*mkdir, *write, *demand, *limits]
+        if shape.endswith(AGAIN):
+            gone = dict.fromkeys(leaves[::3])
+            again = [line for line in self.made if line.split(" ")[1] in gone]
+            self.made += [f"rmdir {path}" for path in gone] + again
         self.rounds = {"mkdir": mkdir, "demand": demand, "write": write, "read": read}
         self.rounds |= {command: [command] for command in OF_ALL}
 

@@ -9,7 +9,7 @@ import pytest
 import questions
 import runs
 from instructions import Row
-from shapes import Tree, host, text_of
+from shapes import AGAIN, Tree, host, text_of
 
 from support import ROOT, run, same
 
@@ -76,9 +76,27 @@ def test_kept_numbers_are_read_back():
 
 
 def test_all_work_is_counted():
-    """Each piece of work on four trees of 4096 groups, and three on two of 16384."""
+    """Each piece of work on four trees of 4096 groups, three on two of 16384, and three lines on
+    two of which a part was removed."""
     rows = instructions.rows_of(instructions.WORK)
-    same((len(rows), len(set(rows))), (4 * 11 + 3 * 2, 4 * 11 + 3 * 2))
+    same((len(rows), len(set(rows))), (4 * 11 + 3 * 2 + 3 * 2,) * 2)
+
+
+@pytest.mark.parametrize("number, is_dearer", [(103.0, False), (103.1, True), (60.0, False)])
+def test_lines_after_a_removal(number, is_dearer):
+    """A line that finds a group may take 3 % more after a removal, and no more."""
+    before = Row("read", "flat", 4096)
+    after = before._replace(shape="flat" + AGAIN)
+    same(instructions.dearer({before: 100.0, after: number}), [after] if is_dearer else [])
+
+
+def test_a_part_is_made_again():
+    """Each third leaf goes and comes back with the settings that it had."""
+    before, after = Tree("flat", 10).made, Tree("flat" + AGAIN, 10).made
+    gone = ["g0", "g3", "g6"]
+    again = [line for line in before if line.split(" ")[1] in gone]
+    assert len(again) >= 9
+    same(after, [*before, *(f"rmdir {path}" for path in gone), *again])
 
 
 @pytest.mark.parametrize("number, is_grown", [
