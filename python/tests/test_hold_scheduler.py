@@ -31,7 +31,7 @@ for line in sys.stdin:
         each = next(readings, "")
         if each == "fail":
             sys.exit("arbiter-scheduler: the kernel ended the scheduler (1026)")
-        for group, told in zip(groups, each.split(";")):
+        for group, told in zip(groups, filter(None, each.split(";"))):
             used, waited = told.split(",")
             print("leaf", group, used, waited, waited, 0)
         print("leaf 0 5 5 5 0")
