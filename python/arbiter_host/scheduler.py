@@ -126,8 +126,8 @@ class ScheduledLoop(hold.Loop):
     def __init__(self, scheduler: Scheduler, *words: Any, **more: Any) -> None:
         super().__init__(*words, **more)
         self.scheduler, self.used, self.passed = scheduler, dict[int, UsedTime](), 0
-        # The groups with a limit of their own.
-        self.with_limit = set[str]()
+        # The limits of groups that have one of their own, in slices.
+        self.limits = dict[str, int]()
         # kubelet's groups are served too, since nothing in them is written
         self.is_checked = True
 
@@ -165,19 +165,22 @@ class ScheduledLoop(hold.Loop):
         return len(found.told)
 
     def limit(self, path: str, line: Line) -> int:
-        """The limit of a leaf in nanoseconds of its period; 0 where no group sets one."""
+        """The limit of a leaf in nanoseconds of its period; 0 where no group sets one. Where the
+        round holds nobody it is the least of those that groups set."""
         names = path.split("/")
-        above = ("/".join(names[:length]) for length in range(1, len(names) + 1))
-        if self.with_limit.isdisjoint(above):
+        paths = ("/".join(names[:length]) for length in range(1, len(names) + 1))
+        above = [self.limits[each] for each in paths if each in self.limits]
+        if not above:
             return 0
-        part: int = line["limit"] * self.host.slice_us * LIMIT_PERIOD // self.host.period_us
+        limit: int = min(above) if line["limit"] is None else line["limit"]
+        part = limit * self.host.slice_us * LIMIT_PERIOD // self.host.period_us
         return max(part, 1)
 
     def rows(self, model: Model) -> list[Any]:
         """The rows of the operator's own settings; the groups with a limit are kept."""
         found = super().rows(model)
-        self.with_limit = {path for path, group in model.groups.items()
-                           if group.quota is not None}
+        self.limits = {path: row.limit for path, row in zip(model.groups, found[1:])
+                       if row.limit is not None}
         return found
 
     def set(self, kept: Kept) -> None:
