@@ -26,8 +26,9 @@ scheduler_packages='clang bpftool libbpf-dev libelf-dev zlib1g-dev make gcc'
 # Makes the scheduler, if what compiles it is there. Otherwise it names what is missing.
 make_scheduler() {
   [ -f scheduler/Makefile ] || return 0
-  if ! command -v clang >/dev/null || ! command -v bpftool >/dev/null || ! command -v make >/dev/null ||
-    [ ! -e /usr/include/bpf/libbpf.h ]; then
+  local tool missing=''
+  for tool in clang bpftool make gcc; do command -v "$tool" >/dev/null || missing=yes; done
+  if [ -n "$missing" ] || [ ! -e /usr/include/bpf/libbpf.h ]; then
     echo "build: no arbiter-scheduler without libbpf 1.4: apt-get install $scheduler_packages" >&2
     return 0
   fi
