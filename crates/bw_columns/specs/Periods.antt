@@ -145,7 +145,7 @@ pub record Period : Type 0 where
   pub amounts : List ℕ
   pub left : List ℕ
 
--- what group g leaves of its limit
+-- the slices that group g leaves of its limit
 abbrev pub left_at : List Row → List ℕ → ℕ → ℕ
 left_at rows amounts g = left_of (row_of rows g).limit (slice_index amounts g)
 

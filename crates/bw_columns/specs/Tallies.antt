@@ -156,7 +156,7 @@ pub record AreSums (tallies : List Tally) (sums : Sums) : Type 0 where
   pub nr_short : sums.nr_short ≡ map (λ (t : Tally). t.nr_short) tallies
   pub nr_starved : sums.nr_starved ≡ map (λ (t : Tally). t.nr_starved) tallies
 
--- so many entries in each column
+-- one length for all columns
 pub record AreSumsLong (sums : Sums) (count : ℕ) : Type 0 where
   pub amounts : length sums.amounts ≡ count
   pub wants : length sums.wants ≡ count

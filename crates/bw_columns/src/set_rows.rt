@@ -57,7 +57,7 @@ impl<'a> SettingColumns<'a> {
     }
 }
 
-// What a group may use in one period, in slices.
+// Slices that a group may use in one period.
 #[derive(Clone, Copy)]
 struct Allowance {
     // its quota, none for no limit
@@ -98,7 +98,7 @@ fn most(quota: Option<u64>, burst: u64) -> u64
     }
 }
 
-// What settings allow a group.
+// Allowance of a group by its settings.
 fn allowance_of(
     shape: HostShape,
     quota_us: u64,

@@ -154,7 +154,7 @@ fn looked_back(alloc: Global, count: usize, walk: Walk) -> Result<Walk, AllocErr
     Ok(walk)
 }
 
-/// So many periods of groups whose rows have their quotas as limits.
+/// A sample of groups whose rows have their quotas as limits: `times` periods.
 pub(crate) fn sample_of(
     alloc: Global,
     asked: &Instance,
