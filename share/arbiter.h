@@ -30,9 +30,9 @@
  *   51 to 58  the amounts are not the plan by this certificate
  *   71        memory was refused (OutOfMemory)
  * The first that applies is answered, in this order:
- *   1. 50, where the columns of the rows differ in length, or a column of an answer or `hungry` from them, or nums, dens and
- *      places of arbiter_check from each other, or goal_groups, goal_amounts and together of arbiter_tune, or ran and waited of
- *      arbiter_reading, or columns of arbiter_periods do not fit
+ *   1. 50, where the columns of the rows differ in length, or a column of an answer, `hungry`, `goals` or `may` from them, or nums,
+ *      dens and places of arbiter_check from each other, or goal_groups, goal_amounts and together of arbiter_tune, or ran and
+ *      waited of arbiter_reading, or columns of arbiter_periods do not fit
  *   2. 1 to 3
  *   3. 4 to 10, of a text 40 to 43 too, of arbiter_periods 13 to 15 before them
  *   4. of a check 50, where amounts, flags or levels are not one for each row, and then 51 to 58; of a question about a group

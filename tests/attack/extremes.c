@@ -99,7 +99,7 @@ static uint64_t told(const uint32_t *parents, const uint64_t *weights, const uin
     uint8_t *hungry = copied(weights, n), *together = guard_block(1, 0);
     uint64_t *held = guard_block(n * 8, 0), *round = guard_block(n * 8, 1), *tuned = guard_block(n * 8, 0), unmet = 7;
     const uint32_t last = (uint32_t)n - 1;
-    uint32_t answers[14];
+    uint32_t answers[15];
 
     answers[0] = arbiter_plan(HOST, ALL(n), amounts, n);
     answers[1] = arbiter_certify(HOST, ALL(n), amounts, n, flags, n, nums, n, dens, n, places, n);
@@ -125,7 +125,21 @@ static uint64_t told(const uint32_t *parents, const uint64_t *weights, const uin
         goals[g] = g + 1 < n ? 0 : 1;
     answers[13] = arbiter_tune_from_root(HOST, ALL(n), goals, n, hungry, n, tuned, n, &unmet);
     guard_drop(goals);
-    for (int each = 0; each < 14; each++)
+    /* as many periods as there can be, of quotas that are none */
+    uint64_t *quotas = guard_block(n * 8, 0), *own = guard_block(n * 8, 1), *bursts = guard_block(n * 8, 0), *left = guard_block(n * 8, 1), *cells[9];
+    for (size_t g = 0; g < n; g++)
+        quotas[g] = ARBITER_NO_LIMIT, own[g] = 100000, bursts[g] = 0, left[g] = 0;
+    for (int each = 0; each < 9; each++)
+        cells[each] = guard_block(n * 8, each % 2);
+    answers[14] = arbiter_periods(HOST, parents, n, weights, n, quotas, n, own, n, bursts, n, demands, n, UINT64_MAX, left, n, cells[0], n, cells[1], n,
+                                  cells[2], n, cells[3], n, cells[4], n, cells[5], n, cells[6], n, cells[7], n, cells[8], n);
+    for (int each = 0; each < 9; each++) {
+        for (size_t g = 0; g < n; g++)
+            sum = sum * 31 + cells[each][g];
+        guard_drop(cells[each]);
+    }
+    guard_drop(quotas), guard_drop(own), guard_drop(bursts), guard_drop(left);
+    for (int each = 0; each < 15; each++)
         sum = sum * 31 + answers[each];
     for (size_t g = 0; g < n; g++)
         sum = sum * 31 + tuned[g] + 7 * (g ? 0 : unmet);
@@ -137,7 +151,7 @@ static uint64_t told(const uint32_t *parents, const uint64_t *weights, const uin
         sum = sum * 31 + amounts[g] + 3 * nums[g] + 5 * dens[g] + 7 * flags[g] + 11 * places[g] + 13 * groups[g] + 17 * reasons[g];
     for (int each = 0; each < 4; each++)
         sum = sum * 31 + least[each];
-    calls += 14;
+    calls += 15;
     demand(1, __LINE__);
     for (int each = 0; each < 6; each++)
         guard_drop(sums[each]);
@@ -205,6 +219,8 @@ static void nothing(void)
     IS(5, arbiter_hold(HOST, ALL(0), flags, 0, amounts, 0, amounts, 0, amounts, 0, flags, 0, amounts, 0, amounts, 0, places, 0));
     IS(5, arbiter_tune(HOST, ALL(0), parents, 0, amounts, 0, 1, amounts, 0, flags, 0, &number));
     IS(5, arbiter_tune_from_root(HOST, ALL(0), amounts, 0, flags, 0, amounts, 0, &number));
+    IS(50, arbiter_periods(HOST, parents, 0, weights, 0, limits, 0, weights, 0, demands, 0, demands, 0, UINT64_MAX, amounts, 0, amounts, 0, amounts, 0,
+                           amounts, 0, amounts, 0, amounts, 0, amounts, 0, amounts, 0, amounts, 0, amounts, 0));
     IS(50, arbiter_plan(0, 0, 0, parents, 0, weights, 0, limits, 0, demands, 0, &number, 1));
     IS(13, arbiter_name(57, (char *)flags, 0));
     IS(strlen(ARBITER_VERSION), arbiter_version((char *)flags, 0));

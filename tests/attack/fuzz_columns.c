@@ -418,6 +418,54 @@ static void hold_tune(struct host host, struct rows rows)
     guard_drop(groups), guard_drop(amounts), guard_drop(tuned), guard_drop(together);
 }
 
+/* Weights of the rows that may change meet the goals of rows, or a row is told. */
+static void hold_tune_from_root(struct host host, struct rows rows)
+{
+    size_t n = rows.parents_length;
+    uint64_t *goals = column(n, 8), *tuned = marked(n, 8), unmet = 77;
+    uint8_t *may = column(n, 1);
+
+    for (size_t row = 0; row < n; row++) {
+        may[row] = (uint8_t)(taken(1) % 3);
+        goals[row] = taken(1) % 4 ? 0 : number(12);
+    }
+    demand(counted(arbiter_tune_from_root(HOST(host), ROWS(rows), goals, n, may, n, tuned, n, &unmet)) == 0, "no weights from the root down");
+    demand(unmet == ARBITER_NO_GOAL || unmet < n, "another row is told");
+    for (size_t row = 0; row < n; row++)
+        demand(tuned[row] == rows.weights[row] || (may[row] && unmet == ARBITER_NO_GOAL && tuned[row] - 1 < 10000), "another weight");
+    rows.weights = tuned;
+    for (uint32_t row = 0; row < n && unmet == ARBITER_NO_GOAL; row++)
+        demand(planned(host, rows, row) >= goals[row], "a goal of a row is not met");
+    guard_drop(goals), guard_drop(tuned), guard_drop(may);
+}
+
+/* One period of one sample gives the plan, as limits of whole slices do. */
+static void hold_periods(struct host host, struct rows rows, const uint64_t *amounts)
+{
+    size_t n = rows.parents_length;
+    uint64_t *quotas = column(n, 8), *own = column(n, 8), *bursts = column(n, 8), *carries = column(n, 8), *sums[9], wrong = taken(1);
+
+    for (size_t row = 0; row < n; row++) {
+        /* a limit above each capacity is none */
+        quotas[row] = row && rows.limits[row] < 100000 ? rows.limits[row] * host.slice : NONE;
+        own[row] = host.period;
+        bursts[row] = carries[row] = 0;
+    }
+    for (int each = 0; each < 9; each++)
+        sums[each] = marked(n, 8);
+    uint32_t answer = counted(arbiter_periods(HOST(host), rows.parents, n, rows.weights, n, quotas, n, own, n, bursts, n, rows.demands, n, 1 + wrong % 3,
+                                              carries, n, sums[0], n, sums[1], n, sums[2], n, sums[3], n, sums[4], n, sums[5], n, sums[6], n, sums[7], n,
+                                              sums[8], n));
+    demand(answer == 0 || answer == 13 || answer == 14 || answer == 15, "periods answer another number");
+    for (size_t row = 0; row < n && !answer; row++)
+        demand(sums[0][row] == (1 + wrong % 3) * amounts[row], "a period gives another amount");
+    for (int each = 0; each < 9; each++) {
+        demand(!answer || is_marked(sums[each], n * 8), "refused periods wrote");
+        guard_drop(sums[each]);
+    }
+    guard_drop(quotas), guard_drop(own), guard_drop(bursts), guard_drop(carries);
+}
+
 /* The least value reaches the amount, and one less does not. */
 static void hold_least(struct host host, struct rows rows, uint32_t group, uint64_t amount)
 {
@@ -468,6 +516,7 @@ static void hold_refusal(struct host host, struct rows rows, struct answer *foun
     demand(counted(arbiter_hold(HOST(host), ROWS(rows), hungry, n, held, n, demands, n, found->amounts, n, found->flags, n, found->nums, n,
                                 found->dens, n, found->places, n)) == answer, "hold answers another number");
     demand(counted(arbiter_tune(HOST(host), ROWS(rows), found->places, 0, demands, 0, 0, held, n, hungry, 0, &number_)) == answer, "tune answers another number");
+    demand(counted(arbiter_tune_from_root(HOST(host), ROWS(rows), demands, n, hungry, n, held, n, &number_)) == answer, "tune_from_root answers another number");
     demand(is_marked(held, n * 8) && is_marked(demands, n * 8), "a refused call wrote");
     guard_drop(held), guard_drop(demands), guard_drop(hungry);
     demand(is_marked(found->amounts, n * 8) && is_marked(found->nums, n * 8) && is_marked(found->dens, n * 8), "a refused call wrote");
@@ -507,6 +556,8 @@ static void hold_answer(struct host host, struct rows rows, struct answer *found
     hold_least(host, rows, group, number(64));
     hold_round(host, rows);
     hold_tune(host, rows);
+    hold_tune_from_root(host, rows);
+    hold_periods(host, rows, amounts);
     hold_check(host, rows, found);
     seen[answer * 16 + amounts[0] % 16] = 1;
 }

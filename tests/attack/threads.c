@@ -11,13 +11,13 @@
 
 #define THREADS 16
 #define MOST 200
-#define CALLS 16
+#define CALLS 17
 #define NONE ARBITER_NO_LIMIT
 #define TEXT 4000
 #define LINES 90
 
 struct answers {
-    uint64_t carries[MOST], sums[6][MOST];
+    uint64_t carries[MOST], sums[6][MOST], left[MOST], cells[9][MOST];
     uint64_t amounts[MOST], nums[MOST], dens[MOST], wants[MOST], mosts[MOST], weights[MOST], withheld[MOST], rest, least[4];
     uint32_t places[MOST], groups[MOST], blamed[MOST], actives[MOST], count, row, numbers[CALLS];
     uint8_t flags[MOST], reasons[MOST], tights[MOST], together[1];
@@ -31,7 +31,7 @@ struct answers {
 struct tree {
     size_t n;
     uint32_t parents[MOST];
-    uint64_t weights[MOST], limits[MOST], demands[MOST];
+    uint64_t weights[MOST], limits[MOST], demands[MOST], quotas[MOST], own[MOST], bursts[MOST];
     uint8_t hungry[MOST];
     char script[TEXT];
     struct answers alone;
@@ -48,6 +48,9 @@ static void make(struct tree *tree, unsigned seed)
         tree->weights[g] = 1 + g * 7919 * (seed + 1) % 10000;
         tree->limits[g] = g % 4 == 3 ? g * seed % 30 : NONE;
         tree->demands[g] = (g * 31 + seed) % 25;
+        tree->quotas[g] = g % 4 == 3 ? 1000 + g * seed % 40 * 1000 : NONE;
+        tree->own[g] = 100000;
+        tree->bursts[g] = g % 8 == 3 ? 1000 : 0;
         tree->hungry[g] = (g + seed) % 3 == 0;
     }
     for (size_t g = 1; g < tree->n; g++)
@@ -87,6 +90,9 @@ static void ask(const struct tree *tree, struct answers *found)
     numbers[14] = arbiter_book(HOST, ROWS, tree->limits, n, found->amounts, n, found->carries, n, found->sums[0], n, found->sums[1], n,
                                found->sums[2], n, found->sums[3], n, found->sums[4], n, found->sums[5], n);
     numbers[15] = arbiter_tune_from_root(HOST, ROWS, found->amounts, n, tree->hungry, n, found->tuned, n, &found->unmet);
+    numbers[16] = arbiter_periods(HOST, tree->parents, n, tree->weights, n, tree->quotas, n, tree->own, n, tree->bursts, n, tree->demands, n, 9,
+                                  found->left, n, found->cells[0], n, found->cells[1], n, found->cells[2], n, found->cells[3], n, found->cells[4], n,
+                                  found->cells[5], n, found->cells[6], n, found->cells[7], n, found->cells[8], n);
     atomic_fetch_add(&calls, CALLS);
 }
 
