@@ -115,7 +115,7 @@ def test_scenario_has_loads(name):
     """Each scenario is one that the guest can run, and asks for something."""
     found = scenario.read(SCENARIOS / f"{name}.script")
     text = layout.script(found, layout.Span())
-    assert found.about and text.count("/guest load") >= 1
+    assert found.about and text.count("/guest load") + text.count("/guest farm") >= 1
     assert text.count("mkdir ") == len(found.paths) + 1
 
 
