@@ -18,9 +18,8 @@ LAYERS = {
 # The modules of a feature beside the one of its name. No feature leans on another.
 PARTS = {
     "tune": "goals knobs tune_weights tune_settings other_limits",
-    "hold": "scheduler",
+    "hold": "scheduler swings",
     "top": "live metrics viewer",
-    "hold": "swings",
 }
 ORDER = list(LAYERS)
 FEATURE = {part: feature for feature, parts in PARTS.items() for part in parts.split()}

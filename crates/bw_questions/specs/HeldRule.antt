@@ -50,7 +50,7 @@ round_of used hungry =
 abbrev pub everyone : Groups → Groups
 everyone groups = asking groups (λ g. demand_where groups.rows true g)
 
--- what a row asks for, or its own limit if that is less
+-- the demand of a row, or its own limit if that is less
 abbrev pub asked_within : Row → ℕ
 asked_within row = option_map_or (min row.demand) row.limit row.demand
 
