@@ -202,7 +202,7 @@ def test_counters_of_period(module, program, number):
 def settings_of(groups):
     """Groups of a parent, a weight, a quota (None: none), an own period and a burst, by column."""
     parents, weights, quotas, periods, bursts = zip(*groups)
-    return arbiter.Settings(
+    return arbiter.QuotaColumns(
         array("I", [2**32 - 1 if parent is None else parent for parent in parents]),
         array("Q", weights), array("Q", [MOST if quota is None else quota for quota in quotas]),
         array("Q", periods), array("Q", bursts))

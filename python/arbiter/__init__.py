@@ -11,12 +11,13 @@
 The package needs the standard library alone. The code that plans and checks is proved; this
 package is not.
 """
-from arbiter.columns import (Certificate, Columns, Counters, Figures, Host, Kind, Level, Reading,
-                             Reason, Round, RoundTimes, Row, Samples, Script, Settings, Unmet)
+from arbiter.columns import (Certificate, Columns, Counters, Figures, Host, Kind, Level,
+                             QuotaColumns, Reading, Reason, Round, RoundTimes, Row, Samples,
+                             Script, Unmet)
 from arbiter.found import Unavailable
 from arbiter.library import Library, Refused
 
 __all__ = ["Certificate", "Columns", "Counters", "Figures", "Host", "Kind", "Level", "Library",
-           "Reading", "Reason", "Refused", "Round", "RoundTimes", "Row", "Samples", "Script",
-           "Settings", "Unavailable", "Unmet"]
+           "QuotaColumns", "Reading", "Reason", "Refused", "Round", "RoundTimes", "Row", "Samples",
+           "Script", "Unavailable", "Unmet"]
 __version__ = "1.0.0"

@@ -192,7 +192,7 @@ class Script(NamedTuple):
     refused: list[tuple[int, int]]
 
 
-class Settings(NamedTuple):
+class QuotaColumns(NamedTuple):
     """The groups of a host by column, one entry for each, the root first. Quotas, periods and
     bursts are microseconds, as their files have them; a quota of NO_LIMIT is none."""
 

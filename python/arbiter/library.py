@@ -10,8 +10,8 @@ from typing import TypeAlias
 
 from arbiter import c, found, pipe
 from arbiter.columns import (U8, U32, U64, Certificate, Columns, Counters, Figures, Host, Kind,
-                             Reading, Reason, Round, RoundTimes, Row, Samples, Script, Settings,
-                             Unmet, column, given, in_range, number_or_none, zeros)
+                             QuotaColumns, Reading, Reason, Round, RoundTimes, Row, Samples,
+                             Script, Unmet, column, given, in_range, number_or_none, zeros)
 
 # The rows of a tree, or their columns, which are made once for several calls.
 Rows: TypeAlias = Sequence[Row] | Columns
@@ -354,7 +354,7 @@ class Library:
                                                column(U64, used, "use"), carries, *counters))
         return carries.tolist()
 
-    def periods(self, host: Host, groups: Settings, demands: array[int], times: int,
+    def periods(self, host: Host, groups: QuotaColumns, demands: array[int], times: int,
                 carries: array[int]) -> Samples:
         """Samples of so many periods each, one after another.
 

@@ -15,8 +15,8 @@ from fractions import Fraction
 from typing import NamedTuple
 
 import arbiter
-from arbiter import (Certificate, Columns, Figures, Host, Kind, Library, Refused, Row, Samples,
-                     Settings, Unavailable)
+from arbiter import (Certificate, Columns, Figures, Host, Kind, Library, QuotaColumns, Refused, Row,
+                     Samples, Unavailable)
 from arbiter.c import NO_LIMIT
 from arbiter.found import TO_DO
 from arbiter_host import progress, units
@@ -73,7 +73,7 @@ class Engine:
             figures = self.library.figures(host, columns)
         return Answer(columns, amounts, certificate, limiting, figures)
 
-    def periods(self, host: Host, groups: Settings, demands: array[int], times: int,
+    def periods(self, host: Host, groups: QuotaColumns, demands: array[int], times: int,
                 carries: array[int]) -> Samples:
         """What periods add up to; `carries` is written with what the last one leaves."""
         planned(self.library, host)

@@ -15,7 +15,7 @@ from collections.abc import Callable, Iterable, Iterator, Mapping, Sequence
 from dataclasses import dataclass
 from fractions import Fraction
 
-from arbiter import Host, Samples, Settings
+from arbiter import Host, QuotaColumns, Samples
 from arbiter.c import NO_LIMIT, NO_PARENT
 from arbiter_host import demands, svg, text, units
 from arbiter_host.faults import HostFault, UsageFault
@@ -143,7 +143,7 @@ class Asked:
 
     host: Host
     paths: list[str]
-    settings: Settings
+    settings: QuotaColumns
     demands: array[int]
     # Slices of each limit that the last period left.
     carries: array[int]
@@ -167,11 +167,11 @@ class Asked:
         return found
 
 
-def settings_of(model: Model) -> Settings:
+def settings_of(model: Model) -> QuotaColumns:
     """The groups of a model with their settings, the root first."""
     rows = {".": 0} | {path: row for row, path in enumerate(model.groups, 1)}
     groups = model.groups.values()
-    return Settings(
+    return QuotaColumns(
         array("I", [NO_PARENT, *(rows[parent_path(path)] for path in model.groups)]),
         array("Q", [units.DEFAULT_WEIGHT, *(group.weight for group in groups)]),
         array("Q", [NO_LIMIT, *(NO_LIMIT if group.quota is None else group.quota

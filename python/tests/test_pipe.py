@@ -84,7 +84,7 @@ def of_periods(host, rows, chance):
     quotas[0], wrong = MOST, chance.randrange(8 * count)
     if wrong < count:
         quotas[wrong] = 999
-    settings = arbiter.Settings(columns.parents, columns.weights, array("Q", quotas),
+    settings = arbiter.QuotaColumns(columns.parents, columns.weights, array("Q", quotas),
                                 array("Q", [100000] * count), array("Q", [5000] * count))
     return host, settings, columns.demands * 2, 3, array("Q", range(count))
 

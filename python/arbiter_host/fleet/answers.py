@@ -11,7 +11,7 @@ from dataclasses import astuple, dataclass
 from fractions import Fraction
 from typing import Any
 
-from arbiter import Columns, Host, Settings
+from arbiter import Columns, Host, QuotaColumns
 from arbiter.columns import column
 from arbiter_host import series
 from arbiter_host.faults import HostFault
@@ -136,7 +136,7 @@ def replayed(engine: Engine, host: Host, sent: Sent) -> dict[str, Any]:
     (groups,), told = sent.plans, sent.told
     asked = series.Asked(
         host, groups.paths,
-        Settings(*(column(kind, each, "settings")
+        QuotaColumns(*(column(kind, each, "settings")
                    for kind, each in zip(SETTINGS, groups.columns, strict=True))),
         column("Q", told["demands"], "demand"), column("Q", told["carries"], "carry"),
         int(told["periods"]))
