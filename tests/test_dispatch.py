@@ -47,6 +47,9 @@ ALLOWED = {
     # leaf 0 used 20 and has clock 10, to which leaf 1 is lifted when it wakes
     "a sleeper has no credit": (
         HEAD + "wake 0 1\npick 0 0\nend 0 10 1\npick 0 0\nend 0 10 1\nwake 1 1\npick 0 0\n", 3),
+    # leaf 0 used 20 and sleeps: leaf 1 is lifted to its clock, 10, so that either may be picked
+    "a sleeper has no credit after an idle time": (
+        HEAD + "wake 0 1\npick 0 0\nend 0 20 0\nwake 1 1\nwake 0 1\npick 0 0\n", 2),
     # leaf 1 runs a task when the next wakes, so its clock stays 10; leaf 0 is at 20
     "a leaf that runs is not lifted": (
         HEAD + "wake 1 1\npick 0 1\nwake 0 1\npick 1 0\nend 1 40 1\nwake 1 1\npick 1 1\n", 3),
@@ -56,6 +59,9 @@ REFUSED = {
     "the second least": (HEAD + "wake 0 3\nwake 1 2\npick 0 1\npick 1 1\n", 8, LESSER),
     "not what was given back": (
         HEAD + "wake 0 2\nwake 1 2\npick 0 0\npick 1 1\nend 1 2 1\npick 1 0\n", 10, LESSER),
+    # leaf 0 used 10 and runs a task again: its clock is 10, and leaf 1 is lifted to 5
+    "a slice charged in advance lifts nobody": (
+        HEAD + "wake 0 2\npick 0 0\nend 0 10 1\npick 0 0\nwake 1 1\npick 1 0\n", 10, LESSER),
     "a busy processor": (
         HEAD + "wake 0 2\npick 0 0\npick 0 0\n", 7, "not allowed: the processor runs a task"),
     "an idle processor": (HEAD + "end 1 5 0\n", 5, "not allowed: the processor runs no task"),
@@ -134,12 +140,18 @@ class Model:
     def clock(self, leaf: int) -> Fraction:
         return Fraction(self.charged[leaf], self.amounts[leaf])
 
+    def settled(self, leaf: int) -> Fraction:
+        """The clock without a slice for each task that runs, or 0."""
+        settled = self.charged[leaf] - self.slice * self.runs.count(leaf)
+        return Fraction(max(settled, 0), self.amounts[leaf])
+
     def wake(self) -> None:
         leaf, tasks = self.random.randrange(len(self.amounts)), self.random.randint(1, 3)
-        present = [each for each in range(len(self.amounts))
-                   if self.waiting[each] or each in self.runs]
-        if present and leaf not in present:
-            level = min(map(self.clock, present)) * self.amounts[leaf]
+        leaves = range(len(self.amounts))
+        present = [each for each in leaves if self.waiting[each] or each in self.runs]
+        if leaf not in present:
+            clock = min(map(self.settled, present)) if present else max(map(self.clock, leaves))
+            level = clock * self.amounts[leaf]
             self.charged[leaf] = max(self.charged[leaf], level.numerator // level.denominator)
         self.waiting[leaf] += tasks
         self.lines.append(f"wake {leaf} {tasks}")

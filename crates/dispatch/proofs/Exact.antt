@@ -62,21 +62,23 @@ wake_sound : (s : DispatchState) (i tasks : ℕ) → allowed s (Wake i tasks) �
     → Allows s (Wake i tasks) × HasRoom s (Wake i tasks)
 wake_sound s i tasks ok = by_case (found s.leaves i) where
   w : Leaf
-  w = woken s.leaves tasks (leaf_at s i)
+  w = woken s.slice s.leaves tasks (leaf_at s i)
 
   by_case : ((i < length s.leaves) × (slice_get s.leaves i ≡ Some (leaf_at s i)))
       ⊎ ((slice_get s.leaves i ≡ None) × (length s.leaves ≤ i))
       → Allows s (Wake i tasks) × HasRoom s (Wake i tasks)
   by_case (inl p) =
-      let here : without_value (leaf_woken s.leaves tasks (Some (leaf_at s i))) ≡ Ok tt =
-      subst (λ (o : Option Leaf). without_value (leaf_woken s.leaves tasks o) ≡ Ok tt) p.1 ok in
-      let v = value_of (leaf_woken s.leaves tasks (Some (leaf_at s i))) here in
+      let here : without_value (leaf_woken s.slice s.leaves tasks (Some (leaf_at s i))) ≡ Ok tt =
+      subst (λ (o : Option Leaf). without_value (leaf_woken s.slice s.leaves tasks o) ≡ Ok tt) p.1
+      ok in
+      let v = value_of (leaf_woken s.slice s.leaves tasks (Some (leaf_at s i))) here in
       let one = both_ok (number w.charged) (number w.waiting >>= λ _. Ok w) v.0 v.1 in
       let two = both_ok (number w.waiting) (Ok w) v.0 one.1 in
       (p.0, (room_of w.charged one.0.0 one.0.1, room_of w.waiting two.0.0 two.0.1))
   by_case (inr p) =
-      let here : without_value (leaf_woken s.leaves tasks None) ≡ Ok tt =
-      subst (λ (o : Option Leaf). without_value (leaf_woken s.leaves tasks o) ≡ Ok tt) p.0 ok in
+      let here : without_value (leaf_woken s.slice s.leaves tasks None) ≡ Ok tt =
+      subst (λ (o : Option Leaf). without_value (leaf_woken s.slice s.leaves tasks o) ≡ Ok tt) p.0
+      ok in
       absurd (cc here)
 
 known_is : (s : DispatchState) (i : ℕ) → i < length s.leaves
@@ -97,8 +99,8 @@ two_numbers_fit {A} x m n less_m less_n =
 wake_complete : (s : DispatchState) (i tasks : ℕ)
     → Allows s (Wake i tasks) × HasRoom s (Wake i tasks) → allowed s (Wake i tasks) ≡ Ok tt
 wake_complete s i tasks p =
-    let w = woken s.leaves tasks (leaf_at s i) in
-    ap (λ (o : Option Leaf). without_value (leaf_woken s.leaves tasks o)) (known_is s i p.0)
+    let w = woken s.slice s.leaves tasks (leaf_at s i) in
+    ap (λ (o : Option Leaf). without_value (leaf_woken s.slice s.leaves tasks o)) (known_is s i p.0)
     ∙ ap without_value (two_numbers_fit w w.charged w.waiting p.1.0 p.1.1)
 
 -- ---- pick

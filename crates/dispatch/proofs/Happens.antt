@@ -19,15 +19,16 @@ tested (Err f) x w next rest is = absurd (cc is)
 given : {A : Type 0} (x w : A) → ◌≡◌ {A = Result A Refusal} (Ok x) (Ok w) → x ≡ w
 given x w is = cc is
 
-woken_is : (ls : List Leaf) (tasks : ℕ) (o : Option Leaf) (w : Leaf) → leaf_woken ls tasks o ≡ Ok w
-    → (l : Leaf) × (o ≡ Some l) × (woken ls tasks l ≡ w)
-woken_is ls tasks None w is = absurd (cc is)
-woken_is ls tasks (Some l) w is = (
+woken_is : (slice : ℕ) (ls : List Leaf) (tasks : ℕ) (o : Option Leaf) (w : Leaf)
+    → leaf_woken slice ls tasks o ≡ Ok w
+    → (l : Leaf) × (o ≡ Some l) × (woken slice ls tasks l ≡ w)
+woken_is slice ls tasks None w is = absurd (cc is)
+woken_is slice ls tasks (Some l) w is = (
   l,
   refl,
-  tested (number (woken ls tasks l).charged) (woken ls tasks l) w _
-      (tested (number (woken ls tasks l).waiting) (woken ls tasks l) w _
-      (given (woken ls tasks l) w))
+  tested (number (woken slice ls tasks l).charged) (woken slice ls tasks l) w _
+      (tested (number (woken slice ls tasks l).waiting) (woken slice ls tasks l) w _
+      (given (woken slice ls tasks l) w))
       is,
 )
 
@@ -50,17 +51,18 @@ run_is (Some None) i is = absurd (cc is)
 run_is (Some (Some k)) i is = let e : k ≡ i = cc is in ap (λ n. Some (Some n)) e
 
 pub wake_happens : (s : DispatchState) (i tasks : ℕ) (w : Leaf)
-    → leaf_woken s.leaves tasks (slice_get s.leaves i) ≡ Ok w
+    → leaf_woken s.slice s.leaves tasks (slice_get s.leaves i) ≡ Ok w
     → happens s (Wake i tasks) ≡ with_leaf s i w
 wake_happens s i tasks w is =
-    let p = woken_is s.leaves tasks (slice_get s.leaves i) w is in
+    let p = woken_is s.slice s.leaves tasks (slice_get s.leaves i) w is in
     let at : leaf_at s i ≡ p.0 = get_or_from_slice_get s.leaves i p.0 (new_leaf 0) p.1 in
     subst
     (λ (r : Result Leaf Refusal).
-    (if is_ok (without_value r) then with_leaf s i (woken s.leaves tasks (leaf_at s i)) else s)
+    (if is_ok (without_value r) then with_leaf s i (woken s.slice s.leaves tasks (leaf_at s i))
+    else s)
     ≡ with_leaf s i w)
     (sym is)
-    (ap (with_leaf s i) (ap (woken s.leaves tasks) at ∙ p.2))
+    (ap (with_leaf s i) (ap (woken s.slice s.leaves tasks) at ∙ p.2))
 
 pub end_happens : (s : DispatchState) (p used i : ℕ) (remains : Bool) (w : Leaf)
     → leaf_run (slice_get s.processors p) ≡ Ok i

@@ -10,7 +10,8 @@ use Rattle.dispatch.specs.declared.leaves.Leaf.{Leaf}
 use Rattle.dispatch.specs.declared.events.Event.{Event}
 use Rattle.dispatch.specs.declared.events.Event.TheVariants.{Wake, Pick, End}
 use Rattle.dispatch.specs.Rule.{DispatchState, leaf_at, new_leaf, after, Allows, MayPick, Runs}
-use Rattle.dispatch.specs.Rule.{woken, picked, ended, has_tasks, lifted, level, state_ended}
+use Rattle.dispatch.specs.Rule.{woken, picked, ended, has_tasks, lifted, level, greatest}
+use Rattle.dispatch.specs.Rule.{state_ended}
 use Rattle.dispatch.specs.Runs.{IsStart, after_all, IsRun, UsesAtMost, WaitsAt, WaitsThroughout}
 use Rattle.dispatch.specs.Runs.{most_ahead, LeadIsBounded, one_run, runs_of}
 use Rattle.dispatch.proofs.Counts.{one_run_same, one_run_other, runs_set, two_runs, length_set}
@@ -147,20 +148,22 @@ record Kept (was is : Leaf) : Type 0 where
   used : is.used ≡ was.used
   charged : was.charged ≤ is.charged
 
-lifted_up : (c : ℕ) (o : Option ℕ) → c ≤ lifted c o
-lifted_up c None = omega arith
-lifted_up c (Some n) = omega arith
+lifted_up : (c : ℕ) (o : Option ℕ) (top : ℕ) → c ≤ lifted c o top
+lifted_up c None top = omega arith
+lifted_up c (Some n) top = omega arith
 
-woken_up : (ls : List Leaf) (l : Leaf) (b : Bool)
-    → l.charged ≤ (if b then l.charged else lifted l.charged (level l.amount ls))
-woken_up ls l true = omega arith
-woken_up ls l false = lifted_up l.charged (level l.amount ls)
+woken_up : (slice : ℕ) (ls : List Leaf) (l : Leaf) (b : Bool)
+    → l.charged
+    ≤ (if b then l.charged else lifted l.charged (level slice l.amount ls) (greatest l.amount ls))
+woken_up slice ls l true = omega arith
+woken_up slice ls l false =
+    lifted_up l.charged (level slice l.amount ls) (greatest l.amount ls)
 
 woken_kept : (s : DispatchState) (k tasks x : ℕ) → k < length s.leaves
     → Kept (leaf_at s x) (leaf_at (after s (Wake k tasks)) x)
 woken_kept s k tasks x known = by_case (leaf_set s.leaves k x w (new_leaf 0) known) where
   w : Leaf
-  w = woken s.leaves tasks (leaf_at s k)
+  w = woken s.slice s.leaves tasks (leaf_at s k)
 
   by_case : ((x ≡ k) × (get_or (slice_set s.leaves k w) x (new_leaf 0) ≡ w))
       ⊎ ((k ≢ x) × (get_or (slice_set s.leaves k w) x (new_leaf 0) ≡ leaf_at s x))
@@ -171,7 +174,7 @@ woken_kept s k tasks x known = by_case (leaf_set s.leaves k x w (new_leaf 0) kno
       (record {
         amount = refl;
         used = refl;
-        charged = woken_up s.leaves (leaf_at s k)
+        charged = woken_up s.slice s.leaves (leaf_at s k)
             (has_tasks (leaf_at s k));
       }))
   by_case (inr p) =
@@ -505,7 +508,7 @@ leaves_at_end s p used remains on =
 leaves_after : (s : DispatchState) (e : Event) → Allows s e
     → length (after s e).leaves ≡ length s.leaves
 leaves_after s (Wake k tasks) may =
-    length_set s.leaves k (woken s.leaves tasks (leaf_at s k))
+    length_set s.leaves k (woken s.slice s.leaves tasks (leaf_at s k))
 leaves_after s (Pick p k) may = length_set s.leaves k (picked s.slice (leaf_at s k))
 leaves_after s (End p used remains) may = leaves_at_end s p used remains may
 

@@ -47,25 +47,42 @@ abbrev pub at_most : Option ℕ → ℕ → ℕ
 at_most None n = n
 at_most (Some m) n = min m n
 
--- the clock of all, as a charge to a leaf of this amount, rounded down: the least of the clocks of
--- the leaves that have tasks, and of one that is known before
-abbrev pub level_from : Option ℕ → ℕ → List Leaf → Option ℕ
-level_from known a [] = known
-level_from known a (l ∷ ls) =
-    level_from (if has_tasks l then Some (at_most known (a * l.charged / l.amount)) else known) a ls
+-- what was charged to a leaf, without a slice for each task that still runs
+abbrev pub settled : ℕ → Leaf → ℕ
+settled slice l = l.charged - slice * l.running
 
-abbrev pub level : ℕ → List Leaf → Option ℕ
-level a ls = level_from None a ls
+-- the clock of all, as a charge to a leaf of this amount, rounded down: the least of the settled
+-- clocks of the leaves that have tasks, and of one that is known before
+abbrev pub level_from : Option ℕ → ℕ → ℕ → List Leaf → Option ℕ
+level_from known slice a [] = known
+level_from known slice a (l ∷ ls) =
+    level_from
+    (if has_tasks l then Some (at_most known (a * settled slice l / l.amount)) else known)
+    slice a ls
 
--- a charge lifted to the clock of all, if any leaf has a task
-abbrev pub lifted : ℕ → Option ℕ → ℕ
-lifted charged None = charged
-lifted charged (Some l) = max charged l
+abbrev pub level : ℕ → ℕ → List Leaf → Option ℕ
+level slice a ls = level_from None slice a ls
+
+-- the greatest clock, as a charge to a leaf of this amount, rounded down: of all leaves, and of one
+-- that is known before
+abbrev pub greatest_from : ℕ → ℕ → List Leaf → ℕ
+greatest_from known a [] = known
+greatest_from known a (l ∷ ls) = greatest_from (max known (a * l.charged / l.amount)) a ls
+
+abbrev pub greatest : ℕ → List Leaf → ℕ
+greatest a ls = greatest_from 0 a ls
+
+-- a charge lifted to the clock of all, or to the greatest clock if no leaf has a task
+abbrev pub lifted : ℕ → Option ℕ → ℕ → ℕ
+lifted charged None top = max charged top
+lifted charged (Some l) top = max charged l
 
 -- the leaf after tasks of it wake: its clock is lifted only if it had no task
-abbrev pub woken : List Leaf → ℕ → Leaf → Leaf
-woken ls tasks l = record l {
-  charged = if has_tasks l then l.charged else lifted l.charged (level l.amount ls);
+abbrev pub woken : ℕ → List Leaf → ℕ → Leaf → Leaf
+woken slice ls tasks l = record l {
+  charged =
+      if has_tasks l then l.charged
+      else lifted l.charged (level slice l.amount ls) (greatest l.amount ls);
   waiting = l.waiting + tasks;
 }
 
@@ -108,7 +125,7 @@ state_ended s p used remains None = s
 
 -- the state after an event that is allowed
 abbrev pub after : DispatchState → Event → DispatchState
-after s (Wake i tasks) = with_leaf s i (woken s.leaves tasks (leaf_at s i))
+after s (Wake i tasks) = with_leaf s i (woken s.slice s.leaves tasks (leaf_at s i))
 after s (Pick p i) = state_picked s p i
 after s (End p used remains) = state_ended s p used remains (slice_get s.processors p)
 
@@ -151,12 +168,12 @@ abbrev pub number : ℕ → Result ℕ Refusal
 number n = if nat_lt n (2 ^ 64) then Ok n else Err refusals.TooGreat
 
 -- a leaf after an event of it, or the first refusal; the processor is looked at before
-abbrev pub leaf_woken : List Leaf → ℕ → Option Leaf → Result Leaf Refusal
-leaf_woken ls tasks None = Err refusals.UnknownLeaf
-leaf_woken ls tasks (Some l) = do
-  _ ← number (woken ls tasks l).charged
-  _ ← number (woken ls tasks l).waiting
-  Ok (woken ls tasks l)
+abbrev pub leaf_woken : ℕ → List Leaf → ℕ → Option Leaf → Result Leaf Refusal
+leaf_woken slice ls tasks None = Err refusals.UnknownLeaf
+leaf_woken slice ls tasks (Some l) = do
+  _ ← number (woken slice ls tasks l).charged
+  _ ← number (woken slice ls tasks l).waiting
+  Ok (woken slice ls tasks l)
 
 abbrev pub leaf_picked : ℕ → List Leaf → Option Leaf → Result Leaf Refusal
 leaf_picked slice ls None = Err refusals.UnknownLeaf
@@ -205,7 +222,7 @@ end_allowed s used remains (Ok i) =
 
 -- the first refusal of an event, if there is one
 abbrev pub allowed : DispatchState → Event → Result (Unit {0}) Refusal
-allowed s (Wake i tasks) = without_value (leaf_woken s.leaves tasks (slice_get s.leaves i))
+allowed s (Wake i tasks) = without_value (leaf_woken s.slice s.leaves tasks (slice_get s.leaves i))
 allowed s (Pick p i) =
     and_then (free_processor (slice_get s.processors p))
     (without_value (leaf_picked s.slice s.leaves (slice_get s.leaves i)))
@@ -235,8 +252,8 @@ HasRoomAtEnd s used remains _ = Unit {0}
 
 abbrev pub HasRoom : DispatchState → Event → Type 0
 HasRoom s (Wake i tasks) =
-    ((woken s.leaves tasks (leaf_at s i)).charged < 2 ^ 64)
-    × ((woken s.leaves tasks (leaf_at s i)).waiting < 2 ^ 64)
+    ((woken s.slice s.leaves tasks (leaf_at s i)).charged < 2 ^ 64)
+    × ((woken s.slice s.leaves tasks (leaf_at s i)).waiting < 2 ^ 64)
 HasRoom s (Pick p i) =
     ((picked s.slice (leaf_at s i)).charged < 2 ^ 64)
     × ((picked s.slice (leaf_at s i)).running < 2 ^ 64)

@@ -3,6 +3,7 @@ ghost use Rattle.std.specs.Prelude.{◌≡◌, ◌<◌, ◌+◌, Some, IfOk, IfS
 ghost use Rattle.std.specs.Prelude.{if◌then◌else◌};
 ghost use Rattle.std.specs.List.{list_any, All};
 ghost use Rattle.dispatch.specs.Rule.{new_leaf, has_tasks, is_behind, waits_behind, level, at_most};
+ghost use Rattle.dispatch.specs.Rule.{settled, greatest};
 ghost use Rattle.dispatch.specs.Rule.{is_new_least, NoneWaits, IsLeast};
 ghost use Rattle.dispatch.specs.Rule.{number, lifted, leaf_woken, leaf_picked, leaf_ended};
 
@@ -42,6 +43,14 @@ impl Leaf {
         ensures { result ≡ has_tasks self.now }
     {
         self.waiting > 0 || self.running > 0
+    }
+
+    // What was charged, without a slice for each task that still runs.
+    fn settled(&self, slice: u64) -> u64
+        ensures { result ≡ settled slice self.now }
+    {
+        let in_advance = u128::from(slice) * u128::from(self.running);
+        u128::from(self.charged).saturating_sub(in_advance) as u64
     }
 
     // Whether the other leaf has the lesser clock. No product is above 128 bits.
@@ -107,19 +116,33 @@ fn at_most(known: Option<u128>, charge: u128) -> u128
 }
 
 // The clock of all, as a charge to a leaf of this amount: the least clock of the leaves that have
-// tasks.
-fn level(leaves: &[Leaf], amount: u64) -> Option<u128>
+// tasks. Slices that are charged in advance do not count.
+fn level(slice: u64, leaves: &[Leaf], amount: u64) -> Option<u128>
     requires { All (λ l. 0 < l.amount) leaves.now }
-    ensures { result ≡ level amount leaves.now }
+    ensures { result ≡ level slice amount leaves.now }
 {
     let mut least = None;
     for leaf in leaves {
         if leaf.has_tasks() {
-            let charge = u128::from(amount) * u128::from(leaf.charged) / u128::from(leaf.amount);
+            let settled = u128::from(leaf.settled(slice));
+            let charge = u128::from(amount) * settled / u128::from(leaf.amount);
             least = Some(at_most(least, charge));
         }
     }
     least
+}
+
+// The greatest clock of all leaves, as a charge to a leaf of this amount.
+fn greatest(leaves: &[Leaf], amount: u64) -> u128
+    requires { All (λ l. 0 < l.amount) leaves.now }
+    ensures { result ≡ greatest amount leaves.now }
+{
+    let mut greatest = 0u128;
+    for leaf in leaves {
+        let charge = u128::from(amount) * u128::from(leaf.charged) / u128::from(leaf.amount);
+        greatest = greatest.max(charge);
+    }
+    greatest
 }
 
 // A number of 64 bits.
@@ -143,40 +166,48 @@ fn sum(one: u64, other: u64) -> Result<u64, Refusal>
 }
 
 // The charge of a leaf whose first task wakes.
-fn lifted(charged: u64, level: Option<u128>) -> u128
-    ensures { result ≡ lifted charged level }
+fn lifted(charged: u64, level: Option<u128>, greatest: u128) -> u128
+    ensures { result ≡ lifted charged level greatest }
 {
     match level {
         Some(level) => u128::from(charged).max(level),
-        None => u128::from(charged),
+        None => u128::from(charged).max(greatest),
     }
 }
 
 // The charge of a leaf after tasks of it wake.
-fn charge_at_wake(leaves: &[Leaf], leaf: Leaf) -> u128
+fn charge_at_wake(slice: u64, leaves: &[Leaf], leaf: Leaf) -> u128
     requires { All (λ l. 0 < l.amount) leaves.now }
     ensures { result ≡ (if has_tasks leaf then leaf.charged
-        else lifted leaf.charged (level leaf.amount leaves.now)) }
+        else lifted leaf.charged (level slice leaf.amount leaves.now)
+        (greatest leaf.amount leaves.now)) }
 {
     if leaf.has_tasks() {
         u128::from(leaf.charged)
     } else {
-        lifted(leaf.charged, level(leaves, leaf.amount))
+        let level = level(slice, leaves, leaf.amount);
+        lifted(leaf.charged, level, greatest(leaves, leaf.amount))
     }
 }
 
-/// The leaf after tasks of it wake. If it had none, its clock is lifted to the clock of all.
+/// The leaf after tasks of it wake. If it had none, its clock is lifted to the clock of all,
+/// or to the greatest clock if no leaf had a task.
 ///
 /// # Errors
 ///
 /// - [`Refusal::UnknownLeaf`] if there is no leaf.
 /// - [`Refusal::TooGreat`] if a number would be above `u64::MAX`.
-pub fn leaf_woken(leaves: &[Leaf], tasks: u64, leaf: Option<Leaf>) -> Result<Leaf, Refusal>
+pub fn leaf_woken(
+    slice: u64,
+    leaves: &[Leaf],
+    tasks: u64,
+    leaf: Option<Leaf>,
+) -> Result<Leaf, Refusal>
     requires { All (λ l. 0 < l.amount) leaves.now }
-    ensures { result ≡ leaf_woken leaves.now tasks leaf }
+    ensures { result ≡ leaf_woken slice leaves.now tasks leaf }
 {
     let leaf = leaf.ok_or(Refusal::UnknownLeaf)?;
-    let charged = number(charge_at_wake(leaves, leaf))?;
+    let charged = number(charge_at_wake(slice, leaves, leaf))?;
     let waiting = sum(leaf.waiting, tasks)?;
     Ok(Leaf {
         charged,

@@ -141,7 +141,7 @@ impl Dispatcher {
     }
 
     /// Tasks of a leaf wake: this number of them. If the leaf had none, its clock is lifted to the
-    /// clock of all.
+    /// clock of all, or to the greatest clock if no leaf had a task.
     ///
     /// # Errors
     ///
@@ -150,7 +150,7 @@ impl Dispatcher {
         ensures value { result ≡ allowed self.old (Event.Wake leaf tasks) }
         ensures state { self.new ≡ happens self.old (Event.Wake leaf tasks) }
     {
-        let woken = leaf_woken(&self.leaves, tasks, self.leaf(leaf))?;
+        let woken = leaf_woken(self.slice, &self.leaves, tasks, self.leaf(leaf))?;
         self.leaves[leaf as usize] = woken;
         Ok(())
     }

@@ -6,4 +6,5 @@ use Rattle.dispatch.proofs.leaves.level.Given as goal
 
 abbrev pub invariant-loop-leaf : goal.invariant-loop-leaf
 invariant-loop-leaf l =
-    level_from l.least l.amount (drop l.leaf-index l.leaves) ≡ level l.amount l.leaves
+    level_from l.least l.slice l.amount (drop l.leaf-index l.leaves)
+    ≡ level l.slice l.amount l.leaves
