@@ -47,7 +47,7 @@ abbrev pub at_most : Option ℕ → ℕ → ℕ
 at_most None n = n
 at_most (Some m) n = min m n
 
--- what was charged to a leaf, without a slice for each task that still runs
+-- the charge of a leaf, without a slice for each task that still runs
 abbrev pub settled : ℕ → Leaf → ℕ
 settled slice l = l.charged - slice * l.running
 

@@ -45,7 +45,7 @@ impl Leaf {
         self.waiting > 0 || self.running > 0
     }
 
-    // What was charged, without a slice for each task that still runs.
+    // The charge, without a slice for each task that still runs.
     fn settled(&self, slice: u64) -> u64
         ensures { result ≡ settled slice self.now }
     {
