@@ -238,12 +238,12 @@ static __always_inline u64 least_clock(void)
 }
 
 /* A task wants to run. The first one of a leaf lifts it: not over what others have used, or each
- * waking would cost it a slice. */
+ * waking would cost it a slice. It stands before the others: the rule rounds its clock down. */
 static __always_inline void come(struct task *task, struct leaf *leaf)
 {
     task->is_there = 1;
     if (leaf->there++ == 0) {
-        u64 clock = least_clock();
+        u64 clock = least_clock() - 1;
         if (is_before(leaf->clock, clock))
             leaf->clock = clock;
     }
@@ -278,8 +278,9 @@ static __always_inline u64 end(struct task *task, struct task_struct *p, struct 
     task->is_charged = 0;
     discharge(on_cpu(task->cpu), leaf);
     leaf->clock += on_clock(leaf, used);
-    if (is_before(greatest, leaf->clock))
-        greatest = leaf->clock;
+    /* (slices of its other tasks that run are charged in advance) */
+    if (is_before(greatest, clock_of_use(leaf)))
+        greatest = clock_of_use(leaf);
     leaf->used_ns += used;
     if (leaf->limit_ns) {
         leaf->spent_ns += used;
