@@ -48,8 +48,8 @@ def module(library):
     ([0, 0, 12, 8, 0], ALL, [100, 100, 136, 167, 100]),
     # 12 and 12 are more than 20: the root's goals cannot be met together.
     ([0, 12, 12, 0, 0], ALL, 0),
-    # Both groups of the pod cannot have 11 of 20, whatever the pod has.
-    ([0, 0, 0, 11, 11], ALL, 2),
+    # The pod needs 22, which it could be given, and the host has 20.
+    ([0, 0, 0, 11, 11], ALL, 0),
     # Its demand is 20.
     ([0, 0, 0, 21, 0], ALL, 3),
 ])
