@@ -15,7 +15,7 @@ from support import same
 from test_library import REFUSED, number_of, rows_of
 from test_library_questions import HOST, is_under, model_of
 
-SEED, TREES = 20261129, 150
+SEED, TREES = 20261129, 1000
 # The weights that the model tries, and the fewest trees of each kind.
 TRIED, LEAST_OF_EACH = (1, 2, 3, 5), 8
 # Of 20 slices `web` (1) gets 10, and the groups of `pod` (2) 5 each.
