@@ -1,6 +1,6 @@
 """The scheduler of `hold --by scheduler`: it compiles, and its loader refuses in one line.
 
-A guest that runs it is in bench/kernel/test_scheduler.py.
+A guest that runs it is in bench/kernel/test_scheduled.py.
 """
 import os
 import shutil

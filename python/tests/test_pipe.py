@@ -106,8 +106,9 @@ def of_tree(library, host, rows, chance):
     yield "periods", of_periods(host, rows, chance)
     for few in ([], goals[:1], goals):
         yield from (("tune", (host, rows, few, guaranteed)) for guaranteed in (False, True))
-    for least in ([chance.choice((0, 0, 3, 9)) for _ in rows], []):
-        yield "tune_from_root", (host, rows, least, [chance.random() < 0.5 for _ in rows])
+    may = [chance.random() < 0.5 for _ in range(len(rows))]
+    for least in ([chance.choice((0, 0, 3, 9)) for _ in range(len(rows))], []):
+        yield "tune_from_root", (host, rows, least, may)
     yield "guarantee", (host, rows, group)
     for call in ("least_weight", "least_limit", "least_processors"):
         yield call, (host, rows, group, amount)
@@ -161,7 +162,7 @@ def test_random_trees(both):
         rows = some_rows(chance)
         more = compare(both, of_tree(both[0], host, rows, chance))
         met, refused = met + more[0], refused + more[1]
-    assert met == 23 * TREES and met / 4 < refused < met * 3 / 4
+    assert met == 25 * TREES and met / 4 < refused < met * 3 / 4
 
 
 def test_no_tree(both):
