@@ -189,7 +189,7 @@ def test_examples(both, path):
     told = both[0].script(host, text)
     assert len(told.names) > 1
     asked = [("script", (host, text)), *of_tree(both[0], host, told.columns, random.Random(SEED))]
-    assert compare(both, asked)[0] == 24
+    assert compare(both, asked)[0] == 26
 
 
 def test_many_groups(both):
