@@ -23,21 +23,18 @@
  *   11        the denominator of a demand is 0 (BadNumber)
  *   13 to 15  the quota, burst or limit is, or its own period or the round (QuotaTooSmall, QuotaTooLarge, PeriodOutOfRange)
  *   20        the group is no row (NotFound)
- *   26        a goal is of row 0 (RootFixed)
- *   29        a goal's group is another goal's group, or above it (GoalAbove)
  *   40 to 43  the text is (BadLine, BadField, CutShort, Trailing)
  *   50        not one entry for each row (WrongLength)
  *   51 to 58  the amounts are not the plan by this certificate
  *   71        memory was refused (OutOfMemory)
  * The first that applies is answered, in this order:
  *   1. 50, where the columns of the rows differ in length, or a column of an answer, `hungry`, `goals` or `may` from them, or nums,
- *      dens and places of arbiter_check from each other, or goal_groups, goal_amounts and together of arbiter_tune, or ran and
- *      waited of arbiter_reading, or columns of arbiter_periods do not fit
+ *      dens and places of arbiter_check from each other, or ran and waited of arbiter_reading, or columns of arbiter_periods do
+ *      not fit
  *   2. 1 to 3
  *   3. 4 to 10, of a text 40 to 43 too, of arbiter_periods 13 to 15 before them
  *   4. of a check 50, where amounts, flags or levels are not one for each row, and then 51 to 58; of a question about a group
- *      20, where it is no row; of arbiter_least_limit 10, where it is row 0, whose only limit is the capacity; of goals 20, 26
- *      and then 29
+ *      20, where it is no row; of arbiter_least_limit 10, where it is row 0, whose only limit is the capacity
  * Memory is asked for after steps 1 and 2: 71 can stand in place of any later answer, and of no earlier one. So of arbiter_check
  * a bad host with amounts of another length than the rows answers 1 to 3, and one with uneven nums, dens and places 50. Of
  * arbiter_check_text 71 can stand in place of any answer.
@@ -189,36 +186,19 @@ uint32_t arbiter_least_processors(uint64_t processors, uint64_t period_us, uint6
                                   const uint64_t *limits, size_t limits_length, const uint64_t *demands, size_t demands_length,
                                   uint32_t group, uint64_t amount, uint64_t *least);
 
-/* Weights under which all goals are met at once. Goal k asks for at least goal_amounts[k] slices for the group of row
- * goal_groups[k]: by the plan or, where `guaranteed` is not 0, by arbiter_guarantee. There may be no goal. Only the weights of the
- * goals' groups change, within 1 to 10000.
- * Where such weights meet all goals, *unmet is ARBITER_NO_GOAL, `tuned` has the weight of each row, and `together` is 0 for each
- * goal. The weights are the least that are no less than `weights`; where none of these meet all goals, the least of all.
- * Where none do, `together` is 1 for goals that no such weights meet at once, and 0 for the others. *unmet is the place of one of
- * them, from 0, and `tuned` is `weights`.
- * Where goals ask for more than the plan serves in all, these are the first that do, *unmet the last of them, and one plan is made.
- * Else each raise of a weight makes at most 14 plans, and one for each goal up to the one that falls short. Each raise is of 1 or
- * more. */
-uint32_t arbiter_tune(uint64_t processors, uint64_t period_us, uint64_t slice_us,
-                      const uint32_t *parents, size_t parents_length, const uint64_t *weights, size_t weights_length,
-                      const uint64_t *limits, size_t limits_length, const uint64_t *demands, size_t demands_length,
-                      const uint32_t *goal_groups, size_t goal_groups_length,
-                      const uint64_t *goal_amounts, size_t goal_amounts_length, uint32_t guaranteed,
-                      uint64_t *tuned, size_t tuned_length, uint8_t *together, size_t together_length, uint64_t *unmet);
-
-/* Weights under which each row has its goal, the least from the root down. `goals` has the slices that the plan is to give each row
- * at least, 0 for none: also of groups with children, of rows inside one another, and of rows whose weight stays. `may` is not 0 at
- * a row whose weight may change, within 1 to 10000.
+/* Weights under which each row has its goal, the least from the root down. `goals` has the slices that each row is to get at least,
+ * 0 for none: also of groups with children, of rows inside one another, and of rows whose weight stays. By the plan or, where
+ * `guaranteed` is not 0, by arbiter_guarantee. `may` is not 0 at a row whose weight may change, within 1 to 10000.
  * Where such weights meet all goals, *unmet is ARBITER_NO_GOAL, and `tuned` has the weight of each row. None is less than in
  * `weights`, unless no such weights meet all goals. Of all that agree with them at each row above a row, and at the siblings of
  * these, theirs of that row is the least. So there is one answer.
  * Where none do, *unmet is a row: no weights meet the goals of it and below it together, whatever it is given. `tuned` is `weights`
  * then. No plan is made: each group is split a few times for each raise of a weight. */
-uint32_t arbiter_tune_from_root(uint64_t processors, uint64_t period_us, uint64_t slice_us,
-                                const uint32_t *parents, size_t parents_length, const uint64_t *weights, size_t weights_length,
-                                const uint64_t *limits, size_t limits_length, const uint64_t *demands, size_t demands_length,
-                                const uint64_t *goals, size_t goals_length, const uint8_t *may, size_t may_length,
-                                uint64_t *tuned, size_t tuned_length, uint64_t *unmet);
+uint32_t arbiter_tune(uint64_t processors, uint64_t period_us, uint64_t slice_us,
+                      const uint32_t *parents, size_t parents_length, const uint64_t *weights, size_t weights_length,
+                      const uint64_t *limits, size_t limits_length, const uint64_t *demands, size_t demands_length,
+                      const uint64_t *goals, size_t goals_length, const uint8_t *may, size_t may_length, uint32_t guaranteed,
+                      uint64_t *tuned, size_t tuned_length, uint64_t *unmet);
 
 /* The limits of the next round, from what each leaf used in the last one. The rows are as everywhere, with the slices that each
  * leaf used, rounded up, in `used` in the place of demands. `hungry` is not 0 where the leaf would have used more; it is not read
@@ -237,23 +217,24 @@ uint32_t arbiter_hold(uint64_t processors, uint64_t period_us, uint64_t slice_us
 
 /* What a group used in a round, and what it asks for in the next one. A round is the time between two readings. In one of
  * `passed_ns` nanoseconds the group used `used_us` microseconds, and some task of it waited for a processor for `waited_us`. It
- * has `tasks` at the end. `throttled` is not 0 where it was throttled at a limit of its own. `ran` and `waited` have, for each
- * task that was there at both readings, the nanoseconds that it ran and waited.
+ * has `tasks` at the end. `throttled` is not 0 where it was throttled at a limit of its own, which allowed it `allowed_us`, or
+ * ARBITER_NO_LIMIT where it has none. `ran` and `waited` have, for each task that was there at both readings, the nanoseconds that
+ * it ran and waited.
  * Writes to `used` the slices of one period of the host that it used, rounded up, and to `hungry` 1 where it would have used more,
  * else 0. `asked` is what it asks for: the same where it is not hungry, else the most that its tasks could have used, or 1000000
  * for everything. It is never less than `used`. Of arbiter_hold, `asked` stands in `used`, and `hungry` is 1 where it is 1000000.
- * A group is hungry where it was throttled. Else not where tasks waited for less than a hundredth of the round. Else where a task
- * is starved: it waited for a hundredth of the round or more, and slept for no longer than that and than a twentieth of the round.
- * Where `ran` adds up to less than half of what was used, or nothing was used, it is hungry where tasks waited for half of the
- * round.
- * The tasks of a throttled group could have used the whole round each. Of another, so could one that is starved or new; each other
+ * A group is hungry where it was stopped: it was throttled, or used all that its limit allowed. Else not where tasks waited for less
+ * than a hundredth of the round. Else where a task is starved: it waited for a hundredth of the round or more, and slept for no
+ * longer than that and than a twentieth of the round. Where `ran` adds up to less than half of what was used, or nothing was used,
+ * it is hungry where tasks waited for half of the round. That is a guess, and 1 is written to `guess`, else 0.
+ * The tasks of a stopped group could have used the whole round each. Of another, so could one that is starved or new; each other
  * used all that it wanted. A hungry group asks for everything where that is the whole host, or `ran` adds up to less than 19
  * twentieths of what was used.
  * Answers 50 where `ran` and `waited` differ in length or are longer than `tasks`, then 1 to 3, then 15 where no time passed. */
 uint32_t arbiter_reading(uint64_t processors, uint64_t period_us, uint64_t slice_us,
                          uint64_t passed_ns, uint64_t used_us, uint64_t waited_us, uint32_t tasks, uint32_t throttled,
-                         const uint64_t *ran, size_t ran_length, const uint64_t *waited, size_t waited_length,
-                         uint64_t *used, uint64_t *asked, uint32_t *hungry);
+                         uint64_t allowed_us, const uint64_t *ran, size_t ran_length, const uint64_t *waited, size_t waited_length,
+                         uint64_t *used, uint64_t *asked, uint32_t *hungry, uint32_t *guess);
 
 /* What is written for a leaf's limit of a round. `limit` is that of arbiter_hold, if any, and `own` its own, both in slices.
  * `stands_us` is the quota that stands in it, in microseconds of the host's period; 0 where another one stands. It has `tasks`.

@@ -10,14 +10,13 @@ from collections.abc import Collection, Sequence
 from dataclasses import dataclass
 from typing import Any
 
-from arbiter import Unmet
 from arbiter_host import knobs
-from arbiter_host.goals import Goals, Way, goals_of
+from arbiter_host.goals import Clash, Goals, Way, goals_of
 from arbiter_host.knobs import Knob
 from arbiter_host.other_limits import by_limits
 from arbiter_host.plan import Plan, payers
 from arbiter_host.tune_settings import by_settings
-from arbiter_host.tune_weights import by_weights, has_requests
+from arbiter_host.tune_weights import best_weights
 
 
 @dataclass(frozen=True)
@@ -26,8 +25,8 @@ class Tuned:
 
     asked: Goals
     amounts: tuple[int, ...]
-    # The weights, or goals that no weights of their groups meet together.
-    weights: Way | Unmet
+    # The weights, or goals that no weights meet together.
+    weights: Way | Clash
     # Settings that people own, or why there are none; None where the source has no such settings.
     owned: Way | str | None
     # Limits of other groups, with weights where these are needed too; looked for where neither of
@@ -43,16 +42,8 @@ class Tuned:
     @property
     def kept(self) -> list[str]:
         """The groups of goals, and those above them, whose settings are kept."""
-        before = self.before
-        on_paths = {each.row for goal in self.asked.goals
-                    for each in (goal.group, *before.above(goal.group))}
-        return [before.groups[row].path for row in sorted(self.asked.kept & on_paths)]
-
-    @property
-    def is_climbed(self) -> bool:
-        """Whether weights of groups above those of goals were looked for too."""
-        return not has_requests(self.before) and any(
-            goal.group.depth > 1 for goal in self.asked.goals)
+        return [self.before.groups[row].path
+                for row in sorted(self.asked.kept & self.asked.paths)]
 
     @property
     def best(self) -> Way | None:
@@ -75,7 +66,7 @@ def tune(before: Plan, words: Sequence[str], is_guaranteed: bool = False,
     kept = frozenset(group.row for group in before.groups[1:]
                      if chosen is not None and group.path not in chosen)
     asked = Goals(before, goals, is_guaranteed, kept)
-    weights = by_weights(asked)
+    weights = best_weights(asked)
     settings = by_settings(asked, weights)
     is_met = isinstance(weights, Way) or isinstance(settings, Way)
     is_alone = len(goals) == 1 and not is_guaranteed and chosen is None
@@ -87,10 +78,8 @@ def tune(before: Plan, words: Sequence[str], is_guaranteed: bool = False,
 def losers(tuned: Tuned, way: Way) -> list[tuple[str, int]]:
     """The groups without children and without a goal at or above them that get less, and how many
     slices less."""
-    paths = {goal.group.path for goal in tuned.asked.goals}
-    below = tuple(f"{path}/" for path in paths)
-    return [(path, lost) for path, lost in payers(tuned.before, way.plan)
-            if path not in paths and not path.startswith(below)]
+    others = {group.path for group in tuned.asked.others}
+    return [each for each in payers(tuned.before, way.plan) if each[0] in others]
 
 
 def way_data(tuned: Tuned, way: Way) -> dict[str, Any]:
@@ -103,13 +92,18 @@ def way_data(tuned: Tuned, way: Way) -> dict[str, Any]:
                      for path, lost in losers(tuned, way)]}
 
 
-def clash_data(tuned: Tuned, clash: Unmet) -> dict[str, Any]:
+def served(tuned: Tuned, clash: Clash) -> int:
+    """The slices that are there for goals that cannot be met together: what the host serves, or
+    the most that their group can be given."""
+    row = clash.group.row
+    return tuned.before.answer.figures.mosts[row] if row else tuned.before.root.gets
+
+
+def clash_data(tuned: Tuned, clash: Clash) -> dict[str, Any]:
     """Goals that cannot be met together as data. Amounts are thousandths of a CPU."""
-    goals = [tuned.asked.goals[place] for place in clash.together]
-    return {"goal": tuned.asked.goals[clash.goal].group.path,
-            "together": [goal.group.path for goal in goals],
-            "asked_millicpu": tuned.before.millicpu(sum(goal.amount for goal in goals)),
-            "served_millicpu": tuned.before.millicpu(tuned.before.root.gets)}
+    return {"group": clash.group.path, "together": [goal.group.path for goal in clash.goals],
+            "asked_millicpu": tuned.before.millicpu(tuned.asked.needs[clash.group.row]),
+            "served_millicpu": tuned.before.millicpu(served(tuned, clash))}
 
 
 def as_data(tuned: Tuned) -> dict[str, Any]:
@@ -122,7 +116,7 @@ def as_data(tuned: Tuned) -> dict[str, Any]:
     return {"guaranteed": tuned.asked.is_guaranteed, "met": tuned.best is not None,
             "engine": before.by, "goals": goals,
             "weights": way_data(tuned, weights) if isinstance(weights, Way) else None,
-            "conflict": clash_data(tuned, weights) if isinstance(weights, Unmet) else None,
+            "conflict": clash_data(tuned, weights) if isinstance(weights, Clash) else None,
             "settings": way_data(tuned, owned) if isinstance(owned, Way) else None,
             "limits": None if tuned.limits is None else way_data(tuned, tuned.limits),
             "no_settings": owned if isinstance(owned, str) else None,

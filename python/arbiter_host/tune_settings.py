@@ -9,9 +9,8 @@ from collections.abc import Sequence
 from dataclasses import dataclass, replace
 from functools import partial
 
-from arbiter import Unmet
 from arbiter_host import owned, search
-from arbiter_host.goals import Goal, Goals, NewSetting, Way
+from arbiter_host.goals import Clash, Goal, Goals, NewSetting, Way
 from arbiter_host.model import Model
 from arbiter_host.names import shown
 from arbiter_host.owned import Owned, Range, Setting
@@ -142,7 +141,7 @@ def raised(start: Raised) -> Raised | str:
     return f"goals are not met after {MOST_RAISES} raises"
 
 
-def by_settings(goals: Goals, weights: Way | Unmet) -> Way | str | None:
+def by_settings(goals: Goals, weights: Way | Clash) -> Way | str | None:
     """Settings that people own and that meet all goals, or why none were found; None where the
     source has none."""
     source = goals.before.model.owned

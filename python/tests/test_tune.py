@@ -13,10 +13,11 @@ import time
 from fractions import Fraction
 
 import pytest
-from arbiter import Host, Unmet
+from arbiter import Host
 from arbiter_host import change, choosing, demands, goals as goals_, other_limits, tune
 from arbiter_host import progress, tune_settings, tune_weights
 from arbiter_host.faults import HostFault
+from arbiter_host.goals import Clash
 from arbiter_host.model import Group, Model
 from arbiter_host.plan import Engine, plan
 from hypothesis import HealthCheck, given, settings
@@ -40,6 +41,11 @@ def asked(ctl, source, *goals, words=()):
     is_found = found["met"] or any(each["least"] is not None for each in found["alone"])
     assert ended.returncode == (0 if is_found else 6), ended.stderr
     return found
+
+
+# What is told where each other group keeps half, of weights of which none or some are lowered.
+HALF, LOWER_HALF = (each.replace(tune_weights.MEET, f"{tune_weights.MEET} and {tune_weights.HALF}")
+                    for each in (tune_weights.LEAST, tune_weights.LOWER))
 
 
 def changes(way):
@@ -66,7 +72,7 @@ def test_one_goal(ctl, folder):
     way = found["weights"]
     assert changes(way) == {"a": ("100", "181")} and way["set"] == ["a.weight=181"]
     assert (way["then_millicpu"], way["pays"]) == ([500], [{"group": "b", "millicpu": 150}])
-    assert way["told"] == tune_weights.LEAST and found["settings"] is found["conflict"] is None
+    assert way["told"] == HALF and found["settings"] is found["conflict"] is None
 
 
 def test_two_goals(ctl, folder):
@@ -85,7 +91,7 @@ def test_two_goals(ctl, folder):
         ["0.50", "0.35", "0.50", "1.00", "a"], ["0.35", "0.35", "0.35", "1.00", "b"], [],
         ["setting", "now", "then", "group"], ["weight", "100", "272", "a"],
         ["weight", "100", "186", "b"], [], ["who", "else", "pays:", "c", "-0.15"],
-        tune_weights.LEAST.split(), []]
+        HALF.split(), []]
 
 
 def test_what_is_met_stays(ctl, folder):
@@ -112,38 +118,84 @@ def test_goals_that_cannot_be_met(ctl, folder):
     words = ["a=600m", "b=600m"]
     found = asked(ctl, three(folder), *words)
     assert not found["met"] and found["weights"] is found["settings"] is None
-    assert found["conflict"] == {"goal": "b", "together": ["a", "b"], "asked_millicpu": 1200,
+    assert found["conflict"] == {"group": ".", "together": ["a", "b"], "asked_millicpu": 1200,
                                  "served_millicpu": 1000}
-    out, _ = ctl.run("tune", three(folder), "--goal", "a=600m", "--goal", "b=600m", "--goal",
-                     "c=100m", status=6)
-    assert "weights of their groups cannot meet these goals together by today's demands" in out
-    assert "asked for in all: 1.20; served in all: 1.00" in out and "0.10" not in out
+    out, _ = ctl.run("tune", three(folder), "--goal", "a=600m", "--goal", "b=600m", status=6)
+    assert "weights that may change cannot meet these goals together by today's demands" in out
+    assert "asked for in all: 1.20; served in all: 1.00" in out
+
+
+def test_goals_that_clash_in_a_group(ctl, folder):
+    """sys can be given the 40 slices of its limit. Its two need 30 of its own goal, or 45 of theirs
+    in all. The goal of user has no part in it."""
+    words = [*(f"--goal={each}" for each in ("sys=300m", "web=300m", "db=150m", "user=100m")),
+             "--set", "sys.max=400m"]
+    out, _ = ctl.run("tune", deep(folder), *words, status=6)
+    lines = [line.split() for line in out.split("\n")]
+    assert ("weights that may change cannot meet these goals together in sys by today's demands,"
+            " in CPUs" in out)
+    assert ["0.30", "0.40", "2.00", "sys"] in lines and "user" not in out
+    assert "asked for in all: 0.45; sys can be given 0.40 at most" in out
+    found = json.loads(ctl.run("tune", deep(folder), *words, "-o", "json", status=6)[0])
+    assert found["conflict"] == {"group": "sys", "together": ["sys", "sys/web", "sys/db"],
+                                 "asked_millicpu": 450, "served_millicpu": 400}
 
 
 def test_more_than_is_asked(ctl, folder):
     """No weight gives a group more than it asks for, and a line says so."""
     out, _ = ctl.run("tune", host_file(folder, ("a", 100, 300), ("b", 100, 300)), "--goal",
                      "a=400m", status=6)
-    assert "the weight of its group cannot meet this goal" in out
+    assert "weights that may change cannot meet this goal by today's demands, in CPUs" in out
+    assert "asked for in all: 0.40; a can be given 0.30 at most" in out
     assert "a asks for less: no setting gives it more than it asks for" in out
 
 
 def test_less_weight(ctl, folder):
-    """a's slice 19 costs 37/10000 at least, and b's slice 2 3/10000: b needs a lesser weight.
+    """a's slice 19 costs 37/w, and b's slice 2 3/v: with a weight of 10000 v is 810 at most.
 
-    With 100 of a it is at most 8: 37/100 is no more than 3/w. a stays as it is.
+    So weights are lowered. b's is 1, and a's slice 19 costs no more than 3 from 13 on.
     """
     found = asked(ctl, two(folder, b=10000), "a=950m", "b=50m")
-    assert changes(found["weights"]) == {"b": ("10000", "8")}
+    assert changes(found["weights"]) == {"a": ("100", "13"), "b": ("10000", "1")}
     assert (found["weights"]["then_millicpu"], found["weights"]["told"]) == (
-        [950, 50], tune_weights.LOWER + goals_.NEEDED)
+        [950, 50], LOWER_HALF)
+
+
+def test_others_keep_half(ctl, folder):
+    """user keeps 25 of 50 slices, and db 13 of 25.
+
+    Beside user sys has 73 where its slice 73 costs no more than 51/100: 285. Then web's slice 60
+    costs no more than db's slice 14, 27/100: 441.
+    """
+    found = asked(ctl, deep(folder), "web=600m")
+    assert changes(found["weights"]) == {"sys": ("100", "264"), "sys/web": ("100", "441")}
+    assert found["weights"]["pays"] == [{"group": "user", "millicpu": 230},
+                                        {"group": "sys/db", "millicpu": 120}]
+    assert found["weights"]["told"] == HALF
+
+
+def test_half_that_cannot_be_kept(ctl, folder):
+    """a has 15 slices where b has 5, and half of 13 are 7. a's slice 15 costs 29/w, b's slice 6
+    11/200: 528."""
+    found = asked(ctl, two(folder), "a=750m")
+    assert found["weights"]["told"] == f"{tune_weights.LEAST}; none {tune_weights.HALF}"
+    assert changes(found["weights"]) == {"a": ("100", "528")}
+
+
+def test_half_of_what_is_guaranteed(ctl, folder):
+    """a has 11 of 20 slices where b and c, which asks for nothing now, have 9 beside it. By the
+    plan b has 10, and whatever the others ask for 7, of which it keeps 4."""
+    source = three(folder, c_asks=0)
+    found = asked(ctl, source, "a=550m", words=["--guaranteed"])
+    assert found["weights"]["told"] == HALF
+    assert changes(found["weights"]) == {"a": ("100", "234")}
 
 
 def test_kept_weights(ctl, folder):
-    """a stays: its slice 18 costs 35/100, b's slice 3 5/w, so b has 14 at most. c is no goal's."""
+    """a stays, and b is lowered to the least that gives it a slice. c is no goal's."""
     found = asked(ctl, two(folder), "a=900m", "b=50m", words=["-g", "b"])
-    assert changes(found["weights"]) == {"b": ("200", "14")}
-    assert found["weights"]["then_millicpu"] == [900, 100]
+    assert changes(found["weights"]) == {"b": ("200", "3")}
+    assert found["weights"]["then_millicpu"] == [950, 50]
     found = asked(ctl, three(folder), "a=900m", words=["-g", "c"])
     assert (found["met"], found["conflict"]["together"]) == (False, ["a"])
     out, err = ctl.run("tune", three(folder), "--goal", "a=900m", "-g", "c", status=6)
@@ -167,33 +219,34 @@ def test_groups_above(ctl, folder):
     found = asked(ctl, deep(folder), "web=600m", "db=150m")
     assert changes(found["weights"]) == {"sys": ("100", "293"), "sys/web": ("100", "384")}
     assert found["weights"]["pays"] == [{"group": "user", "millicpu": 250}]
-    assert found["weights"]["told"] == tune_weights.CLIMBED + goals_.NEEDED
+    assert found["weights"]["told"] == HALF
 
 
-def test_a_group_above_that_is_given_more(ctl, folder):
-    """Beside db no weight gives web all 60 slices of sys. With 61 db has its first.
-
-    The slice 61 of sys costs 121/w, user's slice 40 79/100: 154. Then web's slice 60 costs 119/w,
-    and db's slice 2 3/100: 3967.
-    """
-    found = asked(ctl, deep(folder), "web=600m")
-    assert changes(found["weights"]) == {"sys": ("100", "154"), "sys/web": ("100", "3967")}
+def test_groups_that_may_not_change(ctl, folder):
+    """Beside db no weight gives web all 60 slices of sys, whose own weight stays."""
     out, _ = ctl.run("tune", deep(folder), "--goal", "web=600m", "-g", "sys/*",
                      status=6)
-    assert "nor were weights of the groups above them found that do" in out
+    assert "weights that may change cannot meet this goal by today's demands" in out
     assert "nor were limits of other groups found with which they are met" in out
     assert "the settings of sys stay as they are (-g)" in out
 
 
-def test_groups_below_stay(ctl, folder):
-    """web needs 30 slices and db 21, more than the 50 of sys. With 59 web has 30 by its own weight.
+def test_least_from_the_root_down(ctl, folder):
+    """web and db need 51 slices, whose slice 51 costs 101/w, and user's slice 50 99/100: 103.
 
-    The slice 59 of sys costs 117/w, user's slice 42 83/100: 141.
+    Of these web's slice 30 costs 59/w, and db's slice 22 43/100: 138.
     """
     found = asked(ctl, deep(folder), "web=300m", "db=210m")
-    assert changes(found["weights"]) == {"sys": ("100", "141")}
-    assert found["weights"]["then_millicpu"] == [300, 290]
-    assert found["weights"]["pays"] == [{"group": "user", "millicpu": 90}]
+    assert changes(found["weights"]) == {"sys": ("100", "103"), "sys/web": ("100", "138")}
+    assert found["weights"]["then_millicpu"] == [300, 210]
+    assert found["weights"]["pays"] == [{"group": "user", "millicpu": 10}]
+
+
+def test_a_goal_of_a_group_and_of_one_inside(ctl, folder):
+    """The slice 70 of sys costs 139/w, and user's slice 31 61/100: 228. web has 35 of them then."""
+    found = asked(ctl, deep(folder), "sys=700m", "web=300m")
+    assert changes(found["weights"]) == {"sys": ("100", "228")}
+    assert found["weights"]["then_millicpu"] == [700, 350]
 
 
 def limits(found):
@@ -243,6 +296,23 @@ def test_each_limit_is_as_high_as_the_level(ctl, folder):
     assert limits(asked(ctl, source, "a=250m",
                         words=["-g", "b", "-g", "c", "-g", "d"])) == {
         (path, "max"): ("-", "250m") for path in "bcd"}
+
+
+def test_limits_of_a_long_period(ctl, folder):
+    """a has 990 of 1000 slices of 1 ms where b and c have 5 each.
+
+    That is 500 us of the period of b and c, less than a quota can be. So the host's period is
+    written. A quota of 1000 us of it is one slice, with which a has at most 998.
+    """
+    source = folder / "long.script"
+    source.write_text("# arbiter run --processors 1 --period 1000000 --slice 1000\n" + "".join(
+        f"mkdir {path}\nwrite {path} cpu.weight {weight}\ndemand {path} 1000\n"
+        for path, weight in (("a", 1), ("b", 10000), ("c", 10000))))
+    assert limits(asked(ctl, source, "a=990m")) == {(path, "max"): ("-", "5000 1000000")
+                                                    for path in "bc"}
+    assert limits(asked(ctl, source, "a=998m")) == {(path, "max"): ("-", "1000 1000000")
+                                                    for path in "bc"}
+    assert not asked(ctl, source, "a=999m")["met"]
 
 
 def test_limits_and_weights(ctl, folder):
@@ -314,7 +384,6 @@ def test_changes_that_are_made_first(ctl, folder):
     (("a=lots",), 2, "no amount of CPU"), (("a=0",), 2, "needs nothing"),
     ((".=1",), 2, "the host has no weight"), (("none=1",), 6, "no group none"),
     (("a=100m", "*=50m"), 2, "a has two goals"),
-    (("sys=500m", "web=100m"), 2, "sys is above sys/web"),
     (("\x1b=1",), 6, "no group \\x1b"),
 ])
 def test_refusals(ctl, folder, goals, status, words):
@@ -355,7 +424,7 @@ def test_requests(ctl, folder):
     found = asked(ctl, node_of(folder), "x/a/c=400m", "x/b/c=600m", words=["--want", "busy"])
     way = found["settings"]
     path = "kubepods/burstable/x:a/c"
-    assert found["met"] and found["weights"] is None and found["conflict"]["goal"] == path
+    assert found["met"] and found["weights"] is None and found["conflict"]["group"] == "."
     assert changes(way) == {path: ("100m", "182m")} and way["set"] == [f"{path}.request=182m"]
     assert way["then_millicpu"] == [400, 600]
     assert way["told"] == tune_settings.RAISED + goals_.NEEDED
@@ -425,7 +494,7 @@ def test_units(ctl, folder):
     assert changes(found["weights"]) == {"a.service": ("100", "197")}
     assert changes(found["settings"]) == {"a.service": ("-", "197")}
     assert found["settings"]["set"] == ["a.service.CPUWeight=197"]
-    assert found["settings"]["told"] == tune_weights.LEAST
+    assert found["settings"]["told"] == HALF
 
 
 def test_shares(ctl, folder):
@@ -484,28 +553,36 @@ def meets(found, goals, is_guaranteed, library):
 @SOME
 @given(model=models(), goals=GOALS, is_guaranteed=st.booleans(), others=WEIGHTS)
 def test_met_or_never(engine, model, goals, is_guaranteed, others):
-    """What is answered meets all goals. Goals that clash are met by no weights of their groups."""
+    """What is answered meets all goals. Goals that clash are met by no weights of their groups and
+    of those above them."""
     words = [f"{path}={200 * slices}m" for path, slices in goals]
     before = plan(engine, model)
     found = tune.tune(before, words, is_guaranteed)
     if found.best is not None:
         assert meets(found.best.plan, found.asked.goals, is_guaranteed, engine.library)
         return
-    assert isinstance(found.weights, Unmet)
-    clash = [found.asked.goals[place] for place in found.weights.together]
-    rows = {goal.group.row for goal in clash}
+    assert isinstance(found.weights, Clash)
     for weights in others:
-        mixed = [weights[row] if row in rows else group.weight
+        mixed = [weights[row] if row in found.asked.paths else group.weight
                  for row, group in enumerate(before.groups)]
         after = plan(engine, goals_.with_weights(model, mixed))
-        assert not meets(after, clash, is_guaranteed, engine.library)
+        assert not meets(after, found.weights.goals, is_guaranteed, engine.library)
+
+
+def goals_kept(found):
+    """The goals of an answer and, where others keep half, what these keep."""
+    asked_, keeps = found.asked, found.best.told in (HALF, LOWER_HALF)
+    kept = tune_weights.halves(asked_) if keeps else {}
+    return [*asked_.goals, *(goals_.Goal(found.before.groups[row], amount, Fraction(0))
+                             for row, amount in kept.items())]
 
 
 @SOME
 @given(model=models(), goals=GOALS, is_guaranteed=st.booleans(),
        chosen=st.sets(st.sampled_from(PATHS), max_size=3))
 def test_no_change_can_be_left_out(engine, model, goals, is_guaranteed, chosen):
-    """As `--set` makes the changes, they meet all goals, and without one of them they do not.
+    """As `--set` makes the changes, they meet all goals, and others keep half where that is said.
+    Without one of them they do not, unless weights are lowered.
 
     Where groups are chosen, these and those below them alone change.
     """
@@ -514,15 +591,16 @@ def test_no_change_can_be_left_out(engine, model, goals, is_guaranteed, chosen):
     found = tune.tune(before, words, is_guaranteed, choosing.with_below(model, chosen) or None)
     if found.best is None:
         return
-    changes_ = found.best.changes
+    changes_, kept = found.best.changes, goals_kept(found)
+    is_lower = any(each.key == "weight" and int(each.then) < int(each.now) for each in changes_)
     assert all(not chosen or {each.path, each.path.rpartition("/")[0]} & chosen
                for each in changes_)
-    for left in (None, *range(len(changes_))):
+    for left in (None, *(() if is_lower else range(len(changes_)))):
         after = model.copy()
         for place, each in enumerate(changes_):
             if place != left:
                 change.apply(after.groups[each.path], each.key, each.then, False)
-        is_met = meets(plan(engine, after), found.asked.goals, is_guaranteed, engine.library)
+        is_met = meets(plan(engine, after), kept, is_guaranteed, engine.library)
         assert is_met == (left is None), (changes_, left)
 
 
@@ -533,8 +611,6 @@ def test_an_answer_that_does_not_meet_is_none(engine, monkeypatch):
         model.add(Group(path, demand=Fraction(1000)))
     before = plan(engine, model)
     monkeypatch.setattr(engine.library, "tune", lambda *_: [100, 100, 100], raising=False)
-    monkeypatch.setattr(tune_weights, "own_weights",
-                        lambda asked: tune_weights.tuned_free(asked, asked.weights))
     with pytest.raises(HostFault, match="a: the accepted plan does not meet its goal"):
         tune.tune(before, ["a=900m"])
 

@@ -58,7 +58,7 @@ module _ (a b : Groups) (xs ys : List ℕ) (va : IsInstance a) (vb : IsInstance 
   most_less : (h : ℕ) → h < length a.rows
       → get_or (mosts a va.tree) h 0 ≤ get_or (mosts b vb.tree) h 0
   most_less h below =
-      mosts_less a b va vb (roomier a b 0 xs ys va vb busier is_plan is_other) h below
+      mosts_less a b va vb (roomier a b busier) h below
 
   split : (p : ℕ) → p < length a.rows → is_leaf a.rows p ≡ false
       → IsBestSplit (get_or ys p 0) (map (weight_of b.rows) (children_of a.rows p))
@@ -184,7 +184,7 @@ unused_changes a b xs ys va vb busier is_plan is_other fits h below =
 pub only_cuts : DemandOnlyCuts
 only_cuts a b leaf xs ys va vb at_leaf is_plan is_other =
     let more : IsRoomierAt a b leaf = record {
-      no_less = roomier a b 0 xs ys va vb at_leaf.no_less is_plan is_other;
+      no_less = roomier a b at_leaf.no_less;
       weights = at_leaf.no_less.weights;
       demands = at_leaf.others;
       limits = λ h other. at_leaf.no_less.limits h;

@@ -1,10 +1,10 @@
--- Where the others ask for more, a group has no more.
+-- Where the others ask for more, or may have more, a group has no more.
 use Rattle.std.proofs.Common.{◌≡◌, ℕ, ◌<◌, ◌≤◌, ◌⊎◌, List, Option, true, false, None, Some, length}
 use Rattle.std.proofs.Common.{get_or, refl, ap, sym, ◌∙◌, arith, inl, inr, eqb}
 use Rattle.std.specs.Prelude.{map, min, sum, slice_index}
 use Rattle.std.proofs.lemmas.Bool.{cases_lt, or_right}
 use Rattle.std.proofs.lemmas.List.Sums.{sum-map}
-use Rattle.bw_model.specs.Groups.{Groups, IsInstance, parent_of, children_of, is_leaf}
+use Rattle.bw_model.specs.Groups.{Groups, IsInstance, parent_of, children_of, is_leaf, weight_of}
 use Rattle.bw_model.specs.Groups.{limit_of, demand_of, is_under, sum_of_children}
 use Rattle.bw_model.specs.Demand.{want_of}
 use Rattle.bw_model.specs.Plan.{IsPlan, child_weights}
@@ -15,7 +15,7 @@ use Rattle.bw_model.proofs.CallerLemmas.{is_under-self, is_under-step}
 use Rattle.bw_change_laws.proofs.Lists.{find_greater}
 use Rattle.bw_change_laws.specs.Asked.{IsBusier}
 use Rattle.bw_change_laws.specs.Host.{IsRoomier}
-use Rattle.bw_change_laws.specs.Room.{OthersDemandsGiveNothing}
+use Rattle.bw_change_laws.specs.Room.{OthersDemandsGiveNothing, OthersRoomGivesNothing}
 use Rattle.bw_change_laws.proofs.Above.{parent_above}
 use Rattle.bw_change_laws.proofs.Lacking.{within_most, no_more_below}
 use Rattle.bw_change_laws.proofs.Trees.{from_the_root, planned, want_same, at_place}
@@ -90,50 +90,48 @@ child_full a va xs is_plan c p c_in e enough =
     ∙ ap (λ list. get_or list spot.0 0) (sym same)
     ∙ at_place a.rows (mosts a va.tree) p spot.0 c spot.1 spot.2
 
+-- Two instances of equal weights, of which the second has no lower limits and no smaller demands, and
+-- equal limits on the path to a group.
 module _ (a b : Groups) (group : ℕ) (xs ys : List ℕ) (va : IsInstance a) (vb : IsInstance b)
-    (busier : IsBusier a b) (is_plan : IsPlan a xs) (is_other : IsPlan b ys) where
-  pub roomier : IsRoomier a b
-  roomier = record {
-    tree = busier.tree;
-    demands = busier.demands;
-    limits = λ g limit e. (limit, sym (busier.limits g) ∙ e, omega arith);
-  }
-
+    (more : IsRoomier a b) (weights : (h : ℕ) → weight_of b.rows h ≡ weight_of a.rows h)
+    (path : (h : ℕ) → is_under a.rows h group ≡ true → limit_of b h ≡ limit_of a h)
+    (is_plan : IsPlan a xs) (is_other : IsPlan b ys) where
   -- The group can be given as much as before.
-  most_same : ((h : ℕ) → is_under a.rows group h ≡ true
-      → demand_of b.rows h ≡ demand_of a.rows h)
+  pub most_same : ((h : ℕ) → is_under a.rows group h ≡ true
+      → (demand_of b.rows h ≡ demand_of a.rows h) × (limit_of b h ≡ limit_of a h))
       → (h : ℕ) → h < length a.rows → is_under a.rows group h ≡ true
       → get_or (mosts b vb.tree) h 0 ≡ get_or (mosts a va.tree) h 0
   most_same inside = from_the_last (length a.rows)
       (λ h. is_under a.rows group h ≡ true
       → get_or (mosts b vb.tree) h 0 ≡ get_or (mosts a va.tree) h 0)
       (λ h below later under.
-      mosts-capped b vb.tree h (omega (arith, below, busier.tree.as_many))
-      ∙ ap (λ l. capped l (want_of b (mosts b vb.tree) h)) (busier.limits h)
+      mosts-capped b vb.tree h (omega (arith, below, more.tree.as_many))
+      ∙ ap (λ l. capped l (want_of b (mosts b vb.tree) h)) (inside h under).1
       ∙ ap (capped (limit_of a h))
-      (want_same a b va vb busier.tree (mosts a va.tree) (mosts b vb.tree) h
-      (inside h under)
+      (want_same a b va vb more.tree (mosts a va.tree) (mosts b vb.tree) h
+      (inside h under).0
       (λ c c_in e. later c (parent_lt a.rows va.tree c h e) c_in
       (is_under-step a.rows va.tree group c h e
       ∙ or_right (eqb c group) (is_under a.rows group h) under)))
       ∙ sym (mosts-capped a va.tree h below))
 
-  within_b : (h : ℕ) → h < length a.rows → get_or ys h 0 ≤ get_or (mosts b vb.tree) h 0
-  within_b h below = within_most b vb ys is_other h (omega (arith, below, busier.tree.as_many))
+  pub within_b : (h : ℕ) → h < length a.rows → get_or ys h 0 ≤ get_or (mosts b vb.tree) h 0
+  within_b h below = within_most b vb ys is_other h (omega (arith, below, more.tree.as_many))
 
-  -- A group with less than its most in the busier instance has there no more than before.
+  -- A group with less than its most in the other instance has there no more than before.
   unfoldable pub NoMore : ℕ → Type 0
   NoMore h = (get_or ys h 0 ≤ get_or xs h 0) ⊎ (get_or xs h 0 ≡ get_or (mosts a va.tree) h 0)
 
   -- A group that has more, though it had its most, was not at its limit: its children had theirs.
   step_full : (c p : ℕ) → c < length a.rows → parent_of a.rows c ≡ Some p
+      → limit_of b p ≡ limit_of a p
       → get_or xs p 0 < get_or ys p 0 → get_or xs p 0 ≡ get_or (mosts a va.tree) p 0
       → get_or xs c 0 ≡ get_or (mosts a va.tree) c 0
-  step_full c p c_in e more full =
+  step_full c p c_in e limits greater full =
       let p_in : p < length a.rows = omega (arith, parent_lt a.rows va.tree c p e, c_in) in
       let inner : is_leaf a.rows p ≡ false = parent_not_leaf a.rows p c c_in e in
-      let whole = uncut_most a b va vb p p_in (omega (arith, p_in, busier.tree.as_many))
-      (busier.limits p) inner (omega (arith, more, full, within_b p p_in)) in
+      let whole = uncut_most a b va vb p p_in (omega (arith, p_in, more.tree.as_many))
+      limits inner (omega (arith, greater, full, within_b p p_in)) in
       child_full a va xs is_plan c p c_in e (omega (arith, full, whole))
 
   pub no_more : (h : ℕ) → h < length a.rows → is_under a.rows h group ≡ true → NoMore h
@@ -143,19 +141,44 @@ module _ (a b : Groups) (group : ℕ) (xs ys : List ℕ) (va : IsInstance a) (vb
       → (get_or ys h 0 ≤ get_or xs h 0) ⊎ (get_or xs h 0 ≡ get_or (mosts a va.tree) h 0))
       (λ under. inr (planned a va xs is_plan).top)
       (λ h p below up known under.
+      let over : is_under a.rows p group ≡ true = parent_above a.rows va.tree h p up group under in
       elim (cases_lt (get_or xs h 0) (get_or (mosts a va.tree) h 0)) [
         | inr full ↦ inr (omega (arith, full, within_most a va xs is_plan h below))
         | inl room ↦ elim (cases_lt (get_or xs p 0) (get_or ys p 0)) [
           | inr less ↦ inl
-              (no_more_below a b va vb roomier busier.weights xs ys is_plan is_other h p below up
-              less room)
-          | inl more ↦ elim (known (parent_above a.rows va.tree h p up group under)) [
-            | inl less ↦ absurd (omega (arith, less, more))
-            | inr full ↦ inr (step_full h p below up more full)
+              (no_more_below a b va vb more weights xs ys is_plan is_other h p below up less room)
+          | inl greater ↦ elim (known over) [
+            | inl less ↦ absurd (omega (arith, less, greater))
+            | inr full ↦ inr (step_full h p below up (path p over) greater full)
           ]
         ]
       ])
 
+  pub group_no_more : ((h : ℕ) → is_under a.rows group h ≡ true
+      → (demand_of b.rows h ≡ demand_of a.rows h) × (limit_of b h ≡ limit_of a h))
+      → group < length a.rows → get_or ys group 0 ≤ get_or xs group 0
+  unfolding NoMore
+  group_no_more inside below =
+      elim (no_more group below (is_under-self a.rows va.tree group)) [
+        | inl less ↦ less
+        | inr full ↦
+            omega (
+              arith,
+              full,
+              within_b group below,
+              most_same inside group below (is_under-self a.rows va.tree group),
+            )
+      ]
+
+pub roomier : (a b : Groups) → IsBusier a b → IsRoomier a b
+roomier a b busier = record {
+  tree = busier.tree;
+  demands = busier.demands;
+  limits = λ g limit e. (limit, sym (busier.limits g) ∙ e, omega arith);
+}
+
+module _ (a b : Groups) (group : ℕ) (xs ys : List ℕ) (va : IsInstance a) (vb : IsInstance b)
+    (busier : IsBusier a b) (is_plan : IsPlan a xs) (is_other : IsPlan b ys) where
   -- A leaf has no more of what it asked for before.
   pub leaf_no_more : group < length a.rows → is_leaf a.rows group ≡ true
       → min (demand_of a.rows group) (get_or ys group 0) ≤ get_or xs group 0
@@ -171,37 +194,30 @@ module _ (a b : Groups) (group : ℕ) (xs ys : List ℕ) (va : IsInstance a) (vb
       ≡ capped (limit_of a group) (want_of b (mosts b vb.tree) group) =
       mosts-capped b vb.tree group (omega (arith, below, busier.tree.as_many))
       ∙ ap (λ l. capped l (want_of b (mosts b vb.tree) group)) (busier.limits group) in
-      elim (no_more group below (is_under-self a.rows va.tree group)) [
+      elim (no_more a b group xs ys va vb (roomier a b busier) busier.weights
+      (λ h under. busier.limits h) is_plan is_other group below
+      (is_under-self a.rows va.tree group)) [
         | inl less ↦ omega (arith, less)
         | inr full ↦
             less_of_capped (limit_of a group) (demand_of a.rows group)
             (want_of b (mosts b vb.tree) group) (get_or xs group 0) (get_or ys group 0)
             (full ∙ rule_a)
             (let fits : get_or ys group 0 ≤ get_or (mosts b vb.tree) group 0 =
-            within_b group below in omega (arith, fits, rule_b))
+            within_b a b group xs ys va vb (roomier a b busier) busier.weights
+            (λ h under. busier.limits h) is_plan is_other group below in omega (arith, fits, rule_b))
       ]
 
-  group_no_more : ((h : ℕ) → is_under a.rows group h ≡ true
-      → demand_of b.rows h ≡ demand_of a.rows h)
-      → group < length a.rows → get_or ys group 0 ≤ get_or xs group 0
-  unfolding NoMore
-  group_no_more inside below =
-      elim (no_more group below (is_under-self a.rows va.tree group)) [
-        | inl less ↦ less
-        | inr full ↦
-            omega (
-              arith,
-              full,
-              within_b group below,
-              most_same inside group below (is_under-self a.rows va.tree group),
-            )
-      ]
+pub others_room_gives : OthersRoomGivesNothing
+others_room_gives a b group xs ys va vb more below is_plan is_other =
+    group_no_more a b group xs ys va vb more.no_less more.weights more.above is_plan is_other
+    (λ h under. (more.demands h under, more.limits h under)) below
 
 pub others_demands_give : OthersDemandsGiveNothing
 others_demands_give a b group xs ys va vb busier below is_plan is_other =
-    group_no_more a b group xs ys va vb (record {
+    group_no_more a b group xs ys va vb (roomier a b (record {
       tree = busier.tree;
       weights = busier.weights;
       limits = busier.limits;
       demands = busier.demands;
-    }) is_plan is_other busier.inside below
+    })) busier.weights (λ h under. busier.limits h) is_plan is_other
+    (λ h under. (busier.inside h under, busier.limits h)) below

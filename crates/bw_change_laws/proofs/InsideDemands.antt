@@ -27,7 +27,7 @@ module _ (a b : Groups) (group : ℕ) (xs ys : List ℕ) (va : IsInstance a) (vb
   most_less : (h : ℕ) → h < length a.rows
       → get_or (mosts a va.tree) h 0 ≤ get_or (mosts b vb.tree) h 0
   most_less h below =
-      mosts_less a b va vb (roomier a b group xs ys va vb busier.no_less is_plan is_other) h below
+      mosts_less a b va vb (roomier a b busier.no_less) h below
 
   -- A group that is neither above the busier one nor below it can be given as much as before.
   most_same : (h : ℕ) → h < length a.rows → (is_under a.rows h group ≡ true → ⊥)
@@ -132,7 +132,8 @@ inside_only_cut a b group most xs ys va vb busier mosts_are is_plan is_other =
     within_most a va xs is_plan group busier.within in
     let up : get_or xs group 0 ≤ get_or ys group 0 =
     keeps a b group xs ys va vb busier is_plan is_other group busier.within self in
-    elim (no_more a b group xs ys va vb busier.no_less is_plan is_other group busier.within self) [
+    elim (no_more a b group xs ys va vb (roomier a b busier.no_less) busier.no_less.weights
+    (λ h under. busier.no_less.limits h) is_plan is_other group busier.within self) [
       | inl less ↦ omega (arith, same, fits, up, less)
       | inr full ↦ omega (arith, same, up, full)
     ]

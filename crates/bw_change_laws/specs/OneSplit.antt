@@ -38,8 +38,8 @@ RestStaysSplit = (amount : ℕ) (weights most parts : List ℕ) (child : ℕ) �
     → IsBestSplit (amount - slice_index parts child) (remove weights child) (remove most child)
     (remove parts child)
 
--- Beside no lighter siblings, and with no more to split, a child of no greater weight that could take
--- more has no more.
+-- Beside no lighter siblings, and with no more to split, a child of no greater weight that could
+-- take more has no more.
 abbrev pub LighterHasNoMore : Type 0
 LighterHasNoMore = (amount less : ℕ) (weights most other_weights parts others : List ℕ) (child : ℕ)
     → less ≤ amount → AreWeighted weights most → AreWeighted other_weights most

@@ -48,3 +48,22 @@ OthersDemandsGiveNothing = (groups busier : Groups) (group : ℕ) (amounts other
     → IsInstance groups → IsInstance busier → IsBusierAround groups busier group
     → group < length groups.rows → IsPlan groups amounts → IsPlan busier others
     → slice_index others group ≤ slice_index amounts group
+
+-- An instance with equal weights, no smaller demands and no lower limits. The limits of a group,
+-- and of all above it and below it, are equal, and so are the demands below it.
+pub record IsRoomierAround (groups roomier : Groups) (group : ℕ) : Type 0 where
+  pub no_less : IsRoomier groups roomier
+  pub weights : (h : ℕ) → weight_of roomier.rows h ≡ weight_of groups.rows h
+  pub above : (h : ℕ) → is_under groups.rows h group ≡ true
+      → limit_of roomier h ≡ limit_of groups h
+  pub limits : (h : ℕ) → is_under groups.rows group h ≡ true
+      → limit_of roomier h ≡ limit_of groups h
+  pub demands : (h : ℕ) → is_under groups.rows group h ≡ true
+      → demand_of roomier.rows h ≡ demand_of groups.rows h
+
+-- The more the others may have, the less a group has.
+abbrev pub OthersRoomGivesNothing : Type 0
+OthersRoomGivesNothing = (groups roomier : Groups) (group : ℕ) (amounts others : List ℕ)
+    → IsInstance groups → IsInstance roomier → IsRoomierAround groups roomier group
+    → group < length groups.rows → IsPlan groups amounts → IsPlan roomier others
+    → slice_index others group ≤ slice_index amounts group

@@ -23,8 +23,8 @@ pub fn unused_demand_changes_nothing()
     ensures { UnusedDemandChangesNothing }
 {}
 
-/// Law: a group has what it has where leaves of it ask for more, or the most that it can be given if
-/// that is less. So the plan in which each leaf asks for the most tells all guarantees.
+/// Law: a group has what it has where leaves of it ask for more, or the most that it can be given
+/// if that is less. So the plan in which each leaf asks for the most tells all guarantees.
 pub fn demands_inside_only_cut()
     ensures { DemandsInsideOnlyCut }
 {}

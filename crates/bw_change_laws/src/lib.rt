@@ -31,5 +31,5 @@ pub use one_split::{
 };
 pub use order::row_order_changes_nothing;
 pub use outer::outer_group_changes_nothing;
-pub use room::{more_room_takes_nothing, others_demands_give_nothing};
+pub use room::{more_room_takes_nothing, others_demands_give_nothing, others_room_gives_nothing};
 pub use weight::{others_weights_give_nothing, raised_weight_alone_gains};

@@ -14,4 +14,3 @@ mod Questions
 mod RefusedRow
 mod Spelling
 mod Squares
-mod TunedAnswers

@@ -21,5 +21,4 @@ pub mod Reasoned
 pub mod RefusedRow
 pub mod Shares
 pub mod Tallies
-pub mod Tuned
 pub mod Walks

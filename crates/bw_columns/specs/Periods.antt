@@ -240,7 +240,8 @@ settings_number shape settings =
 -- the number that refuses settings and samples of a host, 0 for none
 unfoldable pub periods_number : Shape → Settings → ℕ → List ℕ → ℕ
 periods_number shape settings count demands =
-    first_refusal (settings_number shape settings) (samples_number (set_rows shape settings) count demands)
+    first_refusal (settings_number shape settings)
+    (samples_number (set_rows shape settings) count demands)
 
 -- the answer to columns that fit: the number of a host that is not planned, or of the settings and
 -- the samples

@@ -2,25 +2,46 @@
 ghost use Rattle.std.specs.Prelude.{◌≡◌, true, length, IfOk, IfErr, OnOk};
 ghost use Rattle.bw_columns.specs.Asked.{groups_asked, refusal_where, Answers};
 ghost use Rattle.bw_columns.specs.Certificates.{flags_in};
-ghost use Rattle.bw_columns.specs.FromRoot.{IsFromRootTold, IsToldOfRoot};
+ghost use Rattle.bw_columns.specs.FromRoot.{IsFromRootTold, IsToldOfRoot, measure_of, weights_of};
 ghost use Rattle.bw_columns.specs.Numbers.{number_of_refusal};
 
 use crate::asked_instance::{Host, instance_where};
 use crate::claim::flags_of;
 use crate::columns::Columns;
 use crate::refusal::Refusal;
-use crate::tuned::{NO_GOAL, weights_of};
 use bw_model::Instance;
-use bw_questions::{Tuned, tune_from_root};
+use bw_questions::{Measure, Tuned, tune};
 use std::alloc::{AllocError, Global};
+
+/// The number for no goal.
+pub const NO_GOAL: u64 = 18_446_744_073_709_551_615;
 
 /// The answer to goals of rows, by column.
 #[derive(Drop)]
 pub struct FromRootColumns {
     /// The weight of each row: 1 to 10,000.
     pub weights: Vec<u64>,
-    /// A row whose goals, with those below it, no weights meet together; [`NO_GOAL`] if all are met.
+    /// A row whose goals, with those below it, no weights meet together; [`NO_GOAL`] if all are
+    /// met.
     pub unmet: u64,
+}
+
+/// The measure that a number names: the plan for 0, the guarantee for any other.
+pub fn measure_of(number: u32) -> Measure
+    ensures { result ≡ measure_of number }
+{
+    if number == 0 {
+        Measure::Planned
+    } else {
+        Measure::Guaranteed
+    }
+}
+
+// The weight of each row.
+fn weights_of(alloc: Global, instance: &Instance) -> Result<Vec<u64>, AllocError>
+    ensures { IfOk result (λ weights. weights.items ≡ weights_of instance.now.rows) }
+{
+    instance.rows().iter().map(|row| row.weight).collect(alloc)
 }
 
 // The answer of an instance, by column.
@@ -41,8 +62,8 @@ fn told(alloc: Global, instance: &Instance, tuned: &Tuned) -> Result<FromRootCol
 
 /// The least weights from the root down of a host and its rows.
 ///
-/// `goals` has the least slices that each row is to get, 0 for none. `may` is not 0 for a row whose
-/// weight may change. `fit` is whether the caller's column for the weights has the rows' length.
+/// `goals` has the least slices that each row is to get by the measure, 0 for none. `may` is not 0
+/// for a row whose weight may change. `fit` is whether the caller's columns have the rows' length.
 ///
 /// # Errors
 /// The refusals of [`instance_where`].
@@ -53,11 +74,12 @@ pub fn from_root_of(
     columns: &Columns<'_>,
     goals: &[u64],
     may: &[u8],
+    measure: Measure,
 ) -> Result<FromRootColumns, Refusal>
     requires goals { fit ≡ true → length goals.now ≡ length columns.now.parents.now }
     requires may { fit ≡ true → length may.now ≡ length columns.now.parents.now }
-    ensures told { IfOk result (λ t. IsFromRootTold (groups_asked host columns.now) goals.now
-        (flags_in may.now) t.weights.items t.unmet) }
+    ensures told { IfOk result (λ t. IsFromRootTold measure (groups_asked host columns.now)
+        goals.now (flags_in may.now) t.weights.items t.unmet) }
     ensures weights { IfOk result
         (λ t. length t.weights.items ≡ length columns.now.parents.now) }
     ensures fit { OnOk result (fit ≡ true) }
@@ -67,7 +89,7 @@ pub fn from_root_of(
 {
     let instance = instance_where(alloc, fit, host, columns)?;
     let flags = flags_of(alloc, may)?;
-    let tuned = tune_from_root(alloc, &instance, goals, flags.as_slice())?;
+    let tuned = tune(alloc, &instance, goals, flags.as_slice(), measure)?;
     let told = told(alloc, &instance, &tuned)?;
     Ok(told)
 }

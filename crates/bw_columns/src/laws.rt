@@ -3,9 +3,9 @@ ghost use Rattle.std.specs.Prelude.{◌≡◌, ◌^◌};
 ghost use Rattle.bw_columns.specs.PeriodLaws.{PeriodLimitsAreThoseAsked};
 
 use crate::columns::{NO_LIMIT, NO_PARENT};
+use crate::from_root::NO_GOAL;
 use crate::logarithm::{SCALE_DIGITS, UNIT};
 use crate::shares::{DEFAULT_SHARES, DEFAULT_WEIGHT, MAX_SHARES, MIN_SHARES};
-use crate::tuned::NO_GOAL;
 
 /// Law: the numbers of columns for no parent, no limit and no goal are the greatest of their types.
 pub fn column_numbers()

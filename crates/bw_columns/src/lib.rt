@@ -2,7 +2,7 @@
 //! the instance that they stand for, and the groups of a hierarchy.
 //!
 //! Over them are the planner's answers: plan, certificate, verdict, limiting groups, figures,
-//! reasons, limits of a round, weights for several goals, questions about a group, refused row. And
+//! reasons, limits of a round, weights for goals of rows, questions about a group, refused row. And
 //! a booked period, and conversions of what operators write to slices and weights.
 #![tactic(auto)]
 
@@ -19,7 +19,6 @@ mod figured;
 mod first_row;
 mod from_root;
 mod front;
-mod goal_columns;
 mod groups;
 mod held;
 mod laws;
@@ -38,7 +37,6 @@ mod set_rows;
 mod shares;
 mod sum_columns;
 mod tally;
-mod tuned;
 mod walk;
 mod written;
 
@@ -52,9 +50,8 @@ pub use columns::{Columns, NO_LIMIT, NO_PARENT, limit_number};
 pub use demand::demand_slices;
 pub use figured::{FigureColumns, figures_of};
 pub use first_row::refused_row;
-pub use from_root::{FromRootColumns, from_root_of};
+pub use from_root::{FromRootColumns, NO_GOAL, from_root_of, measure_of};
 pub use front::write_front;
-pub use goal_columns::measure_of;
 pub use groups::{GroupColumns, group_columns};
 pub use held::{HeldColumns, held_of};
 pub use laws::{column_numbers, limits_of_periods, share_numbers};
@@ -69,5 +66,4 @@ pub use refusal::Refusal;
 pub use set_rows::SettingColumns;
 pub use shares::{linear_weight, logarithmic_weight};
 pub use sum_columns::SumColumns;
-pub use tuned::{NO_GOAL, TuningColumns, tuning_of};
 pub use written::{are_groups_even, write_groups};

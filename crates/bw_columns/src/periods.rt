@@ -7,8 +7,8 @@ ghost use Rattle.bw_columns.specs.Asked.{Answers, shape_of};
 ghost use Rattle.bw_columns.specs.Numbers.{number_of_refusal};
 ghost use Rattle.bw_columns.specs.PlannedHosts.{cut, groups_on, IsPlannedHost, IsUnplannedHost};
 ghost use Rattle.bw_columns.specs.Periods.{rows_asking, AreSamples, samples_number, settings_of};
-ghost use Rattle.bw_columns.specs.Periods.{IsPeriodsAnswer, AreToldSamples, are_whole, periods_number};
-ghost use Rattle.bw_columns.specs.Periods.{ArePlannedSamples};
+ghost use Rattle.bw_columns.specs.Periods.{IsPeriodsAnswer, AreToldSamples, are_whole};
+ghost use Rattle.bw_columns.specs.Periods.{ArePlannedSamples, periods_number};
 ghost use Rattle.bw_columns.specs.Tallies.{AreSumsLong, sums_in};
 
 use crate::asked_instance::Host;

@@ -17,10 +17,6 @@ pub enum Refusal {
     Instance(InstanceFault),
     /// 20: the group is no row.
     NotFound,
-    /// 26: a goal is of the root.
-    RootFixed,
-    /// 29: a goal's group is another goal's group, or above it.
-    GoalAbove,
     /// 13 to 15: a group's quota, own period or burst.
     Setting(FileFault),
 }
@@ -36,8 +32,6 @@ impl Refusal {
             Refusal::Host(fault) => u32::from(fault.number()),
             Refusal::Instance(fault) => u32::from(fault.number()),
             Refusal::NotFound => 20,
-            Refusal::RootFixed => 26,
-            Refusal::GoalAbove => 29,
             Refusal::Setting(fault) => u32::from(fault.number()),
         }
     }

@@ -5,11 +5,9 @@ use Rattle.bw_cert.specs.Faults.{cert_fault_number, cert_fault_name}
 use Rattle.bw_hierarchy.specs.Faults.{hierarchy_fault_number, hierarchy_fault_name}
 use Rattle.bw_commands.specs.Faults.{script_fault_number, script_fault_name}
 use Rattle.bw_commands.specs.declared.fault.ScriptFault.TheVariants as of_line
-use Rattle.bw_questions.specs.Fault.{tune_fault_number, tune_fault_name}
-use Rattle.bw_questions.specs.declared.tuned.fault.TuneFault.TheVariants as of_goals
 use Rattle.bw_check.specs.Faults.{check_fault_number, check_fault_name}
 use Rattle.bw_exports.specs.declared.fault.Fault.{Fault}
-use Rattle.bw_exports.specs.declared.fault.Fault.TheVariants.{Asked, Called, Claimed, GoalAbove}
+use Rattle.bw_exports.specs.declared.fault.Fault.TheVariants.{Asked, Called, Claimed}
 use Rattle.bw_exports.specs.declared.fault.Fault.TheVariants.{BadCommand, BadText, LineTooLong}
 
 -- the number of a fault
@@ -17,7 +15,6 @@ abbrev pub number_of_fault : Fault → ℕ
 number_of_fault (Asked fault) = cert_fault_number fault
 number_of_fault (Called fault) = hierarchy_fault_number fault
 number_of_fault (Claimed fault) = check_fault_number fault
-number_of_fault GoalAbove = tune_fault_number of_goals.GoalAbove
 number_of_fault BadCommand = script_fault_number of_line.BadCommand
 number_of_fault BadText = script_fault_number of_line.BadText
 number_of_fault LineTooLong = script_fault_number of_line.LineTooLong
@@ -27,7 +24,6 @@ abbrev pub name_of_fault : Fault → List ℕ
 name_of_fault (Asked fault) = cert_fault_name fault
 name_of_fault (Called fault) = hierarchy_fault_name fault
 name_of_fault (Claimed fault) = check_fault_name fault
-name_of_fault GoalAbove = tune_fault_name of_goals.GoalAbove
 name_of_fault BadCommand = script_fault_name of_line.BadCommand
 name_of_fault BadText = script_fault_name of_line.BadText
 name_of_fault LineTooLong = script_fault_name of_line.LineTooLong

@@ -33,13 +33,14 @@ demand_refusal shape numerator denominator =
     else 0)
 
 -- the times of a round, in which a number other than 0 says that the group was throttled
-abbrev pub times_of : ℕ → ℕ → ℕ → ℕ → ℕ → RoundTimes
-times_of passed used waited tasks throttled = record {
+abbrev pub times_of : ℕ → ℕ → ℕ → ℕ → ℕ → ℕ → RoundTimes
+times_of passed used waited tasks throttled allowed = record {
   passed_ns = passed;
   used_us = used;
   waited_us = waited;
   tasks = tasks;
   is_throttled = not (throttled == 0);
+  allowed_us = allowed;
 }
 
 -- the number of the first refusal of columns of tasks that do not fit, then of a host, then of a

@@ -11,7 +11,6 @@ use bw_commands::ScriptFault;
 use bw_files::FileFault;
 use bw_hierarchy::Fault as CallFault;
 use bw_model::{HostFault, InstanceFault};
-use bw_questions::TuneFault;
 use bw_tree::TreeFault;
 
 /// A fault that a call of the library answers, or that it writes for a refused line.
@@ -23,8 +22,6 @@ pub(crate) enum Fault {
     Called(CallFault),
     /// Of claimed amounts: 50 to 58.
     Claimed(CheckFault),
-    /// 29: a goal's group is another goal's group, or above it.
-    GoalAbove,
     /// 80: a line of a script is no command.
     BadCommand,
     /// 81: a line of a script is not UTF-8.
@@ -42,7 +39,6 @@ impl Fault {
             Fault::Asked(fault) => fault.name(),
             Fault::Called(fault) => fault.name(),
             Fault::Claimed(fault) => fault.name(),
-            Fault::GoalAbove => TuneFault::GoalAbove.name(),
             Fault::BadCommand => ScriptFault::BadCommand.name(),
             Fault::BadText => ScriptFault::BadText.name(),
             Fault::LineTooLong => ScriptFault::LineTooLong.name(),
@@ -142,7 +138,6 @@ pub(crate) fn fault_of(number: u32) -> Option<Fault>
         return Some(Fault::Claimed(fault));
     }
     match number {
-        29 => Some(Fault::GoalAbove),
         80 => Some(Fault::BadCommand),
         81 => Some(Fault::BadText),
         82 => Some(Fault::LineTooLong),

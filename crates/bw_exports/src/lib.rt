@@ -10,7 +10,6 @@ mod demand_call;
 mod fault;
 mod figures_call;
 mod fit;
-mod from_root_call;
 mod guarantee_call;
 mod hold_call;
 mod least_limit_call;

@@ -1,37 +1,37 @@
-//! `arbiter_tune`: the weights under which several goals are met, called from C.
-ghost use Rattle.std.specs.Prelude.{◌≡◌, ◌<◌, ◌==◌, ◌&&◌, ◌∷◌, [], length};
-ghost use Rattle.bw_columns.specs.Asked.{are_of_length, asked_host, asked_table, rows_in};
+//! `arbiter_tune`: the least weights from the root down, called from C.
+ghost use Rattle.std.specs.Prelude.{◌≡◌, ◌<◌, ◌∷◌, [], length};
+ghost use Rattle.bw_columns.specs.Asked.{Answers, are_of_length, asked_host, asked_table};
 ghost use Rattle.bw_columns.specs.Asked.{groups_in, asked_number_where};
-ghost use Rattle.bw_columns.specs.Tuned.{goals_in, measure_of, IsTuneAnswer, IsTuningTold};
+ghost use Rattle.bw_columns.specs.Certificates.{flags_in};
+ghost use Rattle.bw_columns.specs.FromRoot.{IsFromRootTold, measure_of};
 
-use bw_columns::{Columns, Host, measure_of, tuning_of};
+use bw_columns::{Columns, Host, from_root_of, measure_of};
 use std::alloc::Global;
 
-// Whether there are so many weights, and so many entries in both columns of the goals.
-fn are_fit(rows: usize, tuned: &[u64], goals: usize, goal_amounts: &[u64], together: &[u8]) -> bool
-    ensures { result ≡ (length tuned.now == rows
-        && are_of_length goals (goal_amounts.now ∷ together.now ∷ [])) }
+// Whether each column beside the rows has so many entries.
+fn are_fit(count: usize, goals: &[u64], may: &[u8], tuned: &[u64]) -> bool
+    ensures { result ≡ are_of_length count (goals.now ∷ may.now ∷ tuned.now ∷ []) }
 {
-    tuned.len() == rows && goal_amounts.len() == goals && together.len() == goals
+    goals.len() == count && may.len() == count && tuned.len() == count
 }
 
-/// The weights under which each goal is met at once, of the rows that
+/// The weights under which each row has its goal, of the rows that
 /// [`crate::plan_call::arbiter_plan`] has.
 ///
-/// Goal k asks for at least `goal_amounts[k]` slices for the group `goal_groups[k]`: by the plan
-/// or, if `guaranteed` is not 0, whatever the groups ask for that are not under it. Only the
-/// weights of the goals' groups change.
+/// `goals` has the least slices that each row is to get, 0 for none: also a group with children,
+/// one inside another, and a row whose weight stays. The plan is to give them or, if `guaranteed`
+/// is not 0, the row is to get them whatever the groups ask for that are not under it. `may` is not
+/// 0 for a row whose weight may change.
 ///
-/// If the answer is 0, and there are such weights, `tuned` has the weight of each row, `together`
-/// is 0 for each goal, and `unmet` is the greatest number. The weights are the least of all that
-/// meet the goals and are no less than `weights`, or of all if none of these do. If there are no
-/// such weights, `together` is 1 for goals that no weights meet at once, `unmet` is the place of
-/// one of them, and `tuned` has `weights`. A refusal leaves all three unchanged.
+/// If the answer is 0, and there are such weights, `tuned` has the weight of each row, and `unmet`
+/// is the greatest number. No weight is less than that of `weights`, unless no such weights meet
+/// all goals. They are the least from the root down: of all weights that agree with them above a
+/// row and beside it there, theirs of that row is the least. If there are no such weights, `unmet`
+/// is a row, and no weights meet the goals of it and below it together, whatever it is given.
+/// `tuned` has `weights` then. A refusal leaves both unchanged.
 ///
 /// # Errors
-/// The numbers of `arbiter_plan`, with 50 also if `tuned` does not have the rows' length, or a
-/// column of the goals the length of the others. Then 20 if a goal's group is no row, 26 if it is
-/// the root, and 29 if it is another goal's group or above it.
+/// The numbers of `arbiter_plan`, with 50 also if a column does not have the rows' length.
 #[unsafe(no_mangle)]
 pub extern "C" fn arbiter_tune(
     alloc: Global,
@@ -42,51 +42,30 @@ pub extern "C" fn arbiter_tune(
     weights: &[u64],
     limits: &[u64],
     demands: &[u64],
-    goal_groups: &[u32],
-    goal_amounts: &[u64],
+    goals: &[u64],
+    may: &[u8],
     guaranteed: u32,
     tuned: &mut [u64],
-    together: &mut [u8],
     unmet: &mut u64,
 ) -> u32
-    ensures number { IsTuneAnswer
-        (asked_number_where
-        (length tuned.old == length parents.now
-        && are_of_length (length goal_groups.now) (goal_amounts.now ∷ together.old ∷ []))
+    ensures number { Answers (asked_number_where
+        (are_of_length (length parents.now) (goals.now ∷ may.now ∷ tuned.old ∷ []))
         (asked_host processors period_us slice_us)
-        (asked_table parents.now weights.now limits.now demands.now))
-        (rows_in (asked_table parents.now weights.now limits.now demands.now))
-        (goals_in goal_groups.now goal_amounts.now) result }
-    ensures tuning { result ≡ 0 → IsTuningTold (measure_of guaranteed)
+        (asked_table parents.now weights.now limits.now demands.now)) result }
+    ensures told { result ≡ 0 → IsFromRootTold (measure_of guaranteed)
         (groups_in (asked_host processors period_us slice_us)
         (asked_table parents.now weights.now limits.now demands.now))
-        (goals_in goal_groups.now goal_amounts.now) tuned.new together.new unmet.new }
+        goals.now (flags_in may.now) tuned.new unmet.new }
     ensures tuned_kept { 0 < result → tuned.new ≡ tuned.old }
-    ensures together_kept { 0 < result → together.new ≡ together.old }
     ensures unmet_kept { 0 < result → unmet.new ≡ unmet.old }
 {
-    let fit = are_fit(
-        parents.len(),
-        tuned,
-        goal_groups.len(),
-        goal_amounts,
-        together,
-    );
+    let fit = are_fit(parents.len(), goals, may, tuned);
     let host = Host::new(processors, period_us, slice_us);
     let columns = Columns::new(parents, weights, limits, demands);
     let measure = measure_of(guaranteed);
-    match tuning_of(
-        alloc,
-        fit,
-        host,
-        &columns,
-        goal_groups,
-        goal_amounts,
-        measure,
-    ) {
+    match from_root_of(alloc, fit, host, &columns, goals, may, measure) {
         Ok(found) => {
             tuned.copy_from_slice(found.weights.as_slice());
-            together.copy_from_slice(found.together.as_slice());
             *unmet = found.unmet;
             0
         }

@@ -23,7 +23,6 @@ mod name_cases;
 #[cfg(test)]
 mod reason_cases;
 #[cfg(test)]
-mod root_cases;
 #[cfg(test)]
 mod split_cases;
 #[cfg(test)]

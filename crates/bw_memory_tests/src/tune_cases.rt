@@ -1,13 +1,12 @@
-//! Weights that meet several goals, from both starts, and goals that cannot be met together.
+//! Least weights of the rows that may change, from the root down.
+ghost use Rattle.std.specs.Prelude.{◌≡◌, length};
+
 use crate::instances::{Group, instance};
-use bw_machine::Count;
 use bw_model::Instance;
-use bw_questions::{Goal, Measure, TuneFault, Tuning, tune};
-use std::alloc::Global;
+use bw_questions::{Measure, Tuned, tune};
+use std::alloc::{AllocError, Global};
 use std::process::Abort;
 use std::test::Fail;
-
-const ROOT: u32 = 0;
 
 const WEB: u32 = 1;
 
@@ -17,54 +16,52 @@ const POD_A: u32 = 3;
 
 const POD_B: u32 = 4;
 
-const MISSING: u32 = 5;
-
 // Of 20 slices `web` gets 10, and `pod/a` and `pod/b` 5 each.
 static GROUPS: [Group; 5] = [
     (None, 100, None, 0),
-    (Some(ROOT), 100, None, 20),
-    (Some(ROOT), 100, None, 0),
-    (Some(POD), 100, None, 20),
-    (Some(POD), 100, None, 20),
+    (Some(0), 100, None, 20),
+    (Some(0), 100, None, 0),
+    (Some(2), 100, None, 20),
+    (Some(2), 100, None, 20),
 ];
 
 // Two groups with the greatest weight.
 static HEAVY: [Group; 3] = [
     (None, 100, None, 0),
-    (Some(ROOT), 10_000, None, 20),
-    (Some(ROOT), 10_000, None, 20),
+    (Some(0), 10_000, None, 20),
+    (Some(0), 10_000, None, 20),
 ];
 
 // `web` and `pod/b` are idle.
 static IDLE: [Group; 5] = [
     (None, 100, None, 0),
-    (Some(ROOT), 100, None, 0),
-    (Some(ROOT), 100, None, 0),
-    (Some(POD), 100, None, 20),
-    (Some(POD), 100, None, 0),
+    (Some(0), 100, None, 0),
+    (Some(0), 100, None, 0),
+    (Some(2), 100, None, 20),
+    (Some(2), 100, None, 0),
 ];
 
 // The answer, asked for again if an allocation failed.
-fn tuning(
-    rt: &impl Abort,
+fn tuned(
     alloc: Global,
     instance: &Instance,
-    goals: &[Goal],
+    goals: &[u64],
+    may: &[bool],
     measure: Measure,
-) -> Result<Tuning, TuneFault> {
-    match tune(alloc, instance, goals, measure, &mut Count::none()) {
-        Err(TuneFault::OutOfMemory) => {
-            assert!(rt; TuneFault::OutOfMemory.number() == 71);
-            tune(alloc, instance, goals, measure, &mut Count::none())
-        }
+) -> Result<Tuned, AllocError>
+    requires goals { length goals.now ≡ length instance.now.rows }
+    requires may { length may.now ≡ length instance.now.rows }
+{
+    match tune(alloc, instance, goals, may, measure) {
+        Err(_) => tune(alloc, instance, goals, may, measure),
         answer => answer,
     }
 }
 
 // The weight of a group in the answer, or 0 if goals cannot be met.
-fn weight(answer: &Result<Tuning, TuneFault>, group: u32) -> u64 {
+fn weight(answer: &Result<Tuned, AllocError>, group: u32) -> u64 {
     match answer {
-        Ok(Tuning::Met(tuned)) => match tuned.rows().get(group as usize) {
+        Ok(Tuned::Met(met)) => match met.rows().get(group as usize) {
             Some(row) => row.weight,
             None => 0,
         },
@@ -72,109 +69,129 @@ fn weight(answer: &Result<Tuning, TuneFault>, group: u32) -> u64 {
     }
 }
 
-// Whether the answer is that these goals cannot be met together.
-fn is_conflict(answer: &Result<Tuning, TuneFault>, together: &[bool]) -> bool {
+// Whether the answer is that the goals of this group cannot be met together.
+fn is_unmet(answer: &Result<Tuned, AllocError>, group: u32) -> bool {
     match answer {
-        Ok(Tuning::Unmet(conflict)) => conflict.together.as_slice() == together,
+        Ok(Tuned::Unmet(top)) => *top == group,
         _ => false,
     }
 }
 
-fn goal(group: u32, amount: u64) -> Goal {
-    Goal { group, amount }
-}
-
 #[test]
-fn least_raises(rt: HostRuntime) -> Result<(), Fail> {
+fn pod_of_a_goal_is_raised(rt: HostRuntime) -> Result<(), Fail> {
     let groups = instance(rt.alloc(), &GROUPS)?;
-    let raised = [goal(POD_A, 4), goal(WEB, 12)];
-    let answer = tuning(&rt, rt.alloc(), &groups, &raised, Measure::Planned);
-    assert!(rt; weight(&answer, WEB) == 136);
-    assert!(rt; weight(&answer, POD_A) == 100);
-    let met = [goal(POD_A, 5), goal(WEB, 10)];
-    let same = tuning(&rt, rt.alloc(), &groups, &met, Measure::Planned);
-    assert!(rt; weight(&same, WEB) == 100);
+    assert!(rt; groups.rows().len() == 5);
+    // The twelfth slice of `pod` costs 23 / 136, and the ninth of `web` 17 / 100. That of `pod/a`
+    // costs 23 / 2300, as much as the first of `pod/b`, which stands behind it.
+    let may = [false, false, true, true, false];
+    let one = tuned(
+        rt.alloc(),
+        &groups,
+        &[0, 0, 0, 12, 0],
+        &may,
+        Measure::Planned,
+    );
+    assert!(rt; weight(&one, WEB) == 100);
+    assert!(rt; weight(&one, POD) == 136);
+    assert!(rt; weight(&one, POD_A) == 2300);
+    // The weight of `pod/b` stays, and it keeps two slices: `pod` needs 14.
+    let kept = tuned(
+        rt.alloc(),
+        &groups,
+        &[0, 0, 0, 12, 2],
+        &may,
+        Measure::Planned,
+    );
+    assert!(rt; weight(&kept, POD) == 208);
+    assert!(rt; weight(&kept, POD_A) == 460);
+    assert!(rt; weight(&kept, POD_B) == 100);
     Ok(())
 }
 
 #[test]
-fn lower_weights(rt: HostRuntime) -> Result<(), Fail> {
-    let heavy = instance(rt.alloc(), &HEAVY)?;
-    let goals = [goal(WEB, 14), goal(POD, 0)];
-    let answer = tuning(&rt, rt.alloc(), &heavy, &goals, Measure::Planned);
-    assert!(rt; weight(&answer, POD) == 1);
-    assert!(rt; weight(&answer, WEB) == 3);
-    let none = tuning(&rt, rt.alloc(), &heavy, &[], Measure::Planned);
-    assert!(rt; weight(&none, POD) == 10_000);
-    Ok(())
-}
-
-#[test]
-fn goals_that_exclude_each_other(rt: HostRuntime) -> Result<(), Fail> {
+fn goals_inside_each_other(rt: HostRuntime) -> Result<(), Fail> {
     let groups = instance(rt.alloc(), &GROUPS)?;
-    let more_than_all = [goal(WEB, 12), goal(POD_A, 12), goal(POD_B, 1)];
-    let answer = tuning(&rt, rt.alloc(), &groups, &more_than_all, Measure::Planned);
-    assert!(rt; is_conflict(&answer, &[true, true, false]));
-    let heavy = instance(rt.alloc(), &HEAVY)?;
-    let beside_heavy = [goal(WEB, 14)];
-    let short = tuning(&rt, rt.alloc(), &heavy, &beside_heavy, Measure::Planned);
-    assert!(rt; is_conflict(&short, &[true]));
+    assert!(rt; groups.rows().len() == 5);
+    let may = [true; 5];
+    let met = tuned(
+        rt.alloc(),
+        &groups,
+        &[20, 10, 10, 5, 0],
+        &may,
+        Measure::Planned,
+    );
+    assert!(rt; weight(&met, POD) == 100);
+    assert!(rt; weight(&met, POD_A) == 100);
+    // 21 slices are more than is served.
+    let all = tuned(
+        rt.alloc(),
+        &groups,
+        &[0, 9, 12, 0, 0],
+        &may,
+        Measure::Planned,
+    );
+    assert!(rt; is_unmet(&all, 0));
+    // `web` asks for 20.
+    let one = tuned(
+        rt.alloc(),
+        &groups,
+        &[0, 21, 0, 0, 0],
+        &may,
+        Measure::Planned,
+    );
+    assert!(rt; is_unmet(&one, WEB));
     Ok(())
 }
 
 #[test]
-fn guaranteed_goals(rt: HostRuntime) -> Result<(), Fail> {
+fn weights_from_one_on(rt: HostRuntime) -> Result<(), Fail> {
+    let heavy = instance(rt.alloc(), &HEAVY)?;
+    assert!(rt; heavy.rows().len() == 3);
+    let both = tuned(
+        rt.alloc(),
+        &heavy,
+        &[0, 14, 0],
+        &[false, true, true],
+        Measure::Planned,
+    );
+    assert!(rt; weight(&both, WEB) == 3);
+    assert!(rt; weight(&both, POD) == 1);
+    let one = tuned(
+        rt.alloc(),
+        &heavy,
+        &[0, 14, 0],
+        &[false, true, false],
+        Measure::Planned,
+    );
+    assert!(rt; is_unmet(&one, 0));
+    Ok(())
+}
+
+#[test]
+fn goals_by_the_guarantee(rt: HostRuntime) -> Result<(), Fail> {
     let idle = instance(rt.alloc(), &IDLE)?;
-    let goals = [goal(POD_A, 8)];
-    let planned = tuning(&rt, rt.alloc(), &idle, &goals, Measure::Planned);
+    assert!(rt; idle.rows().len() == 5);
+    let may = [true; 5];
+    let planned = tuned(rt.alloc(), &idle, &[0, 0, 0, 8, 0], &may, Measure::Planned);
     assert!(rt; weight(&planned, POD_A) == 100);
-    let answer = tuning(&rt, rt.alloc(), &idle, &goals, Measure::Guaranteed);
-    assert!(rt; weight(&answer, POD_A) == 300);
-    Ok(())
-}
-
-#[test]
-fn refused_goals(rt: HostRuntime) -> Result<(), Fail> {
-    let groups = instance(rt.alloc(), &GROUPS)?;
-    let missing = [goal(ROOT, 1), goal(MISSING, 1)];
-    let answer = tune(
+    // Where all ask for more, `pod` has 10. The eighth slice of `pod/a` costs 15 / 300.
+    let kept = tuned(
         rt.alloc(),
-        &groups,
-        &missing,
-        Measure::Planned,
-        &mut Count::none(),
+        &idle,
+        &[0, 0, 0, 8, 0],
+        &may,
+        Measure::Guaranteed,
     );
-    assert!(rt; answer.err() == Some(TuneFault::NotFound));
-    let root = [goal(POD, 1), goal(POD_A, 1), goal(ROOT, 1)];
-    let answer = tune(
+    assert!(rt; weight(&kept, POD) == 100);
+    assert!(rt; weight(&kept, POD_A) == 300);
+    // `pod/b` asks for nothing, so nothing is guaranteed.
+    let idle_goal = tuned(
         rt.alloc(),
-        &groups,
-        &root,
-        Measure::Planned,
-        &mut Count::none(),
+        &idle,
+        &[0, 0, 0, 0, 1],
+        &may,
+        Measure::Guaranteed,
     );
-    assert!(rt; answer.err() == Some(TuneFault::RootFixed));
-    let above = [goal(POD_A, 1), goal(POD, 1)];
-    let answer = tune(
-        rt.alloc(),
-        &groups,
-        &above,
-        Measure::Planned,
-        &mut Count::none(),
-    );
-    assert!(rt; answer.err() == Some(TuneFault::GoalAbove));
-    let twice = [goal(WEB, 1), goal(WEB, 2)];
-    let answer = tune(
-        rt.alloc(),
-        &groups,
-        &twice,
-        Measure::Planned,
-        &mut Count::none(),
-    );
-    assert!(rt; answer.err() == Some(TuneFault::GoalAbove));
-    assert!(rt; TuneFault::NotFound.number() == 20);
-    assert!(rt; TuneFault::RootFixed.number() == 26);
-    assert!(rt; TuneFault::GoalAbove.number() == 29);
-    assert!(rt; TuneFault::GoalAbove.name() == "GoalAbove");
+    assert!(rt; is_unmet(&idle_goal, POD_B));
     Ok(())
 }

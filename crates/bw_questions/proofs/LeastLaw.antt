@@ -20,15 +20,16 @@ use Rattle.bw_change_laws.proofs.CallerLemmas.{at_children, children_same, from_
 use Rattle.bw_change_laws.proofs.CallerLemmas.{leaf_same, step_same, under_same, want_same}
 use Rattle.bw_questions.specs.Passes.{AreAllNeeds, AreColumns, IsBeyond, IsLeastAt, IsNeed, IsPassed}
 use Rattle.bw_questions.specs.Passes.{MeetsAt, Suffices, of_children}
-use Rattle.bw_questions.specs.Tune.{IsNoLighter}
 use Rattle.bw_questions.specs.FromRoot.{AgreesAbove, AreReached, AreRowWeights, AreTops}
-use Rattle.bw_questions.specs.FromRoot.{IsLeastFromRoot, IsNeverReached, IsReweightedAt}
+use Rattle.bw_questions.specs.FromRoot.{IsLeastFromRoot, IsNeverReached, IsNoLighter}
+use Rattle.bw_questions.specs.FromRoot.{IsReweightedAt}
+use Rattle.bw_questions.specs.declared.from_root.measure.Measure.TheVariants.{Planned}
 use Rattle.bw_questions.specs.FromRoot.{weighed}
 use Rattle.bw_questions.proofs.Paths.{above_cases, above_le, above_parent, above_top}
 use Rattle.bw_questions.proofs.Weighed.{as_many, demands_kept, limits_kept, tree_kept, weight_at}
 use Rattle.bw_questions.proofs.Weighed.{weight_past, weighed-IsInstance}
 
-none_some : (p : ℕ) → None ≡ Some p → ⊥
+pub none_some : (p : ℕ) → None ≡ Some p → ⊥
 none_some p e = cc
 
 -- What is above a group has its parent above it too.
@@ -452,7 +453,7 @@ module _ (groups : Groups) (valid : IsInstance groups) (tops most goals : List �
               weight_at groups weights h below,
             )
 
-    pub least_from_root : IsLeastFromRoot groups goals may (weighed groups weights)
+    pub least_from_root : IsLeastFromRoot Planned groups goals may (weighed groups weights)
     least_from_root = record {
       reweighted = tuned_reweighted;
       no_lighter = tuned_heavier;

@@ -1,16 +1,15 @@
 -- The files of lemmas.
-mod Alike
+mod AllBusy
 mod AskingRows
 mod AtGroup
 mod Blame
 mod BusyRows
 mod ByAll
 mod Counts
-mod Demanding
 mod ExactReadings
 mod Halving
 mod Help
-mod Judged
+mod KeptGoals
 mod LeastAmount
 mod LeastLaw
 mod Leaves
@@ -20,13 +19,12 @@ mod Meetings
 mod OneFromRoot
 mod OneReason
 mod Paths
-mod Raises
 mod Reaching
 mod Rising
+mod RoundFloors
 mod Rounds
 mod Rows
 mod Runs
 mod StillInstance
 mod TimeSlices
-mod TwoStarts
 mod Weighed

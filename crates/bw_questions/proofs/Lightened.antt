@@ -7,14 +7,15 @@ use Rattle.std.proofs.lemmas.List.{get_or_past}
 use Rattle.bw_model.specs.declared.row.Row.{Row}
 use Rattle.bw_model.specs.declared.limits.TheConstants.{MIN_WEIGHT}
 use Rattle.bw_model.specs.Groups.{Groups, IsInstance, no_row, weight_of}
-use Rattle.bw_questions.specs.Tune.{IsNoLighter}
+use Rattle.bw_questions.specs.declared.from_root.measure.Measure.TheVariants.{Planned}
 use Rattle.bw_questions.specs.FromRoot.{AreFloors}
 use Rattle.bw_questions.specs.FromRoot.{AreRowWeights, IsFromRoot}
-use Rattle.bw_questions.specs.FromRoot.{IsLightened, IsNeverReached, IsReweightedAt}
+use Rattle.bw_questions.specs.FromRoot.{IsLightened, IsNeverReached, IsNoLighter, IsReweightedAt}
 use Rattle.bw_questions.specs.FromRoot.{IsTunedFromRoot, weighed}
 use Rattle.bw_questions.specs.declared.from_root.least.Tuned.{Tuned}
 use Rattle.bw_questions.specs.declared.from_root.least.Tuned.TheVariants.{Met, Unmet}
-use Rattle.bw_questions.proofs.Weighed.{demands_kept, limits_kept, tree_kept, weight_at, weight_past}
+use Rattle.bw_questions.proofs.Weighed.{demands_kept, limits_kept, tree_kept, weight_at}
+use Rattle.bw_questions.proofs.Weighed.{weight_past}
 use Rattle.bw_questions.proofs.Weighed.{weighed-IsInstance}
 
 module _ (groups : Groups) (valid : IsInstance groups) (may : List Bool) (floors : List ℕ)
@@ -99,11 +100,11 @@ module _ (groups : Groups) (valid : IsInstance groups) (may : List Bool) (light 
     ]
   ]
 
-  -- Where no weights from those that stand on meet the goals, the least from the lightest on are the
-  -- least of all.
+  -- Where no weights from those that stand on meet the goals, the least from the lightest on are
+  -- the least of all.
   pub tuned_light : (goals : List ℕ) (top : ℕ) → IsNeverReached groups goals may top
       → (tuned : Tuned) → IsFromRoot light goals may tuned
-      → IsTunedFromRoot groups goals may tuned
+      → IsTunedFromRoot Planned groups goals may tuned
   tuned_light goals top never (Met tuned) found = inr (record {
     reweighted = from_light tuned found.reweighted;
     met = found.met;

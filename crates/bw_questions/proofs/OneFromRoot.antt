@@ -1,5 +1,5 @@
 -- There is one answer of least weights from the root down.
-use Rattle.std.proofs.Common.{◌≡◌, ℕ, ◌<◌, ◌≤◌, List, Bool, true, None, Some, length, ap}
+use Rattle.std.proofs.Common.{◌≡◌, ℕ, ◌<◌, ◌≤◌, List, Bool, true, Some, length, ap}
 use Rattle.std.proofs.Common.{sym, ◌∙◌, arith, inl, inr}
 use Rattle.std.proofs.lemmas.Bool.{cases_lt}
 use Rattle.std.proofs.lemmas.List.{get_or_past}
@@ -10,10 +10,8 @@ use Rattle.bw_change_laws.specs.Tree.{IsSameTree}
 use Rattle.bw_change_laws.proofs.CallerLemmas.{from_the_root, under_same}
 use Rattle.bw_questions.specs.FromRoot.{AgreesAbove}
 use Rattle.bw_questions.specs.FromRoot.{IsReweightedAt, ThereIsOneFromRoot}
+use Rattle.bw_questions.proofs.LeastLaw.{none_some}
 use Rattle.bw_questions.proofs.Paths.{above_cases, above_top}
-
-none_some : (p : ℕ) → None ≡ Some p → ⊥
-none_some p e = cc
 
 -- Two instances of one tree, each with the least weight of a row where they agree above it.
 module _ (one two : Groups) (t1 : AreTreeRows one.rows) (t2 : AreTreeRows two.rows)
@@ -75,16 +73,16 @@ both_trees groups one two may a b = record {
 }
 
 pub one_from_root : ThereIsOneFromRoot
-one_from_root groups one two goals may (inl a) (inl b) =
+one_from_root measure groups one two goals may (inl a) (inl b) =
     equal one two a.reweighted.valid.tree b.reweighted.valid.tree
     (both_trees groups one two may a.reweighted b.reweighted)
     (a.least two b.reweighted b.no_lighter b.met)
     (b.least one a.reweighted a.no_lighter a.met)
-one_from_root groups one two goals may (inr a) (inr b) =
+one_from_root measure groups one two goals may (inr a) (inr b) =
     equal one two a.reweighted.valid.tree b.reweighted.valid.tree
     (both_trees groups one two may a.reweighted b.reweighted)
     (a.least two b.reweighted b.met) (b.least one a.reweighted a.met)
-one_from_root groups one two goals may (inl a) (inr b) =
+one_from_root measure groups one two goals may (inl a) (inr b) =
     absurd (b.none_heavier one a.reweighted a.met a.no_lighter)
-one_from_root groups one two goals may (inr a) (inl b) =
+one_from_root measure groups one two goals may (inr a) (inl b) =
     absurd (a.none_heavier two b.reweighted b.met b.no_lighter)

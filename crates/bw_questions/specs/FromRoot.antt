@@ -1,6 +1,6 @@
 -- Weights of rows that may change, with which all goals are met: the least ones from the root down.
-use Rattle.std.specs.Prelude.{◌≡◌, ◌≢◌, ◌⊎◌, ℕ, ◌<◌, ◌≤◌, List, Bool, true, false, Some, length, map}
-use Rattle.std.specs.Prelude.{slice_index, slice_index_or, if◌then◌else◌}
+use Rattle.std.specs.Prelude.{◌≡◌, ◌≢◌, ◌⊎◌, ℕ, ◌<◌, ◌≤◌, List, Bool, true, false, Some, length}
+use Rattle.std.specs.Prelude.{map, slice_index, slice_index_or, if◌then◌else◌}
 use Rattle.std.specs.List.{range_with_len}
 use Rattle.bw_model.specs.declared.limits.TheConstants.{MIN_WEIGHT, MAX_WEIGHT}
 use Rattle.bw_model.specs.declared.row.Row.{Row}
@@ -8,7 +8,9 @@ use Rattle.bw_model.specs.Groups.{Groups, IsInstance, parent_of, row_of, weight_
 use Rattle.bw_model.specs.Groups.{limit_of, is_under}
 use Rattle.bw_model.specs.Plan.{IsPlan}
 use Rattle.bw_change_laws.specs.Tree.{IsSameTree}
-use Rattle.bw_questions.specs.Tune.{IsNoLighter}
+use Rattle.bw_questions.specs.Guarantee.{IsGuaranteed}
+use Rattle.bw_questions.specs.declared.from_root.measure.Measure.{Measure}
+use Rattle.bw_questions.specs.declared.from_root.measure.Measure.TheVariants.{Planned, Guaranteed}
 use Rattle.bw_questions.specs.declared.from_root.least.Tuned.{Tuned}
 use Rattle.bw_questions.specs.declared.from_root.least.Tuned.TheVariants.{Met, Unmet}
 
@@ -35,66 +37,90 @@ pub record AreReachedUnder (groups : Groups) (goals : List ℕ) (top : ℕ) : Ty
   pub met : (h : ℕ) → h < length groups.rows → is_under groups.rows top h ≡ true
       → slice_index goals h ≤ slice_index amounts h
 
+-- a row has its goal, whatever the groups ask for that are not under it
+pub record IsKept (groups : Groups) (goals : List ℕ) (h : ℕ) : Type 0 where
+  pub least : ℕ
+  pub guarantee : IsGuaranteed groups h least
+  pub enough : slice_index goals h ≤ least
+
+-- each row has its goal, by the plan or by its guarantee
+abbrev pub AreMet : Measure → Groups → List ℕ → Type 0
+AreMet Planned groups goals = AreReached groups goals
+AreMet Guaranteed groups goals = (h : ℕ) → h < length groups.rows → IsKept groups goals h
+
+-- a group and each row below it has its goal, by the plan or by its guarantee
+abbrev pub AreMetUnder : Measure → Groups → List ℕ → ℕ → Type 0
+AreMetUnder Planned groups goals top = AreReachedUnder groups goals top
+AreMetUnder Guaranteed groups goals top = (h : ℕ) → h < length groups.rows
+    → is_under groups.rows top h ≡ true → IsKept groups goals h
+
+-- no weight of the second is less than that of the first
+abbrev pub IsNoLighter : Groups → Groups → Type 0
+IsNoLighter groups others = (h : ℕ) → weight_of groups.rows h ≤ weight_of others.rows h
+
 -- equal weights of each group above a row and of that group's siblings
 abbrev pub AgreesAbove : Groups → Groups → ℕ → Type 0
 AgreesAbove groups others h = (a s p : ℕ) → is_under groups.rows a h ≡ true → a ≢ h
     → parent_of groups.rows a ≡ Some p → parent_of groups.rows s ≡ Some p
     → weight_of others.rows s ≡ weight_of groups.rows s
 
--- Weights of rows that may change, none less than those that stand, that meet all goals. Of all such
--- weights that agree above a row, theirs of that row is the least.
-pub record IsLeastFromRoot (groups : Groups) (goals : List ℕ) (may : List Bool) (tuned : Groups)
-    : Type 0 where
+-- Weights of rows that may change, none less than those that stand, that meet all goals. Of all
+-- such weights that agree above a row, theirs of that row is the least.
+pub record IsLeastFromRoot (measure : Measure) (groups : Groups) (goals : List ℕ)
+    (may : List Bool) (tuned : Groups) : Type 0 where
   pub reweighted : IsReweightedAt groups tuned may
   pub no_lighter : IsNoLighter groups tuned
-  pub met : AreReached tuned goals
+  pub met : AreMet measure tuned goals
   pub least : (others : Groups) → IsReweightedAt groups others may → IsNoLighter groups others
-      → AreReached others goals → (h : ℕ) → AgreesAbove tuned others h
+      → AreMet measure others goals → (h : ℕ) → AgreesAbove tuned others h
       → weight_of tuned.rows h ≤ weight_of others.rows h
 
--- no weights of rows that may change, none less than those that stand, meet the goals of a group and
--- below it
+-- no weights of rows that may change, none less than those that stand, meet the goals of a group
+-- and below it by the plan
 pub record IsNeverReached (groups : Groups) (goals : List ℕ) (may : List Bool) (top : ℕ) : Type 0
   where
     pub within : top < length groups.rows
     pub never : (others : Groups) → IsReweightedAt groups others may → IsNoLighter groups others
         → AreReachedUnder others goals top → ⊥
 
--- the least weights from the root down, or a group whose goals no weights meet together
+-- the least weights from the root down with which the plan meets the goals, or a group whose goals
+-- no weights meet together
 abbrev pub IsFromRoot : Groups → List ℕ → List Bool → Tuned → Type 0
-IsFromRoot groups goals may (Met tuned) = IsLeastFromRoot groups goals may tuned
+IsFromRoot groups goals may (Met tuned) = IsLeastFromRoot Planned groups goals may tuned
 IsFromRoot groups goals may (Unmet top) = IsNeverReached groups goals may top
 
 -- Weights of rows that may change that meet all goals, where none that are no less than those that
 -- stand do. Of all such weights that agree above a row, theirs of that row is the least.
-pub record IsLeastOfAllFromRoot (groups : Groups) (goals : List ℕ) (may : List Bool)
-    (tuned : Groups) : Type 0 where
+pub record IsLeastOfAllFromRoot (measure : Measure) (groups : Groups) (goals : List ℕ)
+    (may : List Bool) (tuned : Groups) : Type 0 where
   pub reweighted : IsReweightedAt groups tuned may
-  pub met : AreReached tuned goals
+  pub met : AreMet measure tuned goals
   pub none_heavier : (others : Groups) → IsReweightedAt groups others may
-      → AreReached others goals → ¬ IsNoLighter groups others
-  pub least : (others : Groups) → IsReweightedAt groups others may → AreReached others goals
+      → AreMet measure others goals → ¬ IsNoLighter groups others
+  pub least : (others : Groups) → IsReweightedAt groups others may → AreMet measure others goals
       → (h : ℕ) → AgreesAbove tuned others h
       → weight_of tuned.rows h ≤ weight_of others.rows h
 
 -- no weights of rows that may change meet the goals of a group and below it
-pub record AreNeverReached (groups : Groups) (goals : List ℕ) (may : List Bool) (top : ℕ) : Type 0
-  where
-    pub within : top < length groups.rows
-    pub never : (others : Groups) → IsReweightedAt groups others may
-        → ¬ AreReachedUnder others goals top
+pub record AreNeverMet (measure : Measure) (groups : Groups) (goals : List ℕ) (may : List Bool)
+    (top : ℕ) : Type 0 where
+  pub within : top < length groups.rows
+  pub never : (others : Groups) → IsReweightedAt groups others may
+      → ¬ AreMetUnder measure others goals top
 
 -- The least weights from the root down that are no less than those that stand, or else of all, or a
 -- group whose goals no weights meet together.
-abbrev pub IsTunedFromRoot : Groups → List ℕ → List Bool → Tuned → Type 0
-IsTunedFromRoot groups goals may (Met tuned) =
-    IsLeastFromRoot groups goals may tuned ⊎ IsLeastOfAllFromRoot groups goals may tuned
-IsTunedFromRoot groups goals may (Unmet top) = AreNeverReached groups goals may top
+abbrev pub IsTunedFromRoot : Measure → Groups → List ℕ → List Bool → Tuned → Type 0
+IsTunedFromRoot measure groups goals may (Met tuned) =
+    IsLeastFromRoot measure groups goals may tuned
+    ⊎ IsLeastOfAllFromRoot measure groups goals may tuned
+IsTunedFromRoot measure groups goals may (Unmet top) = AreNeverMet measure groups goals may top
 
 -- Two answers with weights that meet all goals have equal weights.
 abbrev pub ThereIsOneFromRoot : Type 0
-ThereIsOneFromRoot = (groups one two : Groups) (goals : List ℕ) (may : List Bool)
-    → IsTunedFromRoot groups goals may (Met one) → IsTunedFromRoot groups goals may (Met two)
+ThereIsOneFromRoot = (measure : Measure) (groups one two : Groups) (goals : List ℕ)
+    (may : List Bool) → IsTunedFromRoot measure groups goals may (Met one)
+    → IsTunedFromRoot measure groups goals may (Met two)
     → (h : ℕ) → weight_of two.rows h ≡ weight_of one.rows h
 
 -- the least weight that a row may have

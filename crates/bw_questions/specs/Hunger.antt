@@ -53,21 +53,34 @@ abbrev pub tell : ℕ → RoundTimes → TaskSums → Bool
 tell parts times tasks =
     nat_lt 0 times.used_us && nat_le (parts * (1000 * times.used_us)) (20 * tasks.ran)
 
--- Whether a group would have used more. It would if it was throttled. Else not if its tasks waited
--- for less than a hundredth of the round. Else if a task is starved. Where the tasks do not tell of
--- half of what was used, it is a guess: whether tasks waited for half of the round.
+-- Whether a limit of its own stopped a group: it was throttled, or used all that the limit allowed.
+abbrev pub is_stopped : RoundTimes → Bool
+is_stopped times = times.is_throttled || nat_le times.allowed_us times.used_us
+
+-- whether tasks of a group waited for a hundredth of the round
+abbrev pub has_waited : RoundTimes → Bool
+has_waited times = nat_le times.passed_ns (100 * (1000 * times.waited_us))
+
+-- Whether it is a guess if a group would have used more: it was not stopped, its tasks waited, and
+-- they do not tell of half of what was used.
+abbrev pub is_guess : RoundTimes → TaskSums → Bool
+is_guess times tasks = not (is_stopped times) && (has_waited times && not (tell 10 times tasks))
+
+-- Whether a group would have used more. It would if it was stopped. Else not if its tasks did not
+-- wait. Else if a task is starved. Where that is a guess, it is whether tasks waited for half of
+-- the round.
 abbrev pub is_hungry : RoundTimes → TaskSums → Bool
 is_hungry times tasks =
-    times.is_throttled || (nat_le times.passed_ns (100 * (1000 * times.waited_us))
+    is_stopped times || (has_waited times
     && (if tell 10 times tasks then nat_lt 0 tasks.starved
     else nat_le times.passed_ns (2 * (1000 * times.waited_us))))
 
--- The most nanoseconds that a group could have used, and no less than it used. Of a throttled one
+-- The most nanoseconds that a group could have used, and no less than it used. Of a stopped one
 -- that is the whole round for each task. Else it is what each could have run, and the whole round
 -- for one that came in it.
 abbrev pub could_use : RoundTimes → TaskSums → ℕ
 could_use times tasks = max (1000 * times.used_us)
-    (if times.is_throttled then times.tasks * times.passed_ns
+    (if is_stopped times then times.tasks * times.passed_ns
     else tasks.could_run + (times.tasks - tasks.count) * times.passed_ns)
 
 -- Whether a hungry group asks for everything: its tasks do not tell of 19 twentieths of what it
@@ -101,4 +114,5 @@ reading_in shape times tasks = record {
   used = used_slices shape times;
   asked = asked_slices shape times tasks;
   is_hungry = is_hungry times tasks;
+  is_guess = is_guess times tasks;
 }

@@ -13,9 +13,7 @@ pub mod Least
 pub mod Needs
 pub mod Passes
 pub mod Plans
-pub mod Raising
 pub mod Reading
 pub mod Reasons
 pub mod Rounds
-pub mod Tune
 pub mod Written

@@ -1,5 +1,5 @@
 -- Quotas and weights that are written for limits of a round.
-use Rattle.std.specs.Prelude.{ℕ, ◌+◌, ◌-◌, ◌*◌, ◌/◌, ◌≤◌, Bool, ◌&&◌, nat_le, min, max}
+use Rattle.std.specs.Prelude.{ℕ, ◌+◌, ◌-◌, ◌*◌, ◌/◌, ◌≤◌, ◌&&◌, nat_le, min, max}
 use Rattle.std.specs.Prelude.{Option, Some, None, if◌then◌else◌}
 use Rattle.bw_model.specs.Host.{Shape, slices_per_processor}
 use Rattle.bw_model.specs.declared.limits.TheConstants.{MIN_QUOTA_US, MIN_WEIGHT, MAX_WEIGHT}

@@ -2,27 +2,32 @@
 ghost use Rattle.std.specs.Prelude.{◌≡◌, length, IfOk};
 ghost use Rattle.bw_questions.specs.FromRoot.{IsTunedFromRoot};
 
+mod guaranteed;
 mod laws;
 mod least;
 mod lightened;
+mod measure;
 mod meeting;
 mod needs;
 mod pass;
+mod planned;
 mod tops;
 mod weighed;
 
 use bw_model::Instance;
+use guaranteed::tuned_by_guarantee;
 pub use laws::there_is_one_from_root;
 pub use least::Tuned;
-use least::least_from_root;
-use lightened::lightened;
+pub use measure::Measure;
+use planned::tuned_by_plan;
 use std::alloc::{AllocError, Global};
 
 /// Weights of the rows that may change under which each row has its goal, all else as it is.
 ///
 /// `goals` has the least slices that each row is to get, 0 for none: of a leaf, of a group with
-/// children, of one inside another, and of a row whose weight stays. `may` says which weights may
-/// change, from 1 to 10000.
+/// children, of one inside another, and of a row whose weight stays. It gets them by the plan or,
+/// where the measure is the guarantee, whatever the groups ask for that are not under it. `may`
+/// says which weights may change, from 1 to 10000.
 ///
 /// The weights are no less than those that stand, and the least from the root down: of all weights
 /// that agree with them above a row and beside it there, theirs of that row is the least. So there
@@ -34,23 +39,19 @@ use std::alloc::{AllocError, Global};
 ///
 /// # Errors
 /// `AllocError` if memory was refused.
-pub fn tune_from_root(
+pub fn tune(
     alloc: Global,
     instance: &Instance,
     goals: &[u64],
     may: &[bool],
+    measure: Measure,
 ) -> Result<Tuned, AllocError>
     requires goals { length goals.now ≡ length instance.now.rows }
     requires may { length may.now ≡ length instance.now.rows }
-    ensures { IfOk result (IsTunedFromRoot instance.now goals.now may.now) }
+    ensures { IfOk result (IsTunedFromRoot measure instance.now goals.now may.now) }
 {
-    let _rows = instance.rows();
-    match least_from_root(alloc, instance, goals, may)? {
-        Tuned::Met(tuned) => Ok(Tuned::Met(tuned)),
-        Tuned::Unmet(_) => {
-            let light = lightened(alloc, instance, may)?;
-            let tuned = least_from_root(alloc, &light, goals, may)?;
-            Ok(tuned)
-        }
+    match measure {
+        Measure::Planned => tuned_by_plan(alloc, instance, goals, may),
+        Measure::Guaranteed => tuned_by_guarantee(alloc, instance, goals, may),
     }
 }

@@ -16,6 +16,7 @@ mod reading;
 mod tasks;
 mod written;
 
+pub(crate) use asking::everyone;
 use asking::{demands_of, round_of};
 use bw_cert::certify_gathered;
 use bw_demand::gather_rows;
@@ -51,9 +52,10 @@ fn floors(alloc: Global, reading: &Instance) -> Result<Vec<u64>, AllocError>
     ensures each { IfOk result
         (λ floors. length floors.items ≡ length reading.now.rows) }
 {
-    let hungry = vec![in alloc; true; reading.rows().len()]?;
-    let everyone = round_of(alloc, reading, hungry.as_slice())?;
-    let planned = plan(alloc, &everyone)?;
+    // its contract says that the reading is valid
+    let _rows = reading.rows();
+    let busy = everyone(alloc, reading)?;
+    let planned = plan(alloc, &busy)?;
     Ok(planned.amounts)
 }
 

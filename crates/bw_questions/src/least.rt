@@ -16,15 +16,11 @@ use bw_model::Instance;
 use bw_model::limits::{MAX_PROCESSORS, MAX_WEIGHT, MIN_WEIGHT};
 use bw_plan::{plan, there_is_one_plan};
 use changed::{changed, relimited};
-pub(crate) use changed::{reweighted, still};
 use setting::{Setting, greatest};
 use std::alloc::{AllocError, Global};
 
-/// Whether the plan gives a group at least so many slices. It makes one plan, and counts it.
-///
-/// # Errors
-/// `AllocError` if memory was refused.
-pub(crate) fn reaches(
+// Whether the plan gives a group at least so many slices. It makes one plan, and counts it.
+fn reaches(
     alloc: Global,
     instance: &Instance,
     group: u32,

@@ -7,10 +7,9 @@ mod from_root;
 mod guaranteed;
 mod held;
 mod least;
-mod tuned;
 mod why;
 
-pub use from_root::{Tuned, there_is_one_from_root, tune_from_root};
+pub use from_root::{Measure, Tuned, there_is_one_from_root, tune};
 pub use guaranteed::{GuaranteeFault, guarantee};
 pub use held::{
     Held, Reading, RoundTimes, asked_is_admitted_as_planned, calm_holds_nobody, can_be_written,
@@ -19,7 +18,6 @@ pub use held::{
     plan_stays, reading_of, wants_give_the_plan, weight_of_limit, written_quota,
 };
 pub use least::{least_limit, least_processors, least_weight};
-pub use tuned::{Conflict, Goal, Measure, TuneFault, Tuning, tune};
 pub use why::{
     Reason, blamed_gains_or_is_clear, blamed_has_its_limit, only_the_blamed_limit_helps, reasons,
     there_is_one_reason,

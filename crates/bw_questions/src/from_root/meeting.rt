@@ -3,8 +3,8 @@ ghost use Rattle.std.specs.Prelude.{◌≡◌, ℕ, ◌<◌, ◌≤◌, true, fa
 ghost use Rattle.std.specs.Prelude.{List, IfOk, IfSome, IfNone};
 ghost use Rattle.bw_model.specs.Split.{IsBestSplit};
 ghost use Rattle.bw_split.specs.Conditions.{CanSplit};
-ghost use Rattle.bw_questions.specs.Needs.{AreWithin, CanMeet, IsLeastAmount, IsLeastMeeting, IsRaisedTo};
-ghost use Rattle.bw_questions.specs.Needs.{IsShort, MeetsNeeds};
+ghost use Rattle.bw_questions.specs.Needs.{AreWithin, CanMeet, IsLeastAmount, IsLeastMeeting};
+ghost use Rattle.bw_questions.specs.Needs.{IsRaisedTo, IsShort, MeetsNeeds};
 
 use bw_change_laws::lighter_has_no_more;
 use bw_model::limits::MAX_WEIGHT;
@@ -186,7 +186,8 @@ pub(crate) fn least_amount(
     if can_meet(alloc, first, floors, tops, most, needs)? {
         return Ok(Some(first));
     }
-    // No amount from the first one to below `low` will do. `high` does, unless it is past the limit.
+    // No amount from the first one to below `low` will do. `high` does, unless it is past the
+    // limit.
     let mut low = first + 1;
     let mut high = limit + 1;
     while low < high {

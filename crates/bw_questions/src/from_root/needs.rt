@@ -1,8 +1,8 @@
 //! Needs of the groups, with which the goals inside them are met, from the last row up.
 ghost use Rattle.std.specs.Prelude.{◌≡◌, ℕ, ◌<◌, ◌≤◌, false, length, slice_index, IfOk};
 ghost use Rattle.bw_model.specs.Groups.{is_leaf};
-ghost use Rattle.bw_questions.specs.Passes.{AreColumns, AreNeeds, AreNeedsBelow, IsLeastThat, Suffices};
-ghost use Rattle.bw_questions.specs.Passes.{IsFirst};
+ghost use Rattle.bw_questions.specs.Passes.{AreColumns, AreNeeds, AreNeedsBelow, IsLeastThat};
+ghost use Rattle.bw_questions.specs.Passes.{IsFirst, Suffices};
 
 use super::meeting::least_amount;
 use bw_model::Instance;

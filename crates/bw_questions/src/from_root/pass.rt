@@ -1,9 +1,9 @@
 //! The least weights at each group, from the root down, with which each group has what it needs.
-ghost use Rattle.std.specs.Prelude.{◌≡◌, ◌≢◌, ℕ, ◌+◌, ◌<◌, ◌≤◌, false, length, slice_index, IfOk, OnOk};
-ghost use Rattle.std.specs.Prelude.{EachIndex};
+ghost use Rattle.std.specs.Prelude.{◌≡◌, ◌≢◌, ℕ, ◌+◌, ◌<◌, ◌≤◌, false, length, slice_index};
+ghost use Rattle.std.specs.Prelude.{EachIndex, IfOk, OnOk};
 ghost use Rattle.bw_model.specs.Groups.{is_leaf};
-ghost use Rattle.bw_questions.specs.Passes.{AreColumns, AreAllNeeds, CanShareAt, IsPassed, IsShared};
-ghost use Rattle.bw_questions.specs.Passes.{IsLeastAt, CanMeetAt, all_weights};
+ghost use Rattle.bw_questions.specs.Passes.{AreColumns, AreAllNeeds, CanShareAt, IsPassed};
+ghost use Rattle.bw_questions.specs.Passes.{IsLeastAt, IsShared, CanMeetAt, all_weights};
 
 use super::meeting::{Meeting, least_raise};
 use bw_model::Instance;
@@ -101,7 +101,11 @@ fn share(
     Ok(())
 }
 
-fn weights_of(alloc: Global, instance: &Instance) -> Result<Vec<u64>, AllocError>
+/// The weight of each row.
+///
+/// # Errors
+/// `AllocError` if memory was refused.
+pub(crate) fn weights_of(alloc: Global, instance: &Instance) -> Result<Vec<u64>, AllocError>
     ensures { IfOk result (λ weights. weights.items ≡ all_weights instance.now.rows) }
 {
     instance.rows().iter().map(|row| row.weight).collect(alloc)

@@ -3,6 +3,7 @@ ghost use Rattle.std.specs.Prelude.{◌≡◌, ◌<◌, length, map, IfOk};
 ghost use Rattle.bw_model.specs.declared.row.Row.{Row};
 ghost use Rattle.bw_model.specs.Groups.{IsInstance};
 ghost use Rattle.bw_questions.specs.HeldRule.{demand_where, row_asking, is_hungry, round_of};
+ghost use Rattle.bw_questions.specs.HeldRule.{everyone};
 
 use bw_model::limits::MAX_DEMAND;
 use bw_model::{Instance, Row};
@@ -53,6 +54,18 @@ pub(crate) fn round_of(
     let _rows = reading.rows();
     let rows = rows_asking(alloc, reading, hungry)?;
     Instance::of_valid(alloc, rows, reading.shape())
+}
+
+/// The instance in which each leaf asks for 1000000 slices.
+///
+/// # Errors
+/// `AllocError` if memory was refused.
+pub(crate) fn everyone(alloc: Global, instance: &Instance) -> Result<Instance, AllocError>
+    ensures everyone { IfOk result (λ busy. busy ≡ everyone instance.now) }
+    ensures valid { IfOk result IsInstance }
+{
+    let hungry = vec![in alloc; true; instance.rows().len()]?;
+    round_of(alloc, instance, hungry.as_slice())
 }
 
 /// The demands of an instance, one per row.

@@ -1,8 +1,8 @@
 //! Readings of a group in a round: the slices that it used, and those that it asks for.
 ghost use Rattle.std.specs.Prelude.{◌≡◌, ◌<◌, ◌≤◌, ◌^◌, length};
-ghost use Rattle.bw_questions.specs.Hunger.{AreSums, tell, is_hungry, could_use, asks_for_all};
-ghost use Rattle.bw_questions.specs.Hunger.{slices_of_time, used_slices, asked_slices, reading_in};
-ghost use Rattle.bw_questions.specs.Hunger.{sums_of};
+ghost use Rattle.bw_questions.specs.Hunger.{AreSums, tell, is_stopped, has_waited, is_guess};
+ghost use Rattle.bw_questions.specs.Hunger.{is_hungry, could_use, asks_for_all, slices_of_time};
+ghost use Rattle.bw_questions.specs.Hunger.{used_slices, asked_slices, reading_in, sums_of};
 ghost use Rattle.bw_model.specs.Host.{IsHost};
 ghost use Rattle.bw_model.specs.declared.limits.TheConstants.{MAX_DEMAND};
 
@@ -23,6 +23,8 @@ pub struct RoundTimes {
     pub tasks: u32,
     /// Whether it was throttled at a limit of its own.
     pub is_throttled: bool,
+    /// Microseconds that a limit of its own allowed it; the greatest number for none.
+    pub allowed_us: u64,
 }
 
 /// The slices that a group used in a round, and those that it asks for.
@@ -34,6 +36,8 @@ pub struct Reading {
     pub asked: u64,
     /// Whether it would have used more.
     pub is_hungry: bool,
+    /// Whether that is a guess, since its tasks that were there at both readings tell too little.
+    pub is_guess: bool,
 }
 
 // Whether the tasks ran for so many twentieths of what the group used, which is above 0.
@@ -45,25 +49,43 @@ fn tell(parts: u64, times: RoundTimes, tasks: TaskSums) -> bool
     times.used_us > 0 && u128::from(parts) * (1000 * u128::from(times.used_us)) <= 20 * tasks.ran
 }
 
+// Whether a limit of its own stopped the group: the kernel counts that where a quota period ends.
+fn is_stopped(times: RoundTimes) -> bool
+    ensures { result ≡ is_stopped times }
+{
+    times.is_throttled || times.allowed_us <= times.used_us
+}
+
+// Whether tasks of the group waited for a hundredth of the round.
+fn has_waited(times: RoundTimes) -> bool
+    ensures { result ≡ has_waited times }
+{
+    u128::from(times.passed_ns) <= 100 * (1000 * u128::from(times.waited_us))
+}
+
+// Whether it is a guess if the group would have used more.
+fn is_guess(times: RoundTimes, tasks: TaskSums) -> bool
+    requires { AreSums tasks }
+    ensures { result ≡ is_guess times tasks }
+{
+    !is_stopped(times) && has_waited(times) && !tell(10, times, tasks)
+}
+
 // Whether the group would have used more.
 fn is_hungry(times: RoundTimes, tasks: TaskSums) -> bool
     requires { AreSums tasks }
     ensures { result ≡ is_hungry times tasks }
 {
-    let (passed, waited) = (
-        u128::from(times.passed_ns),
-        1000 * u128::from(times.waited_us),
-    );
-    if times.is_throttled {
+    if is_stopped(times) {
         return true;
     }
-    if passed > 100 * waited {
+    if !has_waited(times) {
         return false;
     }
     if tell(10, times, tasks) {
         tasks.starved > 0
     } else {
-        passed <= 2 * waited
+        u128::from(times.passed_ns) <= 2 * (1000 * u128::from(times.waited_us))
     }
 }
 
@@ -75,7 +97,7 @@ fn could_use(times: RoundTimes, tasks: TaskSums) -> u128
     ensures bound { result < 2 ^ 97 }
 {
     let passed = u128::from(times.passed_ns);
-    let most = if times.is_throttled {
+    let most = if is_stopped(times) {
         u128::from(times.tasks) * passed
     } else {
         tasks.could_run + u128::from(u64::from(times.tasks) - tasks.count) * passed
@@ -148,5 +170,6 @@ pub fn reading_of(shape: HostShape, times: RoundTimes, ran: &[u64], waited: &[u6
         used,
         asked,
         is_hungry,
+        is_guess: is_guess(times, tasks),
     }
 }

@@ -14,22 +14,8 @@ fn copied(alloc: Global, rows: &[Row]) -> Result<Vec<Row>, AllocError>
     rows.iter().copied().collect(alloc)
 }
 
-/// A copy of an instance.
-///
-/// # Errors
-/// `AllocError` if memory was refused.
-pub(crate) fn still(alloc: Global, instance: &Instance) -> Result<Instance, AllocError>
-    ensures { IfOk result (λ i. i ≡ instance.now) }
-{
-    let rows = copied(alloc, instance.rows())?;
-    Instance::of_valid(alloc, rows, instance.shape())
-}
-
-/// The instance with another weight of one group.
-///
-/// # Errors
-/// `AllocError` if memory was refused.
-pub(crate) fn reweighted(
+// The instance with another weight of one group.
+fn reweighted(
     alloc: Global,
     instance: &Instance,
     group: u32,

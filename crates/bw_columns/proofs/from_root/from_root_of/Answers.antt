@@ -5,6 +5,7 @@ use Rattle.bw_model.specs.declared.row.Row.{Row}
 use Rattle.bw_model.specs.Groups.{Groups}
 use Rattle.bw_questions.specs.declared.from_root.least.Tuned.{Tuned}
 use Rattle.bw_questions.specs.declared.from_root.least.Tuned.TheVariants.{Met, Unmet}
+use Rattle.bw_questions.specs.declared.from_root.measure.Measure.{Measure}
 use Rattle.bw_questions.specs.FromRoot.{IsTunedFromRoot, IsLeastFromRoot, IsLeastOfAllFromRoot}
 use Rattle.bw_columns.specs.Asked.{groups_asked, table_of}
 use Rattle.bw_columns.specs.Certificates.{flags_in}
@@ -13,16 +14,16 @@ use Rattle.bw_columns.proofs.Asked.{rows_length}
 use Rattle.bw_columns.proofs.from_root.from_root_of.Goals as goal
 
 -- one weight for each row
-weights_long : (groups : Groups) (goals : List ℕ) (may : List Bool) (tuned : Tuned)
-    (weights : List ℕ) (unmet : ℕ) → IsTunedFromRoot groups goals may tuned
+weights_long : (measure : Measure) (groups : Groups) (goals : List ℕ) (may : List Bool)
+    (tuned : Tuned) (weights : List ℕ) (unmet : ℕ) → IsTunedFromRoot measure groups goals may tuned
     → IsToldOfRoot groups tuned weights unmet → length weights ≡ length groups.rows
-weights_long groups goals may (Met tuned) weights unmet held told =
+weights_long measure groups goals may (Met tuned) weights unmet held told =
     ap (length {A = ℕ}) told.0 ∙ length-map tuned.rows (λ (r : Row). r.weight)
     ∙ elim held [
       | inl raised ↦ raised.reweighted.tree.as_many
       | inr all ↦ all.reweighted.tree.as_many
     ]
-weights_long groups goals may (Unmet top) weights unmet held told =
+weights_long measure groups goals may (Unmet top) weights unmet held told =
     ap (length {A = ℕ}) told.0 ∙ length-map groups.rows (λ (r : Row). r.weight)
 
 -- A fact of groups and flags is one of equal groups and equal flags.
@@ -31,33 +32,34 @@ moved : (P : Groups → List Bool → Type 0) (g h : Groups) (xs ys : List Bool)
 moved P g h xs ys groups flags known =
     subst (λ (one : Groups). P one ys) groups (subst (λ (some : List Bool). P g some) flags known)
 
-pub tune_from_root-requires-clause-goals : goal.tune_from_root-requires-clause-goals
-tune_from_root-requires-clause-goals c =
+pub tune-requires-clause-goals : goal.tune-requires-clause-goals
+tune-requires-clause-goals c =
     c.requires.goals c.in_ok-instance.ensures.fit
     ∙ sym (rows_length (table_of c.args.columns.now))
     ∙ ap (λ (g : Groups). length g.rows) (sym c.in_ok-instance.ensures.groups)
 
-pub tune_from_root-requires-clause-may : goal.tune_from_root-requires-clause-may
-tune_from_root-requires-clause-may c =
+pub tune-requires-clause-may : goal.tune-requires-clause-may
+tune-requires-clause-may c =
     ap (length {A = Bool}) (c.as_slice.ensures.value ∙ c.in_ok-flags.ensures)
     ∙ length-map c.args.may.now _
     ∙ c.requires.may c.in_ok-instance.ensures.fit
     ∙ sym (rows_length (table_of c.args.columns.now))
     ∙ ap (λ (g : Groups). length g.rows) (sym c.in_ok-instance.ensures.groups)
 
-told_here : (groups asked : Groups) (goals : List ℕ) (may flags : List Bool) (tuned : Tuned)
-    (weights : List ℕ) (unmet : ℕ) → groups ≡ asked → may ≡ flags
-    → IsTunedFromRoot groups goals may tuned → IsToldOfRoot groups tuned weights unmet
-    → IsFromRootTold asked goals flags weights unmet
-told_here groups asked goals may flags tuned weights unmet same_groups same_flags held told =
-    moved (λ (g : Groups) (some : List Bool). IsFromRootTold g goals some weights unmet)
+told_here : (measure : Measure) (groups asked : Groups) (goals : List ℕ) (may flags : List Bool)
+    (tuned : Tuned) (weights : List ℕ) (unmet : ℕ) → groups ≡ asked → may ≡ flags
+    → IsTunedFromRoot measure groups goals may tuned → IsToldOfRoot groups tuned weights unmet
+    → IsFromRootTold measure asked goals flags weights unmet
+told_here measure groups asked goals may flags tuned weights unmet same_groups same_flags held
+    told =
+    moved (λ (g : Groups) (some : List Bool). IsFromRootTold measure g goals some weights unmet)
     groups asked may flags same_groups same_flags
     (record { tuned = tuned; held = held; told = told })
 
 pub returns-clause-told : goal.returns-clause-told
 returns-clause-told c =
     let told = c.in_ok-told.told in
-    told_here c.in_ok-instance.instance (groups_asked c.args.host c.args.columns.now)
+    told_here c.args.measure c.in_ok-instance.instance (groups_asked c.args.host c.args.columns.now)
     c.args.goals.now c.as_slice.result.now (flags_in c.args.may.now) c.in_ok-tuned.tuned
     told.weights.items told.unmet c.in_ok-instance.ensures.groups
     (c.as_slice.ensures.value ∙ c.in_ok-flags.ensures) c.in_ok-tuned.ensures
@@ -66,7 +68,7 @@ returns-clause-told c =
 pub returns-clause-weights : goal.returns-clause-weights
 returns-clause-weights c =
     let told = c.in_ok-told.told in
-    weights_long c.in_ok-instance.instance c.args.goals.now c.as_slice.result.now
+    weights_long c.args.measure c.in_ok-instance.instance c.args.goals.now c.as_slice.result.now
     c.in_ok-tuned.tuned told.weights.items told.unmet c.in_ok-tuned.ensures c.in_ok-told.ensures
     ∙ ap (λ (g : Groups). length g.rows) c.in_ok-instance.ensures.groups
     ∙ rows_length (table_of c.args.columns.now)

@@ -1,5 +1,5 @@
 -- The goal of `guarantee_is_admitted`, answered by its lemma.
-use Rattle.bw_questions.proofs.Rounds.{all_admitted}
+use Rattle.bw_questions.proofs.RoundFloors.{all_admitted}
 use Rattle.bw_questions.proofs.held.laws.guarantee_is_admitted.Goals as goal
 
 pub returns : goal.returns

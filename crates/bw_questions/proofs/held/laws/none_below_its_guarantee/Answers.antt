@@ -1,5 +1,5 @@
 -- The goal of `none_below_its_guarantee`, answered by its lemma.
-use Rattle.bw_questions.proofs.Rounds.{none_below}
+use Rattle.bw_questions.proofs.RoundFloors.{none_below}
 use Rattle.bw_questions.proofs.held.laws.none_below_its_guarantee.Goals as goal
 
 pub returns : goal.returns
