@@ -200,11 +200,11 @@ certified_again v h =
       IsInstance-accepted (groups_of v) h.instance,
     ) refl
 
-pub is_only : (text : List ℕ) (r : Result Certified CertFault)
-    → ReadsAs certified_view r (certified_of (text_lines text)) → (v : Value) → IsValue v
-    → text ≡ spelling v → ReadsAs certified_view r (Ok v)
-is_only text r given v h e =
-    subst (λ (x : Result Value CertFault). ReadsAs certified_view r x)
+pub is_only : {X : Type 0} (view : X → Value) (text : List ℕ) (r : Result X CertFault)
+    → ReadsAs view r (certified_of (text_lines text)) → (v : Value) → IsValue v
+    → text ≡ spelling v → ReadsAs view r (Ok v)
+is_only view text r given v h e =
+    subst (λ (x : Result Value CertFault). ReadsAs view r x)
     (ap (λ (t : List ℕ). certified_of (text_lines t)) e ∙ certified_again v h) given
 
 abbrev read : Value → Result Value CertFault

@@ -347,8 +347,8 @@ certified_found text v e =
       shown ∙ append-nil (line (head_words b.0.0 (length c.0.0.rows)) ++ groups_text c.0.0),
     )
 
-pub is_found : (text : List ℕ) (r : Result Certified CertFault)
-    → ReadsAs certified_view r (certified_of (text_lines text))
-    → IfOk r (λ c. IsValue (certified_view c) × (text ≡ spelling (certified_view c)))
-is_found text (Ok c) given = certified_found text (certified_view c) given
-is_found text (Err e) given = tt
+pub is_found : {X : Type 0} (view : X → Value) (text : List ℕ) (r : Result X CertFault)
+    → ReadsAs view r (certified_of (text_lines text))
+    → IfOk r (λ c. IsValue (view c) × (text ≡ spelling (view c)))
+is_found view text (Ok c) given = certified_found text (view c) given
+is_found view text (Err e) given = tt

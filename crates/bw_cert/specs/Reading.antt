@@ -6,6 +6,7 @@ use Rattle.std.specs.Option.{option_map}
 use Rattle.std.specs.List.{slice_split}
 use Rattle.std.specs.Str.{bytes_eq}
 use Rattle.bw_text.specs.Number.{number_read}
+use Rattle.bw_model.specs.Groups.{Groups}
 use Rattle.bw_model.specs.Host.{Shape, host_refusal}
 use Rattle.bw_model.specs.Refusal.{refusal}
 use Rattle.bw_model.specs.declared.host.HostFault.{HostFault}
@@ -18,6 +19,7 @@ use Rattle.bw_cert.specs.declared.fault.CertFault.{CertFault}
 use Rattle.bw_cert.specs.declared.fault.CertFault.TheVariants as faults
 use Rattle.bw_cert.specs.declared.groups.GroupLine.{GroupLine}
 use Rattle.bw_cert.specs.declared.groups.Certified.{Certified}
+use Rattle.bw_cert.specs.declared.groups.CertifiedRows.{CertifiedRows}
 use Rattle.bw_cert.specs.declared.groups.Columns as declared
 use Rattle.bw_cert.specs.Spelling.{Columns, Value, certified_value, words_of}
 
@@ -211,3 +213,10 @@ columns_view c =
 
 abbrev pub certified_view : Certified → Value
 certified_view c = certified_value c.instance c.amounts.items c.certificate
+
+-- the groups of rows that were read
+abbrev pub groups_read : CertifiedRows → Groups
+groups_read c = record { shape = c.shape; rows = c.rows.items }
+
+abbrev pub rows_view : CertifiedRows → Value
+rows_view c = certified_value (groups_read c) c.amounts.items c.certificate

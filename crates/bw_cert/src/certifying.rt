@@ -1,6 +1,6 @@
 //! The certificate of a plan.
-ghost use Rattle.std.specs.Prelude.{◌≡◌, ◌<◌, ◌≤◌, false, length, map, slice_index, EachIndex};
-ghost use Rattle.std.specs.Prelude.{◌⊎◌, IfOk, IfSome, IfNone};
+ghost use Rattle.std.specs.Prelude.{◌≡◌, ◌*◌, ◌<◌, ◌≤◌, false, length, map, slice_index};
+ghost use Rattle.std.specs.Prelude.{◌⊎◌, IsTrue, IfOk, IfSome, IfNone, EachIndex};
 ghost use Rattle.bw_model.specs.Groups.{is_leaf, sum_of_children, children_of};
 ghost use Rattle.bw_model.specs.Marks.{price_of, IsBelow, IsAtMost};
 ghost use Rattle.bw_model.specs.Split.{IsGreatestLast};
@@ -15,6 +15,12 @@ use bw_model::{Certificate, Instance, Mark, last_mark};
 use bw_plan::Plan;
 use std::alloc::{AllocError, Global};
 
+fn costs_less(mark: Mark, other: Mark) -> bool
+    ensures { IsTrue result → mark.num * other.den < other.num * mark.den }
+{
+    u128::from(mark.num) * u128::from(other.den) < u128::from(other.num) * u128::from(mark.den)
+}
+
 // The greater of two marks. The first may be missing.
 fn greater(best: Option<Mark>, mark: Mark) -> Mark
     ensures none { IfNone best (result ≡ mark) }
@@ -23,7 +29,13 @@ fn greater(best: Option<Mark>, mark: Mark) -> Mark
 {
     match best {
         None => mark,
-        Some(best) => { if mark < best { best } else { mark } }
+        Some(best) => {
+            // mostly the costs tell
+            if costs_less(mark, best) {
+                return best;
+            }
+            if mark < best { best } else { mark }
+        }
     }
 }
 

@@ -9,7 +9,7 @@ use crate::line_words::group_words;
 use crate::spelled::spelled_group;
 use crate::word_values::{flag, level, limit, number, parent};
 use bw_model::limits::MAX_GROUPS;
-use bw_model::{Certificate, Instance, Mark, Row};
+use bw_model::{Certificate, HostShape, Instance, Mark, Row};
 use bw_text::split_line;
 use std::alloc::Global;
 
@@ -17,6 +17,15 @@ use std::alloc::Global;
 #[derive(Debug, Drop)]
 pub struct Certified {
     pub instance: Instance,
+    pub amounts: Vec<u64>,
+    pub certificate: Certificate,
+}
+
+/// The rows of an instance, an amount in slices for each of them, and a certificate of the amounts.
+#[derive(Debug, Drop)]
+pub struct CertifiedRows {
+    pub shape: HostShape,
+    pub rows: Vec<Row>,
     pub amounts: Vec<u64>,
     pub certificate: Certificate,
 }
@@ -100,6 +109,8 @@ fn next_group(text: &[u8]) -> Result<(GroupLine, &[u8]), CertFault>
 }
 
 /// Reads `count` groups. Returns them with the text after their lines.
+// in a function of its own, so that the loop has the registers
+#[inline(never)]
 pub(crate) fn groups(alloc: Global, count: u64, text: &[u8]) -> Result<(Columns, &[u8]), CertFault>
     requires { count ≤ MAX_GROUPS }
     ensures { ReadsAs (λ p. (columns_view p.0, text_lines p.1.now)) result

@@ -1,4 +1,4 @@
-//! An instance of the rows of a text. One pass shows that they are in order, as they mostly are.
+//! Rows of a text that are those of an instance. One pass shows their order, as it mostly can.
 ghost use Rattle.std.specs.Prelude.{◌≡◌, ◌+◌, ◌<◌, ◌≤◌, true, length, slice_index, IsTrue};
 ghost use Rattle.std.specs.Prelude.{IfOk, IfErr, IfSome};
 ghost use Rattle.bw_model.specs.Groups.{IsInstance, row_of, demand_of};
@@ -94,21 +94,34 @@ fn is_instance(alloc: Global, rows: &[Row], shape: HostShape) -> bool
     }
 }
 
-/// The instance of rows. Where they are not in order, [`Instance::new`] names the fault.
-pub(crate) fn instance_of(
+// The rows of an instance that is made by all tests, which name the fault if there is one.
+fn tested_rows(alloc: Global, rows: Vec<Row>, shape: HostShape) -> Result<Vec<Row>, InstanceFault>
+    ensures same { IfOk result (λ tested. tested.items ≡ rows.items) }
+    ensures valid { IfOk result
+        (λ tested. IsInstance (record { shape = shape; rows = tested.items })) }
+    ensures err { IfErr result (IsRefused (refusal rows.items)) }
+{
+    let instance = Instance::new(alloc, rows, shape)?;
+    match instance.rows().to_vec(alloc) {
+        Ok(rows) => Ok(rows),
+        Err(_) => Err(InstanceFault::OutOfMemory),
+    }
+}
+
+/// Rows that are those of an instance. Where they are not in order, [`Instance::new`] names the
+/// fault.
+pub(crate) fn valid_rows(
     alloc: Global,
     rows: Vec<Row>,
     shape: HostShape,
-) -> Result<Instance, InstanceFault>
-    ensures groups { IfOk result (λ i. i ≡ record { shape = shape; rows = rows.items }) }
-    ensures valid { IfOk result IsInstance }
+) -> Result<Vec<Row>, InstanceFault>
+    ensures same { IfOk result (λ valid. valid.items ≡ rows.items) }
+    ensures valid { IfOk result
+        (λ valid. IsInstance (record { shape = shape; rows = valid.items })) }
     ensures err { IfErr result (IsRefused (refusal rows.items)) }
 {
-    if !is_instance(alloc, rows.as_slice(), shape) {
-        return Instance::new(alloc, rows, shape);
+    if is_instance(alloc, rows.as_slice(), shape) {
+        return Ok(rows);
     }
-    match Instance::of_valid(alloc, rows, shape) {
-        Ok(instance) => Ok(instance),
-        Err(_) => Err(InstanceFault::OutOfMemory),
-    }
+    tested_rows(alloc, rows, shape)
 }

@@ -14,7 +14,7 @@ mod writing;
 
 pub use certifying::{certify, certify_gathered};
 pub use fault::CertFault;
-pub use groups::Certified;
+pub use groups::{Certified, CertifiedRows};
 pub use laws::spelled_is_read;
-pub use reading::read_certified;
+pub use reading::{read_certified, read_certified_rows};
 pub use writing::write_certified;

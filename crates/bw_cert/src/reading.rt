@@ -1,15 +1,17 @@
 //! Reading of certified texts.
 ghost use Rattle.std.specs.Prelude.{◌≡◌, ◌≤◌, Ok, IfOk};
 ghost use Rattle.bw_cert.specs.Spelling.{Value, text_lines, words_of, spelling, IsValue};
+ghost use Rattle.bw_model.specs.Groups.{IsInstance};
 ghost use Rattle.bw_cert.specs.Reading.{ReadsAs, head_of, host_in, certified_of, certified_view};
+ghost use Rattle.bw_cert.specs.Reading.{groups_read, rows_view};
 
 use crate::fault::CertFault;
-use crate::groups::{Certified, first_line, groups};
-use crate::in_order::instance_of;
+use crate::groups::{Certified, CertifiedRows, first_line, groups};
+use crate::in_order::valid_rows;
 use crate::line_words::head_words;
 use crate::word_values::number;
 use bw_model::limits::MAX_GROUPS;
-use bw_model::{Certificate, HostShape, InstanceFault};
+use bw_model::{Certificate, HostShape, Instance, InstanceFault};
 use std::alloc::Global;
 
 // The host, and the number of groups that follow.
@@ -46,8 +48,9 @@ fn host(processors: u64, period_us: u64, slice_us: u64) -> Result<HostShape, Cer
 
 // Reads all of the text.
 #[tactic(auto, unfolding(crate::specs::Reading::certified_of))]
-fn certified(alloc: Global, text: &[u8]) -> Result<Certified, CertFault>
-    ensures { ReadsAs certified_view result (certified_of (text_lines text.now)) }
+fn certified_rows(alloc: Global, text: &[u8]) -> Result<CertifiedRows, CertFault>
+    ensures exact { ReadsAs rows_view result (certified_of (text_lines text.now)) }
+    ensures valid { IfOk result (λ c. IsInstance (groups_read c)) }
 {
     let (line, rest) = first_line(text)?;
     let (shape, count) = head(line)?;
@@ -55,19 +58,51 @@ fn certified(alloc: Global, text: &[u8]) -> Result<Certified, CertFault>
     if !rest.is_empty() {
         return Err(CertFault::Trailing);
     }
-    let instance = match instance_of(alloc, columns.rows, shape) {
-        Ok(instance) => instance,
+    let rows = match valid_rows(alloc, columns.rows, shape) {
+        Ok(rows) => rows,
         Err(InstanceFault::OutOfMemory) => return Err(CertFault::OutOfMemory),
         Err(fault) => return Err(CertFault::Instance(fault)),
     };
-    Ok(Certified {
-        instance,
+    Ok(CertifiedRows {
+        shape,
+        rows,
         amounts: columns.amounts,
         certificate: Certificate {
             tight: columns.tight,
             levels: columns.levels,
         },
     })
+}
+
+// The instance of rows that were read.
+fn certified(alloc: Global, text: &[u8]) -> Result<Certified, CertFault>
+    ensures { ReadsAs certified_view result (certified_of (text_lines text.now)) }
+{
+    let read = certified_rows(alloc, text)?;
+    let instance = Instance::of_valid(alloc, read.rows, read.shape)?;
+    Ok(Certified {
+        instance,
+        amounts: read.amounts,
+        certificate: read.certificate,
+    })
+}
+
+/// The rows, amounts and certificate of a text, read in one pass. [`read_certified`] makes the
+/// instance too, with its lists of children.
+///
+/// # Errors
+/// Those of [`read_certified`].
+pub fn read_certified_rows(alloc: Global, text: &[u8]) -> Result<CertifiedRows, CertFault>
+    // The rows that are read are those of an instance, and the text is the value's spelling.
+    ensures found { IfOk result
+        (λ c. IsValue (rows_view c) × (text.now ≡ spelling (rows_view c))) }
+    // A spelling is read as its value, unless memory was refused.
+    ensures only { (v : Value) → IsValue v → text.now ≡ spelling v
+        → ReadsAs rows_view result (Ok v) }
+    // The fault is exactly this.
+    ensures exact { ReadsAs rows_view result (certified_of (text_lines text.now)) }
+{
+    certified_rows(alloc, text)
 }
 
 /// The instance, amounts and certificate of a text, read in one pass.

@@ -22,8 +22,35 @@ fn ends_number(text: &[u8], i: usize, end: u8) -> bool
     text[i] == end && i > 0 && (i == 1 || text[0] != b'0')
 }
 
-// The number before a byte, and the text after it. The number has up to 18 digits, so 64 bits.
+// Bytes of the loop for numbers, which the compiler unrolls.
+const SHORT: usize = 8;
+
+// The number before a byte, and the text after it. The number has up to 7 digits.
+#[inline(always)]
 fn number_before(text: &[u8], end: u8) -> Option<(u64, &[u8])>
+    ensures spelled { IfSome result (λ p. text.now ≡ decimal p.0 ++ end ∷ p.1.now) }
+    ensures small { IfSome result (λ p. p.0 < 2 ^ 64) }
+{
+    if text.len() < SHORT {
+        return None;
+    }
+    let mut n: u64 = 0;
+    for i in 0..SHORT {
+        let b = text[i];
+        if !b.is_ascii_digit() {
+            if !ends_number(text, i, end) {
+                return None;
+            }
+            return Some((n, &text[i + 1..]));
+        }
+        n = n * 10 + u64::from(b - b'0');
+    }
+    None
+}
+
+// The number before a byte, and the text after it. The number has up to 18 digits, so 64 bits.
+#[inline(never)]
+fn long_number_before(text: &[u8], end: u8) -> Option<(u64, &[u8])>
     ensures spelled { IfSome result (λ p. text.now ≡ decimal p.0 ++ end ∷ p.1.now) }
     ensures small { IfSome result (λ p. p.0 < 2 ^ 64) }
 {
@@ -56,7 +83,7 @@ fn parent_before(text: &[u8]) -> Option<(Option<u32>, &[u8])>
     Some((Some(n as u32), rest))
 }
 
-// A limit in slices.
+// A limit in slices, which may have more digits than other numbers.
 fn limit_before(text: &[u8]) -> Option<(Option<u64>, &[u8])>
     ensures spelled { IfSome result (λ p. text.now ≡ limit_word p.0 ++ 32 ∷ p.1.now) }
     ensures small { IfSome result (λ p. IfSome p.0 (λ n. n < 2 ^ 64)) }
@@ -64,7 +91,7 @@ fn limit_before(text: &[u8]) -> Option<(Option<u64>, &[u8])>
     if let [b'm', b'a', b'x', b' ', rest @ ..] = text {
         return Some((None, rest));
     }
-    let (n, rest) = number_before(text, b' ')?;
+    let (n, rest) = long_number_before(text, b' ')?;
     Some((Some(n), rest))
 }
 

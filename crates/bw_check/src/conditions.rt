@@ -36,7 +36,14 @@ pub fn are_one_per_row(instance: &Instance, amounts: &[u64], certificate: &Certi
         ↔ AreOnePerRow instance.now.rows amounts.now (certified_of certificate.now) }
     ensures valid { IsInstance instance.now }
 {
-    let count = instance.group_count() as usize;
+    has_one_of_each(instance.rows(), amounts, certificate)
+}
+
+/// Whether there is one amount, one flag and one level for each row.
+pub(crate) fn has_one_of_each(rows: &[Row], amounts: &[u64], certificate: &Certificate) -> bool
+    ensures { IsTrue result ↔ AreOnePerRow rows.now amounts.now (certified_of certificate.now) }
+{
+    let count = rows.len();
     amounts.len() == count && certificate.tight.len() == count && certificate.levels.len() == count
 }
 

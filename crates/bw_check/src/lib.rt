@@ -11,7 +11,7 @@ mod readers;
 mod tables;
 mod verdict;
 
-pub use checking::check;
+pub use checking::{check, check_rows};
 pub use fault::CheckFault;
 pub use laws::{free_is_accepted, one_plan};
 pub use verdict::Verdict;

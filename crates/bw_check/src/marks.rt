@@ -1,7 +1,8 @@
 //! The marks of a child against its parent's level.
-ghost use Rattle.std.specs.Prelude.{◌≡◌, ◌<◌, ◌≤◌, ◌↔◌, IsTrue, length, slice_index};
+ghost use Rattle.std.specs.Prelude.{◌≡◌, ◌*◌, ◌<◌, ◌≤◌, ◌↔◌, IsTrue, length, slice_index};
 ghost use Rattle.bw_model.specs.Groups.{AreTreeRows, weight_of};
 ghost use Rattle.bw_model.specs.Certificate.{certified_of};
+ghost use Rattle.bw_model.specs.Marks.{price_of, IsBelow, IsAtMost};
 ghost use Rattle.bw_check.specs.Counts.{ArePlaces};
 ghost use Rattle.bw_check.specs.Levels.{level_above};
 ghost use Rattle.bw_check.specs.Verdict.{AreOnePerRow, IsLastMarkKept, IsNextMarkKept};
@@ -9,6 +10,27 @@ ghost use Rattle.bw_check.specs.Verdict.{AreOnePerRow, IsLastMarkKept, IsNextMar
 use crate::readers::{parent, weight};
 use bw_model::limits::MAX_CAPACITY;
 use bw_model::{Certificate, Mark, Row, last_mark, next_mark};
+
+// Whether a mark costs less than another, which puts it below whatever the places are.
+fn costs_less(mark: Mark, other: Mark) -> bool
+    ensures { IsTrue result ↔ mark.num * other.den < other.num * mark.den }
+{
+    u128::from(mark.num) * u128::from(other.den) < u128::from(other.num) * u128::from(mark.den)
+}
+
+// Whether a mark is below another. Mostly the costs tell.
+fn is_below(mark: Mark, other: Mark) -> bool
+    ensures { IsTrue result ↔ IsBelow (price_of mark) (price_of other) }
+{
+    costs_less(mark, other) || mark < other
+}
+
+// Whether a mark is at most another. Mostly the costs tell.
+fn is_at_most(mark: Mark, other: Mark) -> bool
+    ensures { IsTrue result ↔ IsAtMost (price_of mark) (price_of other) }
+{
+    costs_less(mark, other) || mark <= other
+}
 
 // The level of a child's parent, or None if the parent has no level or nothing to share out.
 fn level_above(rows: &[Row], amounts: &[u64], certificate: &Certificate, c: u32) -> Option<Mark>
@@ -51,7 +73,7 @@ pub fn is_last_mark_kept(
         Some(level) => {
             let weight = weight(rows, c);
             let place = places[c as usize];
-            amount == 0 || last_mark(amount, weight, place) <= level
+            amount == 0 || is_at_most(last_mark(amount, weight, place), level)
         }
     }
 }
@@ -80,7 +102,7 @@ pub fn is_next_mark_kept(
         Some(level) => {
             let weight = weight(rows, c);
             let place = places[c as usize];
-            bound <= u128::from(amount) || level < next_mark(amount, weight, place)
+            bound <= u128::from(amount) || is_below(level, next_mark(amount, weight, place))
         }
     }
 }

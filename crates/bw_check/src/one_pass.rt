@@ -135,6 +135,8 @@ fn free_bound(
 ///
 /// # Errors
 /// `AllocError` if memory was refused.
+// in a function of its own, so that the loop has the registers
+#[inline(never)]
 pub(crate) fn are_certified(
     alloc: Global,
     shape: HostShape,

@@ -75,30 +75,37 @@ fn wait_for_place<M: Machine, R: Wait>(
     unreachable!()
 }
 
-// Makes the seat's own call, and then helps the next ones.
-fn finish_and_help<M: Machine, R: Wait + Clock>(
+/// Whether the pending call of the seat can be made at once or nearly so.
+pub(crate) fn is_soon<M: Machine>(lock: &TicketLock<M>, seat: &Seat<M>) -> bool {
+    match seat.pending() {
+        Some(ticket) => is_served_soon(lock, ticket),
+        None => false,
+    }
+}
+
+/// Makes the seat's own call, and then helps the next ones.
+pub(crate) fn finish_and_help<M: Machine, R: Wait + Clock>(
     rt: &R,
     lock: &TicketLock<M>,
     table: &Shared<M>,
     token: &mut Token<M>,
-    seat: Seat<M>,
-) -> (Seat<M>, Answer<M::Reply>)
+    seat: &mut Seat<M>,
+) -> Answer<M::Reply>
     requires table { (token.old.table_id ≡ table.now.table_id) × IsTable table.now.table_id }
     requires owner { (mine : _) × IsOwner lock.now.lock_id mine token.old.me }
-    requires lock { seat.lock_id ≡ lock.now.lock_id }
-    requires pending { IsSome seat.pending }
+    requires lock { seat.old.lock_id ≡ lock.now.lock_id }
+    requires pending { IsSome seat.old.pending }
     ensures table { token.new.table_id ≡ token.old.table_id }
     ensures same { token.new.me ≡ token.old.me }
-    ensures finished { IsFinished seat result.1 result.0 }
+    ensures finished { IsFinished seat.old result seat.new }
 {
-    let mut seat = seat;
     let answer = seat.finish(rt, lock);
     help(rt, lock, table, token, answer.at);
-    (seat, answer)
+    answer
 }
 
-/// Makes the pending call of the seat, or lends the seat until a helper has made it.
-pub(crate) fn finish_or_lend<M: Machine, R: Wait + Clock>(
+/// Lends the seat until a helper has made its pending call, or it has to make that itself.
+pub(crate) fn finish_lent<M: Machine, R: Wait + Clock>(
     rt: &R,
     lock: &TicketLock<M>,
     table: &Shared<M>,
@@ -118,14 +125,15 @@ pub(crate) fn finish_or_lend<M: Machine, R: Wait + Clock>(
     let Some(ticket) = seat.pending() else {
         unreachable!()
     };
-    if is_served_soon(lock, ticket) {
-        return finish_and_help(rt, lock, table, token, seat);
-    }
     let lent = Snapshot::of(&seat);
     post(table, token, place, seat, ticket);
     match wait_for_place(rt, lock, table, token, place, &lent, ticket) {
         Place::Made(seat, answer) => (seat, answer),
-        Place::Lent(seat) => finish_and_help(rt, lock, table, token, seat),
+        Place::Lent(seat) => {
+            let mut seat = seat;
+            let answer = finish_and_help(rt, lock, table, token, &mut seat);
+            (seat, answer)
+        }
         Place::Empty => unreachable!(),
     }
 }

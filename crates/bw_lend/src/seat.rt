@@ -9,7 +9,7 @@ ghost use Rattle.bw_lend.specs.Rule.{stakes_from};
 ghost use Rattle.std.specs.Arc.{arc_value};
 ghost use Rattle.bw_ticket.specs.declared.limits.TheConstants.{MAX_SEATS};
 
-use crate::lending::finish_or_lend;
+use crate::lending::{finish_and_help, finish_lent, is_soon};
 use crate::plays::HandOut;
 use crate::steps::open_place;
 use crate::table::{Content, PLACES, Place, Places, Token, WORDS};
@@ -161,10 +161,17 @@ impl<M: Machine> LendingSeat<M> {
               own = self.old.own ++ made p.1 result.reply result.at ∷ [];
             })) }
     {
+        let Some(seat) = &mut self.seat else {
+            unreachable!()
+        };
+        // a seat that need not wait is not moved
+        if is_soon(lock, seat) {
+            return finish_and_help(rt, lock, &self.places.shared, &mut self.token, seat);
+        }
         let Some(seat) = self.seat.take() else {
             unreachable!()
         };
-        let (seat, answer) = finish_or_lend(
+        let (seat, answer) = finish_lent(
             rt,
             lock,
             &self.places.shared,

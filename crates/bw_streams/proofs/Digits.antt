@@ -25,3 +25,15 @@ last_two n low high =
     ∙ ap (λ m. decimal m ++ (48 + n / 10 % 10) ∷ (48 + n % 10) ∷ []) above
     ∙ ap (λ d. decimal (n / 100) ++ (48 + d) ∷ (48 + n % 10) ∷ []) tens
     ∙ ap (λ d. decimal (n / 100) ++ (48 + n % 100 / 10) ∷ (48 + d) ∷ []) ones
+
+-- a number of five digits or more
+pub last_four : (n : ℕ) → 10000 ≤ n → n < 2 ^ 64
+    → decimal n ≡ (decimal (n / 10000)
+    ++ (48 + n / 100 % 100 / 10) ∷ (48 + n / 100 % 100 % 10) ∷ [])
+    ++ (48 + n % 100 / 10) ∷ (48 + n % 100 % 10) ∷ []
+last_four n low high =
+    let above : n / 100 / 100 ≡ n / 10000 = omega arith in
+    let last = (48 + n % 100 / 10) ∷ (48 + n % 100 % 10) ∷ [] in
+    last_two n (omega (arith, low)) high
+    ∙ ap (λ ds. ds ++ last) (last_two (n / 100) (omega (arith, low)) (omega (arith, high))
+    ∙ ap (λ m. decimal m ++ (48 + n / 100 % 100 / 10) ∷ (48 + n / 100 % 100 % 10) ∷ []) above)

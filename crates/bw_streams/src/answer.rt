@@ -21,7 +21,8 @@ pub fn put(answer: &mut Vec<u8>, bytes: &[u8])
 
 /// Appends a number in decimal, 1 to 20 digits, for which the buffer has space.
 ///
-/// Most numbers of an answer are short. They are written into the buffer, without a copy.
+/// Up to eight digits are written into the buffer, without a copy.
+#[inline(always)]
 pub fn put_digits(number: u64, answer: &mut Vec<u8>)
     requires { vec_len answer.old + 20 ≤ vec_capacity answer.old }
     ensures items { answer.new.items ≡ answer.old.items ++ decimal number }
@@ -29,12 +30,30 @@ pub fn put_digits(number: u64, answer: &mut Vec<u8>)
     ensures room { vec_capacity answer.old ≤ vec_capacity answer.new }
 {
     match number {
-        0..=99 => put_short(number, answer),
-        100..=9_999 => {
-            put_short(number / 100, answer);
+        0..=9_999 => put_few(number, answer),
+        10_000..=99_999_999 => {
+            put_few(number / 10_000, answer);
+            put_two(number / 100 % 100, answer);
             put_two(number % 100, answer);
         }
         _ => put_long(number, answer),
+    }
+}
+
+// Appends a number of up to four digits.
+fn put_few(number: u64, answer: &mut Vec<u8>)
+    requires few { number < 10_000 }
+    requires space { vec_len answer.old + 4 ≤ vec_capacity answer.old }
+    ensures items { answer.new.items ≡ answer.old.items ++ decimal number }
+    ensures len { vec_len answer.new ≤ vec_len answer.old + 4 }
+    ensures room { vec_capacity answer.old ≤ vec_capacity answer.new }
+{
+    match number {
+        0..=99 => put_short(number, answer),
+        _ => {
+            put_short(number / 100, answer);
+            put_two(number % 100, answer);
+        }
     }
 }
 
@@ -67,6 +86,7 @@ fn put_two(last: u64, answer: &mut Vec<u8>)
 }
 
 // Appends a number of any length by one copy.
+#[inline(never)]
 fn put_long(number: u64, answer: &mut Vec<u8>)
     requires { vec_len answer.old + 20 ≤ vec_capacity answer.old }
     ensures items { answer.new.items ≡ answer.old.items ++ decimal number }
@@ -121,6 +141,7 @@ pub fn put_last_word(word: &[u8], answer: &mut Vec<u8>) -> Result<(), AllocError
 /// # Errors
 ///
 /// `AllocError` if an allocation failed; the answer is unchanged.
+#[inline(always)]
 pub fn put_number_line(word: &[u8], number: u64, answer: &mut Vec<u8>) -> Result<(), AllocError>
     ensures ok { OnOk result (answer.new.items ≡ answer.old.items ++ number_line word.now number) }
     ensures full { OnErr result (vec_capacity answer.old
@@ -129,8 +150,9 @@ pub fn put_number_line(word: &[u8], number: u64, answer: &mut Vec<u8>) -> Result
     ensures room { vec_capacity answer.old ≤ vec_capacity answer.new }
 {
     answer.reserve(word.len() + 21)?;
-    put_number(word, number, answer)?;
-    put(answer, b"\n");
+    put(answer, word);
+    put_digits(number, answer);
+    answer.push_reserved(b'\n');
     Ok(())
 }
 

@@ -11,8 +11,8 @@ ghost use Rattle.bw_streams.specs.Reading.{EndIsReadOnce};
 ghost use Rattle.bw_text_check.specs.Reads.{Reads};
 ghost use Rattle.bw_streams.specs.Watched.{inner_of, has_failed, read_calls, IsFresh, HasNoFault};
 
-use bw_cert::{CertFault, read_certified};
-use bw_check::{CheckFault, Verdict, check};
+use bw_cert::{CertFault, read_certified_rows};
+use bw_check::{CheckFault, Verdict, check_rows};
 use bw_machine::Count;
 use bw_streams::{
     READ_CALLS, RunFault, Watched, piece_room, put_number, put_number_line, put_refusal, send_line,
@@ -102,13 +102,14 @@ fn finding_in(alloc: Global, text: &[u8]) -> Result<Finding, AllocError>
     ensures found { IfOk result (IsFinding text.now) }
     ensures sound { IfOk result (λ f. is_accepted f ≡ true → HoldsPlan text.now) }
 {
-    match read_certified(alloc, text) {
-        Ok(certified) => {
-            let verdict = check(
+    match read_certified_rows(alloc, text) {
+        Ok(read) => {
+            let verdict = check_rows(
                 alloc,
-                &certified.instance,
-                certified.amounts.as_slice(),
-                &certified.certificate,
+                read.shape,
+                read.rows,
+                read.amounts.as_slice(),
+                &read.certificate,
                 &mut Count::none(),
             )?;
             Ok(Finding::Checked(verdict))

@@ -74,13 +74,13 @@ impl Places {
         if self.noted.len() >= least {
             return Ok(());
         }
-        self.grow(groups, least)
+        self.grow(groups, 2 * least)
     }
 
     #[inline(never)]
     fn grow(&mut self, groups: &Groups, least: usize) -> Result<(), AllocError>
         requires groups { length groups.now.items ≤ MAX_GROUPS }
-        requires least { least ≤ 2 * MAX_GROUPS + 2 }
+        requires least { least ≤ 4 * MAX_GROUPS + 4 }
     {
         let count = least.next_power_of_two();
         self.noted.resize(count, 0)?;

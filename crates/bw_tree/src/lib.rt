@@ -16,6 +16,7 @@ mod node;
 mod path_hash;
 mod paths;
 mod refusals;
+mod room;
 mod setting;
 mod snapshot;
 mod tail;

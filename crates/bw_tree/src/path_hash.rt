@@ -53,13 +53,32 @@ impl PathHash {
     }
 
     // Hash of the text and more bytes.
-    #[tactic(auto, unfolding(crate::specs::Keys::with_bytes))]
     pub(crate) fn with_bytes(self, seed: u64, bytes: &[u8]) -> PathHash
+        ensures { result ≡ with_bytes seed self bytes.now }
+    {
+        if self.waiting == 1 {
+            return PathHash::after_words(seed, self.value, bytes);
+        }
+        self.with_each(seed, bytes)
+    }
+
+    // Hash of the text and more bytes, byte by byte.
+    #[tactic(auto, unfolding(crate::specs::Keys::with_bytes))]
+    fn with_each(self, seed: u64, bytes: &[u8]) -> PathHash
         ensures { result ≡ with_bytes seed self bytes.now }
     {
         bytes
             .iter()
             .fold(self, |hash, byte| hash.with_byte(seed, *byte))
+    }
+
+    // Hash of whole words that have this value and of more bytes, four of them at a time.
+    fn after_words(seed: u64, value: u32, bytes: &[u8]) -> PathHash
+        ensures { result ≡ with_bytes seed (record { value = value; waiting = 1 }) bytes.now }
+    {
+        let (words, rest) = bytes.as_chunks::<4>();
+        let value = with_words(seed, value, words);
+        PathHash { value, waiting: 1 }.with_each(seed, rest)
     }
 
     // Number that stands for the whole text: the key of the group with this path.
@@ -70,13 +89,11 @@ impl PathHash {
         u64::from(value_with(seed, value_with(seed, self.value, self.waiting), 0))
     }
 
-    // Hash of a whole text, four bytes at a time.
+    // Hash of a whole text.
     pub(crate) fn of_text(seed: u64, text: &[u8]) -> PathHash
         ensures { result ≡ with_bytes seed no_text_hash text.now }
     {
-        let (words, rest) = text.as_chunks::<4>();
-        let value = with_words(seed, 1, words);
-        PathHash { value, waiting: 1 }.with_bytes(seed, rest)
+        PathHash::after_words(seed, 1, text)
     }
 }
 

@@ -143,7 +143,8 @@ impl Tree {
         path.push_str(group.name.as_str())
     }
 
-    // Group that the names of a path reach from the root.
+    // Group that the names of a path reach from the root. Few paths need it.
+    #[inline(never)]
     fn walk(&self, path: &str) -> Option<GroupId>
         ensures { result ≡ walk self.now.groups 0 (slice_split (λ b. b == 47) path.now) }
     {

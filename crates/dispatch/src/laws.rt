@@ -16,8 +16,8 @@ pub fn lead_is_bounded()
     ensures { LeadIsBounded }
 {}
 
-/// Between two times of a run, of two leaves that wait throughout, neither gains on the other by more
-/// than both leads together.
+/// Between two times of a run, of two leaves that wait throughout, neither gains on the other by
+/// more than both leads together.
 ///
 /// The premises are those of [`lead_is_bounded`], for both leaves.
 pub fn gain_is_bounded()

@@ -3,6 +3,10 @@ use Rattle.std.proofs.Common.{◌≡◌, true, false, refl, inl, inr, sym, ◌�
 use Rattle.bw_model.proofs.CallerLemmas.{is_lt-IsBelow}
 use Rattle.bw_cert.proofs.certifying.greater.Goals as goal
 
+pub returns-then-costs_less-clause-some : goal.returns-then-costs_less-clause-some
+returns-then-costs_less-clause-some c =
+    rw c.in-Some.is (inl (refl, inl (c.costs_less.ensures c.if-costs_less.true)))
+
 pub returns-then-lt-clause-some : goal.returns-then-lt-clause-some
 returns-then-lt-clause-some c =
     rw c.in-Some.is (inl (

@@ -5,7 +5,6 @@ use Rattle.bw_model.specs.Groups.{weight_of}
 use Rattle.bw_model.specs.Marks.{MarkValue, price_of, next_mark, IsBelow}
 use Rattle.bw_model.specs.Certificate.{certified_of}
 use Rattle.bw_check.proofs.MarksKept.{each_above, from_above}
-use Rattle.bw_model.proofs.CallerLemmas.{is_lt-IsBelow}
 use Rattle.bw_check.proofs.marks.is_next_mark_kept.Goals as goal
 
 pub returns-else-bound-from : goal.returns-else-bound-from
@@ -22,17 +21,16 @@ returns-else-bound-from c =
     c.next_mark.ensures
     ∙ ap (λ (w : ℕ). next_mark (get_or amounts c.args.c 0) w (get_or places c.args.c 0))
     c.weight-weight.ensures in
-    let ordered = is_lt-IsBelow c.in-Some.level c.next_mark.result in
+    let ordered = c.is_below.ensures in
     let room : get_or amounts c.args.c 0 < c.args.bound =
     omega (arith, c.from.ensures, c.if-bound-from.false) in (
       λ e g other up shares is _.
           each_above rows amounts certificate c.args.c places c.requires.places c.requires.within
           claim c.in-Some.level (sym c.in-Some.ensures)
           (subst (λ (p : MarkValue). IsBelow (price_of c.in-Some.level) p) price
-          (ordered.0 (sym c.lt.ensures ∙ e)))
+          (ordered.0 e))
           g other up shares is,
-      λ h. c.lt.ensures
-          ∙ ordered.1 (subst (λ (p : MarkValue). IsBelow (price_of c.in-Some.level) p) (sym price)
+      λ h. ordered.1 (subst (λ (p : MarkValue). IsBelow (price_of c.in-Some.level) p) (sym price)
           (from_above rows amounts certificate c.args.c places c.requires.places c.requires.within
           claim c.in-Some.level (sym c.in-Some.ensures)
           (λ g other up shares is. h g other up shares is room))),

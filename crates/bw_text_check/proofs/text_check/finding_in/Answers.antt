@@ -7,7 +7,7 @@ pub returns-in_ok-verdict-in-Ok-clause-found : goal.returns-in_ok-verdict-in-Ok-
 returns-in_ok-verdict-in-Ok-clause-found c =
     rw c.in-Ok.ensures.exact
     (record {
-      certificate = certified_of c.in-Ok.certified.certificate;
+      certificate = certified_of c.in-Ok.read.certificate;
       flags = refl;
       levels = refl;
       given = rw c.as_slice.ensures.value at c.in_ok-verdict-in-Ok.ensures.verdict;

@@ -5,43 +5,46 @@ use Rattle.bw_lend.specs.Parts.{IsTable, IsOwner, seat_in}
 use Rattle.bw_lend.proofs.Finished.{after_call, finished_parts}
 use Rattle.bw_lend.proofs.seat.LendingSeat.finish.Goals as goal
 
-pub invariant_of-self : goal.invariant_of-self
-invariant_of-self g c =
-    let seat = c.in-Some.seat in
-    let there : c.self.inside.seat ≡ _ = sym c.take.ensures.value ∙ c.in-Some.is in
+pub invariant_of-self-2 : goal.invariant_of-self-2
+invariant_of-self-2 g c =
+    let seat = c.in-Some-take.seat in
+    let there : c.self.inside.seat ≡ _ =
+    c.in-Some.is ∙ (sym c.take.ensures.value ∙ c.in-Some-take.is) in
     let same : seat ≡ c.args.self.now =
     sym (ap (seat_in c.self.inside.token.table_id) there) ∙ c.self.view_is in
-    let back = c.finish_or_lend-seat.result.0 in
-    let parts = finished_parts seat seat.pending c.finish_or_lend-seat.result.1 back
-    c.finish_or_lend-seat.ensures.finished in
+    let back = c.finish_lent-seat.result.0 in
+    let parts = finished_parts seat seat.pending c.finish_lent-seat.result.1 back
+    c.finish_lent-seat.ensures.finished in
     let lock : back.lock_id ≡ c.args.lock.now.lock_id =
     parts.2 ∙ (ap (λ s. s.lock_id) same ∙ c.requires.lock) in (
-      subst IsTable (sym c.finish_or_lend-seat.ensures.table) c.self.invariant.0,
-      c.finish_or_lend-seat.ensures.table ∙ c.self.invariant.1,
+      subst IsTable (sym c.finish_lent-seat.ensures.table) c.self.invariant.0,
+      c.finish_lent-seat.ensures.table ∙ c.self.invariant.1,
       c.self.invariant.2,
-      subst (λ id. IsOwner id c.self.inside.place c.finish_or_lend-seat.new.token.me) (sym lock)
-          c.finish_or_lend-seat.ensures.owner,
+      subst (λ id. IsOwner id c.self.inside.place c.finish_lent-seat.new.token.me) (sym lock)
+          c.finish_lent-seat.ensures.owner,
     )
 
 pub returns-clause-later : goal.returns-clause-later
 returns-clause-later g c =
-    let seat = c.in-Some.seat in
-    let there : c.self.inside.seat ≡ _ = sym c.take.ensures.value ∙ c.in-Some.is in
+    let seat = c.in-Some-take.seat in
+    let there : c.self.inside.seat ≡ _ =
+    c.in-Some.is ∙ (sym c.take.ensures.value ∙ c.in-Some-take.is) in
     let same : seat ≡ c.args.self.now =
     sym (ap (seat_in c.self.inside.token.table_id) there) ∙ c.self.view_is in
-    let answer = c.finish_or_lend-seat.result.1 in
+    let answer = c.finish_lent-seat.result.1 in
     subst (λ (s : Holder g.row.M-Call.Denot g.row.M-Reply.Denot). s.reached ≤ answer.at) same
-    (finished_parts seat seat.pending answer c.finish_or_lend-seat.result.0
-    c.finish_or_lend-seat.ensures.finished).0
+    (finished_parts seat seat.pending answer c.finish_lent-seat.result.0
+    c.finish_lent-seat.ensures.finished).0
 
 pub returns-clause-made : goal.returns-clause-made
 returns-clause-made g c =
-    let seat = c.in-Some.seat in
-    let there : c.self.inside.seat ≡ _ = sym c.take.ensures.value ∙ c.in-Some.is in
+    let seat = c.in-Some-take.seat in
+    let there : c.self.inside.seat ≡ _ =
+    c.in-Some.is ∙ (sym c.take.ensures.value ∙ c.in-Some-take.is) in
     let same : seat ≡ c.args.self.now =
     sym (ap (seat_in c.self.inside.token.table_id) there) ∙ c.self.view_is in
-    let answer = c.finish_or_lend-seat.result.1 in
-    let back = c.finish_or_lend-seat.result.0 in
+    let answer = c.finish_lent-seat.result.1 in
+    let back = c.finish_lent-seat.result.0 in
     subst (λ (s : Holder g.row.M-Call.Denot g.row.M-Reply.Denot). MatchOption s.pending ⊥
     (λ p. (answer.at ≡ p.0) × (back ≡ after_call s p answer))) same
-    (finished_parts seat seat.pending answer back c.finish_or_lend-seat.ensures.finished).1
+    (finished_parts seat seat.pending answer back c.finish_lent-seat.ensures.finished).1
