@@ -5,6 +5,7 @@
 #ifndef ARBITER_KERNEL_H
 #define ARBITER_KERNEL_H
 #include <linux/bpf.h>
+#include <linux/version.h>
 #include <bpf/bpf_helpers.h>
 
 typedef __u32 u32;
@@ -23,14 +24,17 @@ typedef _Bool bool;
 #define STORAGE_OF_GROUPS 32
 
 /* include/linux/sched/ext.h and kernel/sched/ext_internal.h */
-#define SCX_DSQ_GLOBAL 0x8000000000000001ULL
 #define SCX_DSQ_LOCAL 0x8000000000000002ULL
 #define SCX_ENQ_WAKEUP 1ULL
 #define SCX_ENQ_PREEMPT (1ULL << 32)
+#define SCX_DEQ_SLEEP 1ULL
 #define SCX_KICK_IDLE 1ULL
 #define SCX_KICK_PREEMPT 2ULL
 #define SCX_TASK_QUEUED 1
+#define SCX_OPS_KEEP_BUILTIN_IDLE (1ULL << 0)
 #define SCX_OPS_ENQ_LAST (1ULL << 1)
+#define SCX_OPS_ENQ_EXITING (1ULL << 2)
+#define SCX_OPS_ENQ_MIGRATION_DISABLED (1ULL << 4)
 
 #pragma clang attribute push(__attribute__((preserve_access_index)), apply_to = record)
 
@@ -51,6 +55,7 @@ struct sched_entity {
 struct task_struct {
     unsigned int flags;
     int nr_cpus_allowed;
+    unsigned short migration_disabled;
     const struct cpumask *cpus_ptr;
     struct sched_entity se;
     struct sched_ext_entity scx;
@@ -70,6 +75,10 @@ struct scx_init_task_args {
     struct cgroup *cgroup;
 };
 
+struct scx_exit_task_args {
+    bool cancelled;
+};
+
 struct scx_cgroup_init_args {
     u32 weight;
 };
@@ -82,23 +91,28 @@ struct scx_exit_info {
 
 #pragma clang attribute pop
 
-struct bpf_iter_scx_dsq {
-    u64 __opaque[6];
-} __attribute__((aligned(8)));
+/* clang 14 drops the tag of a pointer that a map keeps if its type is a struct, not a typedef. */
+typedef struct task_struct kept_task;
 
+/* (headers before Linux 6.4 lack it) */
+#if LINUX_VERSION_CODE < KERNEL_VERSION(6, 4, 0)
 struct bpf_iter_num {
     u64 __opaque[1];
 } __attribute__((aligned(8)));
+#endif
 
 struct sched_ext_ops {
     s32 (*select_cpu)(struct task_struct *, s32, u64);
     void (*enqueue)(struct task_struct *, u64);
+    void (*dequeue)(struct task_struct *, u64);
     void (*dispatch)(s32, struct task_struct *);
     void (*running)(struct task_struct *);
-    void (*stopping)(struct task_struct *, bool);
     void (*quiescent)(struct task_struct *, u64);
+    void (*update_idle)(s32, bool);
     s32 (*init_task)(struct task_struct *, struct scx_init_task_args *);
+    void (*exit_task)(struct task_struct *, struct scx_exit_task_args *);
     void (*enable)(struct task_struct *);
+    void (*disable)(struct task_struct *);
     s32 (*cgroup_init)(struct cgroup *, struct scx_cgroup_init_args *);
     void (*cgroup_move)(struct task_struct *, struct cgroup *, struct cgroup *);
     s32 (*init)(void);
@@ -109,21 +123,13 @@ struct sched_ext_ops {
 };
 
 extern s32 scx_bpf_select_cpu_dfl(struct task_struct *p, s32 prev, u64 flags, bool *is_idle) __ksym;
-extern s32 scx_bpf_create_dsq(u64 queue, s32 node) __ksym;
-extern s32 scx_bpf_dsq_nr_queued(u64 queue) __ksym;
 extern void scx_bpf_dsq_insert(struct task_struct *p, u64 queue, u64 slice, u64 flags) __ksym;
-extern void scx_bpf_dsq_insert_vtime(struct task_struct *p, u64 queue, u64 slice, u64 key,
-                     u64 flags) __ksym;
-extern bool scx_bpf_dsq_move(struct bpf_iter_scx_dsq *at, struct task_struct *p, u64 queue,
-                 u64 flags) __ksym;
 extern bool scx_bpf_task_set_slice(struct task_struct *p, u64 slice) __ksym;
 extern void scx_bpf_kick_cpu(s32 cpu, u64 flags) __ksym;
 extern s32 scx_bpf_task_cpu(const struct task_struct *p) __ksym;
 extern struct cgroup *scx_bpf_task_cgroup(struct task_struct *p) __ksym;
 extern struct cgroup *bpf_cgroup_ancestor(struct cgroup *group, int level) __ksym;
 extern void bpf_cgroup_release(struct cgroup *group) __ksym;
-extern bool bpf_cpumask_test_cpu(u32 cpu, const struct cpumask *mask) __ksym;
-extern int bpf_iter_scx_dsq_new(struct bpf_iter_scx_dsq *at, u64 queue, u64 flags) __weak __ksym;
-extern struct task_struct *bpf_iter_scx_dsq_next(struct bpf_iter_scx_dsq *at) __weak __ksym;
-extern void bpf_iter_scx_dsq_destroy(struct bpf_iter_scx_dsq *at) __weak __ksym;
+extern struct task_struct *bpf_task_acquire(struct task_struct *p) __ksym;
+extern void bpf_task_release(struct task_struct *p) __ksym;
 #endif

@@ -1,74 +1,47 @@
 /* A scheduler that serves a plan: processors draw the slices that it gives the leaves.
  * SPDX-License-Identifier: GPL-2.0-only
  *
- * The rule. Each leaf has a clock: what it was charged over its amount. A free CPU takes a task of
- * the leaf with the least clock of all that have a task waiting. That pick charges a whole slice;
- * what was not used is given back when the slice ends. So a leaf past its plan gets what nobody
- * else wants, and no CPU idles while a leaf that may run has a task that this CPU may take. Sleep
- * earns no credit: a leaf whose first task wakes is lifted to the least clock of those that want,
- * without what is charged in advance. A new plan is a common start: all clocks are equal.
+ * The rule (rule.h). Each leaf has a clock: what it was charged over its amount. A free CPU takes a
+ * task of the leaf with the least clock of all that have a task waiting. That pick charges a whole
+ * slice; what was not used is given back when the slice ends. So a leaf past its plan gets what
+ * nobody else wants, and no CPU idles while a leaf that may run has a task that this CPU may take.
+ * Sleep earns no credit: a leaf whose first task wakes is lifted to the least clock of those that
+ * want, without what is charged in advance. A new plan is a common start: all clocks are equal.
  *
- * Tasks wait in their leaf's queue, in turn. The leaf with the least clock is the root of a tree of
- * winners, so a pick costs the number of levels, whatever the number of leaves. Tasks that only
- * some CPUs may run wait in queues of their own, whose first is compared with the tree's root.
- *
- * A step of the rule is one section of the lock. A pick is charged before its task is taken: a task
- * that is counted may not have reached its queue, and then the pick is undone and tried again.
+ * Tasks wait in queues of this program (queues.h), so that a step of the rule is one section of the
+ * lock. The kernel gets a task only when it is picked. A CPU picks its next task before the last
+ * one has left, so it is two processors of the rule; else another CPU had to wait for a task that
+ * is on its way. The leaf with the least clock is the root of a tree of winners, so a pick costs
+ * the number of levels, whatever the number of leaves. Tasks that only some CPUs may run wait in
+ * queues of their own, whose least clock is compared with that of the tree's root.
  */
 #include "kernel.h"
 #include <bpf/bpf_tracing.h>
 #include <bpf/bpf_core_read.h>
 #include "plan.h"
+#include "rule.h"
+#include "queues.h"
 
 char _license[] SEC("license") = "GPL";
 /* The compiler tells a type whole only if there is one. */
 struct cpumask no_cpus SEC(".bss.types") __attribute__((visibility("hidden")));
 
-/* Queues: one for each row, one for each CPU, and one of tasks that may run on some CPUs. */
-#define LEAF_QUEUES 0x10000ULL
-#define CPU_QUEUES 0x20000ULL
-#define SOME_QUEUE 0x30000ULL
-#define ITERATOR (&___it)
-
-#define NOBODY MOST_LEAVES
-/* Picks of one dispatch, of which the others found no task. */
-#define MOST_TRIES 4
-/* Beats in a row at which a leaf has a task by its count and none in its queue: it is set right. */
-#define MOST_MISSED 3
 /* Levels of groups that are looked at from a task's group up. */
 #define MOST_DEPTH 64
-/* The kernel ends a scheduler whose task waits for 20 s. One that waits for half of it goes first.
- */
-#define TIMEOUT_MS 20000
-#define LONGEST_WAIT_NS 10000000000ULL
-
-const volatile bool has_trace;
-const volatile u32 cpus_there = 1, cpus_online = 1;
+/* How much longer a slice is whose task has to stay on its CPU. */
+#define MOMENT_NS (SLICE_NS / 6)
+/* A number that is given again is the first of a list. */
+GUARDED u32 first_free, numbers;
 
 /* The loader writes these, and calls `take_plan`. */
 struct given given[MOST_LEAVES];
 volatile u32 rows = 1;
 /* It rises when the groups of the plan have changed. */
 volatile u32 tree = 1;
-
-struct leaf leaves[MOST_LEAVES];
-u64 healed, rescued, exit_kind;
-
-/* It guards the clocks, the counts of the leaves and the winners. */
-#define GUARDED SEC(".bss.guarded") __attribute__((visibility("hidden"), aligned(8)))
-GUARDED struct bpf_spin_lock lock;
-/* Of each node of the tree the row with the least clock of those below it; node 1 is the root. */
-GUARDED u16 winners[2 * MOST_LEAVES];
-/* The greatest clock at the end of a slice, and the number of steps. */
-GUARDED u64 greatest;
-GUARDED u64 steps;
-
-struct on_cpu cpus[MOST_CPUS];
-s32 bound_to_some;
+u64 exit_kind, unplanned;
 
 struct beat {
     struct bpf_timer timer;
-    u32 number;
 };
 struct {
     __uint(type, BPF_MAP_TYPE_ARRAY);
@@ -97,65 +70,35 @@ struct {
     __type(value, struct place);
 } places SEC(".maps");
 
-enum queue { IN_NONE, IN_LEAF, IN_CPU, IN_SOME };
-
-struct task {
-    struct place place;
-    /* Whether it wants to run, and is counted; whether a slice is charged for it. */
-    u32 is_there;
-    u32 is_charged;
-    /* Where it waits, since when, and the CPU that it waits for or was picked by. */
-    u32 queue;
-    u64 queued_ns;
-    u32 cpu;
-    /* How much of its time was charged. */
-    u64 charged_ns;
-};
+/* The number of a task. */
 struct {
     __uint(type, BPF_MAP_TYPE_TASK_STORAGE);
     __uint(map_flags, BPF_F_NO_PREALLOC);
     __type(key, int);
-    __type(value, struct task);
-} tasks SEC(".maps");
+    __type(value, u32);
+} task_numbers SEC(".maps");
+
+/* The kernel's task of a number. */
+struct holder {
+    kept_task __kptr *task;
+};
+struct {
+    __uint(type, BPF_MAP_TYPE_ARRAY);
+    __uint(max_entries, MOST_TASKS);
+    __type(key, u32);
+    __type(value, struct holder);
+} holders SEC(".maps");
 
 struct {
     __uint(type, BPF_MAP_TYPE_RINGBUF);
     __uint(max_entries, 4096);
 } events SEC(".maps");
 
-/* An index that the verifier knows to be in bounds: the compiler drops a mask that it can prove. */
-#define WITHIN(index, most)                                                                        \
-    ({                                                                                             \
-        u64 in_ = (index);                                                                         \
-        asm volatile("%0 &= %1" : "+r"(in_) : "i"((most) - 1));                                    \
-        in_;                                                                                       \
-    })
-
-static __always_inline struct leaf *leaf_of(u32 row)
+/* The number of a task; 0 if there were none left for it. */
+static __always_inline u32 number_of(struct task_struct *p)
 {
-    return &leaves[WITHIN(row, MOST_LEAVES)];
-}
-
-static __always_inline struct on_cpu *on_cpu(u32 cpu)
-{
-    return &cpus[WITHIN(cpu, MOST_CPUS)];
-}
-
-static __always_inline struct task *task_of(struct task_struct *p)
-{
-    return bpf_task_storage_get(&tasks, p, 0, 0);
-}
-
-static __always_inline bool is_before(u64 one, u64 other)
-{
-    return (s64)(one - other) < 0;
-}
-
-/* What some time is on a leaf's clock. */
-static __always_inline u64 on_clock(struct leaf *leaf, u64 ns)
-{
-    u64 amount = leaf->amount;
-    return amount ? ns * CLOCK_UNIT / amount : 0;
+    u32 *number = bpf_task_storage_get(&task_numbers, p, 0, 0);
+    return number ? *number : 0;
 }
 
 /* A task of a CPU's own thread of the kernel goes past the plan: others wait for its work. */
@@ -171,134 +114,28 @@ static __always_inline u64 slice_of(struct task_struct *p)
     return slice < SLICE_NS / 2 ? SLICE_NS / 2 : slice > 2 * SLICE_NS ? 2 * SLICE_NS : slice;
 }
 
-/* Whether a row is picked before another one. The lock is held, here and in what follows up to
- * `tell`. */
-static __always_inline bool is_first(u32 row, u32 other)
+/* Whether the kernel keeps a task on its CPU for a moment. This program keeps the task that it
+ * interrupts there, too. */
+static __always_inline bool is_kept(struct task_struct *p)
 {
-    return row < NOBODY
-           && (other >= NOBODY || is_before(leaf_of(row)->clock, leaf_of(other)->clock));
+    return p->migration_disabled > (bpf_get_current_task_btf() == p);
 }
 
-/* Sets the winners above a row whose clock or count has changed. */
-static __noinline int play(u32 row)
+/* The queue in which a task waits. */
+static __always_inline u32 queue_of(struct task_struct *p, u32 row)
 {
-    struct leaf *leaf = leaf_of(row);
-    u64 node = WITHIN(row, MOST_LEAVES) + MOST_LEAVES;
-    u32 best = leaf->ready > 0 && !leaf->is_stopped ? row : NOBODY, level;
+    bool is_bound = p->nr_cpus_allowed < cpus_online;
 
-    winners[WITHIN(node, 2 * MOST_LEAVES)] = best;
-    bpf_for(level, 0, LEVELS) {
-        u32 other = winners[WITHIN(node ^ 1, 2 * MOST_LEAVES)];
-        best = winners[WITHIN(node, 2 * MOST_LEAVES)];
-        if (is_first(other, best))
-            best = other;
-        node >>= 1;
-        /* what is above stays if another row wins here, as before */
-        if (winners[WITHIN(node, 2 * MOST_LEAVES)] == best && best != row)
-            break;
-        winners[WITHIN(node, 2 * MOST_LEAVES)] = best;
-    }
-    return 0;
+    if (is_kept(p) || (is_bound && p->nr_cpus_allowed == 1))
+        return CPU_QUEUES + WITHIN(scx_bpf_task_cpu(p), MOST_CPUS);
+    return is_bound ? SOME_QUEUE : row;
 }
 
-/* Counts what a leaf's tasks waited up to now, and then more or fewer that wait. */
-static __always_inline void count_waiting(struct leaf *leaf, u64 now, s32 more)
+/* Keeps the CPUs that a task may use. */
+static __always_inline void copy_mask(struct task_struct *p, u32 number)
 {
-    if (leaf->waiting > 0 && now > leaf->until_ns) {
-        leaf->some_ns += now - leaf->until_ns;
-        leaf->waited_ns += (now - leaf->until_ns) * leaf->waiting;
-    }
-    leaf->until_ns = now;
-    leaf->waiting += more;
-}
-
-/* A leaf's clock without the slices that are charged in advance: it may be no less. */
-static __always_inline u64 clock_of_use(struct leaf *leaf)
-{
-    return leaf->clock - leaf->running * leaf->stride;
-}
-
-/* The least clock of use of the leaves that want, because a task of theirs waits or runs. Where
- * nobody wants it is the greatest clock: what was used on an idle host counts no longer. */
-static __always_inline u64 least_clock(void)
-{
-    u32 cpu, first = winners[1];
-    bool is_found = first < NOBODY;
-    u64 least = is_found ? clock_of_use(leaf_of(first)) : greatest;
-
-    bpf_for(cpu, 0, cpus_there) {
-        struct on_cpu *on = on_cpu(cpu);
-        u64 clock = clock_of_use(leaf_of(on->row));
-        if (on->is_busy && (!is_found || is_before(clock, least))) {
-            least = clock;
-            is_found = true;
-        }
-    }
-    return least;
-}
-
-/* A task wants to run. The first one of a leaf lifts it: not over what others have used, or each
- * waking would cost it a slice. It stands before the others: the rule rounds its clock down. */
-static __always_inline void come(struct task *task, struct leaf *leaf)
-{
-    task->is_there = 1;
-    if (leaf->there++ == 0) {
-        u64 clock = least_clock() - 1;
-        if (is_before(leaf->clock, clock))
-            leaf->clock = clock;
-    }
-}
-
-/* A pick for a CPU: charges a slice. */
-static __always_inline void charge(struct on_cpu *on, u32 row)
-{
-    struct leaf *leaf = leaf_of(row);
-
-    leaf->clock += leaf->stride;
-    leaf->running++;
-    leaf->picks++;
-    on->row = row;
-    on->is_busy = 1;
-}
-
-/* Takes the charge of a slice back. */
-static __always_inline void discharge(struct on_cpu *on, struct leaf *leaf)
-{
-    leaf->clock -= leaf->stride;
-    leaf->running--;
-    on->is_busy = 0;
-}
-
-/* The end of a slice: gives back what was not used, or charges what was used beyond it. */
-static __always_inline u64 end(struct task *task, struct task_struct *p, struct leaf *leaf)
-{
-    u64 used = p->se.sum_exec_runtime - task->charged_ns;
-
-    task->charged_ns += used;
-    task->is_charged = 0;
-    discharge(on_cpu(task->cpu), leaf);
-    leaf->clock += on_clock(leaf, used);
-    /* (slices of its other tasks that run are charged in advance) */
-    if (is_before(greatest, clock_of_use(leaf)))
-        greatest = clock_of_use(leaf);
-    leaf->used_ns += used;
-    if (leaf->limit_ns) {
-        leaf->spent_ns += used;
-        if (leaf->spent_ns >= leaf->limit_ns && !leaf->is_stopped) {
-            leaf->is_stopped = 1;
-            leaf->stops++;
-        }
-    }
-    return used;
-}
-
-/* Tells a step of the rule. `at` was counted under the lock, which is no longer held. */
-static __always_inline void tell(u64 at, u32 kind, u32 row, u32 cpu, u64 used, u32 remains)
-{
-    struct event event = { .at = at, .used_ns = used, .kind = kind, .row = row, .cpu = cpu,
-                   .remains = remains };
-    if (has_trace)
-        bpf_ringbuf_output(&events, &event, sizeof event, BPF_RB_NO_WAKEUP);
+    struct mask *mask = &masks[WITHIN(number, MOST_TASKS)];
+    bpf_probe_read_kernel(mask, sizeof *mask, p->cpus_ptr);
 }
 
 /* The row of a group: its own, or that of the nearest group above it. */
@@ -334,404 +171,295 @@ static __noinline u32 row_of_group(struct cgroup *group)
     return found;
 }
 
-/* Moves a task that neither waits nor runs to the leaf of its group, if that may have changed. */
-static __always_inline void find_leaf(struct task_struct *p, struct task *task)
+/* The row of the leaf of a task's group. */
+static __always_inline u32 row_of(struct task_struct *p, u32 number)
 {
+    struct task *task = task_at(number);
     struct cgroup *group;
     u32 now = tree, row;
 
-    if (task->place.tree == now || task->is_charged || task->queue != IN_NONE)
-        return;
+    if (task->tree == now)
+        return task->row;
     group = scx_bpf_task_cgroup(p);
     if (!group)
-        return;
+        return task->row;
     row = row_of_group(group);
     bpf_cgroup_release(group);
-    task->place.tree = now;
-    if (row == task->place.row)
-        return;
-    bpf_spin_lock(&lock);
-    if (task->is_there) {
-        leaf_of(task->place.row)->there--;
-        task->is_there = 0;
-    }
-    task->place.row = row;
-    bpf_spin_unlock(&lock);
+    task->tree = now;
+    return row;
 }
 
-/* Stops the CPU whose leaf is furthest ahead, if it is ahead of one that wakes. */
-static __always_inline void preempt(struct task_struct *p, u32 row, u32 queue, u32 own)
+/* Tells the steps that were noted while the lock was held. */
+static __always_inline void tell(struct on_cpu *here)
 {
-    struct leaf *leaf = leaf_of(row);
-    u64 most = leaf->clock;
-    s32 victim = -1;
-    u32 cpu;
+    u32 at;
 
-    bpf_for(cpu, 0, cpus_there) {
-        struct on_cpu *on = on_cpu(cpu);
-        u64 clock = leaf_of(on->row)->clock;
-        if (!on->is_busy || on->row == row || !is_before(most, clock))
-            continue;
-        if (queue == IN_CPU && cpu != own)
-            continue;
-        if (queue == IN_SOME && !bpf_cpumask_test_cpu(cpu, p->cpus_ptr))
-            continue;
-        most = clock;
-        victim = cpu;
-    }
-    if (victim >= 0)
-        scx_bpf_kick_cpu(victim, SCX_KICK_PREEMPT);
+    if (!has_trace)
+        return;
+    bpf_for(at, 0, here->steps)
+        bpf_ringbuf_output(&events, &here->noted[WITHIN(at, MOST_STEPS)],
+                   sizeof(struct event), BPF_RB_NO_WAKEUP);
+    here->steps = 0;
+}
+
+static __always_inline struct on_cpu *this_cpu(void)
+{
+    return on_cpu(bpf_get_smp_processor_id());
+}
+
+/* A task leaves its leaf for good, or goes past the plan. */
+static __always_inline void forget(struct task_struct *p, u32 number)
+{
+    struct on_cpu *here = this_cpu();
+    u64 now = bpf_ktime_get_ns(), runtime = p->se.sum_exec_runtime;
+
+    bpf_spin_lock(&lock);
+    leave(here, number, runtime, now);
+    bpf_spin_unlock(&lock);
+    tell(here);
 }
 
 SEC("struct_ops/plan_select_cpu")
 s32 BPF_PROG(plan_select_cpu, struct task_struct *p, s32 prev, u64 flags)
 {
     bool is_idle = false;
-    s32 cpu = scx_bpf_select_cpu_dfl(p, prev, flags, &is_idle);
-    struct task *task = task_of(p);
+    /* (it runs there only if no other CPU takes it before) */
+    return scx_bpf_select_cpu_dfl(p, prev, flags, &is_idle);
+}
 
-    /* an idle CPU takes it at once where nobody waits, and `running` charges it */
-    if (is_idle && winners[1] >= NOBODY && task && !leaf_of(task->place.row)->is_stopped)
-        scx_bpf_dsq_insert(p, SCX_DSQ_LOCAL, slice_of(p), 0);
-    return cpu;
+/* Whether the slice of a task is made longer, once: the kernel keeps the task on its CPU for a
+ * moment, and no other could take it. */
+static __always_inline bool is_extended(struct task_struct *p, u32 number)
+{
+    struct task *task = task_at(number);
+
+    if (!is_kept(p) || task->is_extended || task->state != RUNS || task->tree != tree)
+        return false;
+    task->is_extended = 1;
+    return true;
 }
 
 SEC("struct_ops/plan_enqueue")
 void BPF_PROG(plan_enqueue, struct task_struct *p, u64 flags)
 {
-    struct task *task = task_of(p);
-    u64 now = bpf_ktime_get_ns(), clock, at = 0;
-    u32 row, queue = IN_LEAF, own = bpf_get_smp_processor_id();
-    struct leaf *leaf;
+    struct on_cpu *here = this_cpu();
+    u32 number = number_of(p), row, queue, own, other = MOST_CPUS;
+    u64 now = bpf_ktime_get_ns(), runtime = p->se.sum_exec_runtime;
 
-    if (!task || is_exempt(p)) {
+    if (!number || is_exempt(p)) {
+        if (number && task_at(number)->state != AWAY)
+            forget(p, number);
         scx_bpf_dsq_insert(p, SCX_DSQ_LOCAL, SLICE_NS, flags | SCX_ENQ_PREEMPT);
         return;
     }
-    find_leaf(p, task);
-    row = task->place.row;
-    leaf = leaf_of(row);
-    if (p->nr_cpus_allowed < cpus_online)
-        queue = p->nr_cpus_allowed == 1 ? IN_CPU : IN_SOME;
-    if (queue == IN_CPU)
-        own = scx_bpf_task_cpu(p);
+    if (is_extended(p, number)) {
+        scx_bpf_dsq_insert(p, SCX_DSQ_LOCAL, MOMENT_NS, flags);
+        return;
+    }
+    row = row_of(p, number);
+    queue = queue_of(p, row);
+    own = scx_bpf_task_cpu(p);
+    if (queue == SOME_QUEUE)
+        copy_mask(p, number);
 
     bpf_spin_lock(&lock);
-    if (!task->is_there) {
-        come(task, leaf);
-        at = ++steps;
-    }
-    count_waiting(leaf, now, 1);
-    if (queue == IN_LEAF) {
-        leaf->ready++;
-        play(row);
-    }
-    clock = leaf->clock;
+    arrive(here, number, row, runtime, now);
+    push(number, queue, now);
+    play(row);
+    own = idle_for(number, own);
+    if (own == MOST_CPUS && (flags & SCX_ENQ_WAKEUP))
+        other = ahead_of(number);
     bpf_spin_unlock(&lock);
 
-    task->queue = queue;
-    task->queued_ns = now;
-    task->cpu = own;
-    if (queue == IN_LEAF) {
-        scx_bpf_dsq_insert(p, LEAF_QUEUES + row, slice_of(p), flags);
-    } else if (queue == IN_CPU) {
-        __sync_fetch_and_add(&on_cpu(own)->bound, 1);
-        scx_bpf_dsq_insert_vtime(p, CPU_QUEUES + own, slice_of(p), clock, flags);
-    } else {
-        __sync_fetch_and_add(&bound_to_some, 1);
-        scx_bpf_dsq_insert_vtime(p, SOME_QUEUE, slice_of(p), clock, flags);
-    }
-    if (at)
-        tell(at, EVENT_WAKE, row, 0, 0, 0);
-    if (flags & SCX_ENQ_WAKEUP)
-        preempt(p, row, queue, own);
+    tell(here);
+    if (own < MOST_CPUS)
+        scx_bpf_kick_cpu(own, 0);
+    else if (other < MOST_CPUS)
+        scx_bpf_kick_cpu(other, SCX_KICK_PREEMPT);
 }
 
-/* The row of the first task of a queue that a CPU may run now. */
-static __noinline u32 row_of_first(u64 queue, u32 cpu)
+/* The kernel takes a task back to change it, or to move it. */
+SEC("struct_ops/plan_dequeue")
+void BPF_PROG(plan_dequeue, struct task_struct *p, u64 flags)
 {
-    struct task_struct *p;
-    u32 found = NOBODY;
+    u32 number = number_of(p);
+    struct task *task = task_at(number);
 
-    bpf_for_each(scx_dsq, p, queue, 0) {
-        struct task *task = task_of(p);
-        if (!task || leaf_of(task->place.row)->is_stopped)
-            continue;
-        if (!bpf_cpumask_test_cpu(cpu, p->cpus_ptr))
-            continue;
-        found = task->place.row;
-        break;
-    }
-    return found;
-}
-
-static __always_inline u64 queue_of(u32 queue, u32 row, u32 cpu)
-{
-    return queue == IN_LEAF ? LEAF_QUEUES + row : queue == IN_CPU ? CPU_QUEUES + cpu : SOME_QUEUE;
-}
-
-/* Gives a CPU the first task of a queue that it may run now, of a row. */
-static __noinline bool take(u64 queue, u32 cpu, u32 row)
-{
-    struct task_struct *p;
-    bool is_taken = false;
-
-    bpf_for_each(scx_dsq, p, queue, 0) {
-        struct task *task = task_of(p);
-        if (!task || task->place.row != row || !bpf_cpumask_test_cpu(cpu, p->cpus_ptr))
-            continue;
-        if (!scx_bpf_dsq_move(ITERATOR, p, SCX_DSQ_LOCAL, 0))
-            continue;
-        if (task->queue == IN_CPU)
-            __sync_fetch_and_add(&on_cpu(cpu)->bound, -1);
-        else if (task->queue == IN_SOME)
-            __sync_fetch_and_add(&bound_to_some, -1);
-        task->queue = IN_NONE;
-        task->is_charged = 1;
-        task->cpu = cpu;
-        is_taken = true;
-        break;
-    }
-    return is_taken;
-}
-
-/* Chooses for a CPU, with the lock: the leaf with the least clock of the tree, and of the queues of
- * tasks that may run here; or the task before, if its leaf's clock is less. What is chosen goes
- * through memory, where the verifier forgets which branch was taken. */
-static __always_inline void choose(struct on_cpu *on, struct task *before, u32 prev_row,
-                                   bool is_last)
-{
-    on->chosen = is_last ? NOBODY : winners[1];
-    on->queue = IN_LEAF;
-    on->goes_on = 0;
-    if (is_first(on->own, on->chosen)) {
-        on->chosen = on->own;
-        on->queue = IN_CPU;
-    }
-    if (is_first(on->some, on->chosen)) {
-        on->chosen = on->some;
-        on->queue = IN_SOME;
-    }
-    if (before && !leaf_of(prev_row)->is_stopped
-        && is_first(prev_row, on->chosen)) {
-        on->chosen = prev_row;
-        on->goes_on = 1;
-    }
-}
-
-/* Ends the slice of the task before, if one is charged. */
-static __noinline void end_before(struct task_struct *prev, struct task *before, u32 cpu)
-{
-    u32 row = before->place.row;
-    u64 used, at;
-
-    if (!before->is_charged)
+    if (!number)
         return;
     bpf_spin_lock(&lock);
-    used = end(before, prev, leaf_of(row));
-    play(row);
-    at = ++steps;
-    bpf_spin_unlock(&lock);
-    tell(at, EVENT_END, row, cpu, used, 1);
-}
-
-/* Undoes a pick that found no task: it is on its way into the queue, or went. */
-static __noinline void undo(u32 cpu, u32 row, u32 queue, u64 now)
-{
-    struct leaf *leaf = leaf_of(row);
-
-    bpf_spin_lock(&lock);
-    discharge(on_cpu(cpu), leaf);
-    count_waiting(leaf, now, 1);
-    if (queue == IN_LEAF)
-        leaf->ready++;
-    play(row);
-    bpf_spin_unlock(&lock);
-}
-
-/* Picks for a CPU. Returns false if it has to be tried again. */
-static __noinline bool pick(struct task_struct *prev, struct task *before, u32 cpu, bool is_last)
-{
-    struct on_cpu *on = on_cpu(cpu);
-    u32 row, queue;
-    u64 now = bpf_ktime_get_ns(), at;
-
-    on->own = on->some = NOBODY;
-    if (on->bound > 0)
-        on->own = row_of_first(CPU_QUEUES + cpu, cpu);
-    if (bound_to_some > 0)
-        on->some = row_of_first(SOME_QUEUE, cpu);
-
-    bpf_spin_lock(&lock);
-    choose(on, before, before ? before->place.row : 0, is_last);
-    row = on->chosen;
-    if (row < NOBODY) {
-        struct leaf *leaf = leaf_of(row);
-        charge(on, row);
-        if (!on->goes_on) {
-            count_waiting(leaf, now, -1);
-            leaf->ready -= on->queue == IN_LEAF;
-        }
-        play(row);
+    if (task->state == QUEUED) {
+        take_out(number);
+        set_ready(task, false);
+        play(task->row);
     }
-    at = ++steps;
     bpf_spin_unlock(&lock);
-
-    if (row >= NOBODY)
-        return true;
-    queue = on->queue;
-    if (on->goes_on && before) {
-        before->is_charged = 1;
-        before->cpu = cpu;
-        scx_bpf_task_set_slice(prev, slice_of(prev));
-    } else if (take(queue_of(queue, row, cpu), cpu, row)) {
-        leaf_of(row)->missed = 0;
-    } else {
-        undo(cpu, row, queue, now);
-        return false;
-    }
-    tell(at, EVENT_PICK, row, cpu, 0, 0);
-    return true;
 }
 
+/* Hands a picked task to the CPU on which this runs. The kernel waits until it has arrived. */
+static __always_inline void hand_over(u32 number)
+{
+    struct holder *holder = bpf_map_lookup_elem(&holders, &number);
+    struct task_struct *p = holder ? holder->task : 0;
+
+    if (p)
+        scx_bpf_dsq_insert(p, SCX_DSQ_LOCAL, slice_of(p), 0);
+}
+
+/* The slice of the task before ends when the kernel hands it over, unless it goes on. */
 SEC("struct_ops/plan_dispatch")
 void BPF_PROG(plan_dispatch, s32 cpu, struct task_struct *prev)
 {
-    struct task *before = 0;
-    u32 tries;
+    struct on_cpu *on = on_cpu(cpu);
+    u32 before = 0, found;
+    u64 now = bpf_ktime_get_ns(), runtime = 0;
 
-    if (prev && (prev->scx.flags & SCX_TASK_QUEUED) && !is_exempt(prev)) {
-        before = task_of(prev);
-        if (before)
-            end_before(prev, before, cpu);
-    }
-    bpf_for(tries, 0, MOST_TRIES) {
-        bool is_last = tries == MOST_TRIES - 1;
-        if (pick(prev, before, cpu, is_last)) {
-            /* no CPU idles for a task that is on its way */
-            if (is_last && winners[1] < NOBODY)
-                scx_bpf_kick_cpu(cpu, 0);
-            return;
-        }
-    }
-}
-
-/* Takes a task out of the counts of the queue in which it waits. */
-static __always_inline void leave_queue(struct task *task, struct leaf *leaf, u64 now)
-{
-    if (task->queue == IN_NONE)
+    if (prev && (prev->scx.flags & SCX_TASK_QUEUED) && !is_exempt(prev))
+        before = number_of(prev);
+    if (before && is_extended(prev, before)) {
+        scx_bpf_task_set_slice(prev, MOMENT_NS);
         return;
-    count_waiting(leaf, now, -1);
-    if (task->queue == IN_LEAF)
-        leaf->ready--;
-    else if (task->queue == IN_CPU)
-        __sync_fetch_and_add(&on_cpu(task->cpu)->bound, -1);
-    else
-        __sync_fetch_and_add(&bound_to_some, -1);
-    task->queue = IN_NONE;
+    }
+    if (before) {
+        runtime = prev->se.sum_exec_runtime;
+        /* one that was moved comes to its new leaf when it is handed over */
+        if (task_at(before)->tree != tree || task_at(before)->state != RUNS)
+            before = 0;
+    }
+    bpf_spin_lock(&lock);
+    found = choose(cpu, now);
+    if (before && goes_on(before, found, runtime, now)) {
+        arrive(on, before, task_at(before)->row, runtime, now);
+        found = before;
+    }
+    if (found)
+        run(on, found, cpu, now);
+    set_idle(on, !found);
+    bpf_spin_unlock(&lock);
+
+    tell(on);
+    if (found && found == before)
+        scx_bpf_task_set_slice(prev, slice_of(prev));
+    else if (found)
+        hand_over(found);
 }
 
 SEC("struct_ops/plan_running")
 void BPF_PROG(plan_running, struct task_struct *p)
 {
-    struct task *task = task_of(p);
-    u32 cpu = bpf_get_smp_processor_id(), row;
-    u64 now = bpf_ktime_get_ns(), wake_at = 0, pick_at = 0;
-    struct leaf *leaf;
+    struct on_cpu *here = this_cpu();
+    u32 number = number_of(p), row, cpu;
+    u64 now = bpf_ktime_get_ns(), runtime = p->se.sum_exec_runtime;
 
-    if (!task || is_exempt(p) || task->is_charged)
+    if (!number || is_exempt(p) || task_at(number)->state == RUNS)
         return;
-    find_leaf(p, task);
-    row = task->place.row;
-    leaf = leaf_of(row);
-    /* an idle CPU took it, or the kernel lets it go on after a change of it */
+    /* it ran already when the scheduler was loaded, maybe on another CPU */
+    row = row_of(p, number);
+    cpu = scx_bpf_task_cpu(p);
     bpf_spin_lock(&lock);
-    leave_queue(task, leaf, now);
-    if (!task->is_there) {
-        come(task, leaf);
-        wake_at = ++steps;
-    }
-    charge(on_cpu(cpu), row);
-    play(row);
-    task->is_charged = 1;
-    task->cpu = cpu;
-    pick_at = ++steps;
+    arrive(here, number, row, runtime, now);
+    run(here, number, cpu, now);
     bpf_spin_unlock(&lock);
-    if (wake_at)
-        tell(wake_at, EVENT_WAKE, row, 0, 0, 0);
-    tell(pick_at, EVENT_PICK, row, cpu, 0, 0);
-}
-
-SEC("struct_ops/plan_stopping")
-void BPF_PROG(plan_stopping, struct task_struct *p, bool is_runnable)
-{
-    struct task *task = task_of(p);
-    u32 row;
-    u64 used, at;
-
-    if (!task || is_exempt(p))
-        return;
-    /* a higher class took the CPU: the slice goes on after it */
-    if (!task->is_charged || (is_runnable && p->scx.slice))
-        return;
-    row = task->place.row;
-    bpf_spin_lock(&lock);
-    used = end(task, p, leaf_of(row));
-    play(row);
-    at = ++steps;
-    bpf_spin_unlock(&lock);
-    tell(at, EVENT_END, row, task->cpu, used, is_runnable);
+    tell(here);
 }
 
 SEC("struct_ops/plan_quiescent")
 void BPF_PROG(plan_quiescent, struct task_struct *p, u64 flags)
 {
-    struct task *task = task_of(p);
-    u64 now = bpf_ktime_get_ns(), used = 0, at = 0;
-    u32 row;
-    struct leaf *leaf;
+    u32 number = number_of(p);
 
-    if (!task)
+    /* (a task that is changed while it runs goes on) */
+    if (number && (flags & SCX_DEQ_SLEEP))
+        forget(p, number);
+}
+
+/* Who comes while a CPU does other work wakes another one. */
+SEC("struct_ops/plan_update_idle")
+void BPF_PROG(plan_update_idle, s32 cpu, bool is_idle)
+{
+    if (is_idle)
         return;
-    row = task->place.row;
-    leaf = leaf_of(row);
     bpf_spin_lock(&lock);
-    leave_queue(task, leaf, now);
-    if (task->is_charged) {
-        used = end(task, p, leaf);
-        at = ++steps;
-    }
-    if (task->is_there) {
-        leaf->there--;
-        task->is_there = 0;
-    }
-    play(row);
+    set_idle(on_cpu(cpu), false);
     bpf_spin_unlock(&lock);
-    if (at)
-        tell(at, EVENT_END, row, task->cpu, used, 0);
+}
+
+/* A number for a task; 0 if there is none left. */
+static __always_inline u32 take_number(void)
+{
+    u32 number;
+
+    bpf_spin_lock(&lock);
+    number = first_free;
+    if (number)
+        first_free = task_at(number)->next;
+    else if (numbers < MOST_TASKS)
+        number = numbers++;
+    bpf_spin_unlock(&lock);
+    return number;
 }
 
 SEC("struct_ops.s/plan_init_task")
 s32 BPF_PROG(plan_init_task, struct task_struct *p, struct scx_init_task_args *args)
 {
-    struct task *task = bpf_task_storage_get(&tasks, p, 0, BPF_LOCAL_STORAGE_GET_F_CREATE);
+    u32 *kept = bpf_task_storage_get(&task_numbers, p, 0, BPF_LOCAL_STORAGE_GET_F_CREATE);
+    struct holder *holder;
+    struct task_struct *own;
+    u32 number;
 
-    if (!task)
+    if (!kept)
         return -ENOMEM;
-    /* what an earlier load left of it */
-    task->place.tree = task->place.row = 0;
-    task->is_there = task->is_charged = 0;
-    task->queue = IN_NONE;
+    number = take_number();
+    *kept = number;
+    holder = bpf_map_lookup_elem(&holders, &number);
+    if (!number || !holder) {
+        unplanned++;
+        return 0;
+    }
+    own = bpf_task_acquire(p);
+    if (!own)
+        return -ENOMEM;
+    own = bpf_kptr_xchg(&holder->task, own);
+    if (own)
+        bpf_task_release(own);
+    task_at(number)->state = AWAY;
+    task_at(number)->row = task_at(number)->tree = 0;
     return 0;
+}
+
+SEC("struct_ops/plan_exit_task")
+void BPF_PROG(plan_exit_task, struct task_struct *p, struct scx_exit_task_args *args)
+{
+    u32 number = number_of(p);
+    struct holder *holder = bpf_map_lookup_elem(&holders, &number);
+    struct task_struct *own;
+
+    if (!number || !holder)
+        return;
+    forget(p, number);
+    own = bpf_kptr_xchg(&holder->task, 0);
+    if (own)
+        bpf_task_release(own);
+    bpf_spin_lock(&lock);
+    task_at(number)->next = first_free;
+    first_free = number;
+    bpf_spin_unlock(&lock);
+    bpf_task_storage_delete(&task_numbers, p);
 }
 
 SEC("struct_ops/plan_enable")
 void BPF_PROG(plan_enable, struct task_struct *p)
 {
-    struct task *task = task_of(p);
     /* what it used in another class is not charged */
-    if (task)
-        task->charged_ns = p->se.sum_exec_runtime;
+    task_at(number_of(p))->charged_ns = p->se.sum_exec_runtime;
+}
+
+SEC("struct_ops/plan_disable")
+void BPF_PROG(plan_disable, struct task_struct *p)
+{
+    u32 number = number_of(p);
+    if (number)
+        forget(p, number);
 }
 
 SEC("struct_ops.s/plan_cgroup_init")
@@ -743,74 +471,44 @@ s32 BPF_PROG(plan_cgroup_init, struct cgroup *group, struct scx_cgroup_init_args
 SEC("struct_ops/plan_cgroup_move")
 void BPF_PROG(plan_cgroup_move, struct task_struct *p, struct cgroup *from, struct cgroup *to)
 {
-    struct task *task = task_of(p);
-    if (task)
-        task->place.tree = 0;
-}
-
-/* Gives tasks that waited for too long to the queue that each CPU takes first. */
-static __noinline int rescue(u32 row, u64 now)
-{
-    struct task_struct *p;
-
-    bpf_for_each(scx_dsq, p, LEAF_QUEUES + row, 0) {
-        struct task *task = task_of(p);
-        if (!task || now < task->queued_ns + LONGEST_WAIT_NS)
-            break;
-        if (!scx_bpf_dsq_move(ITERATOR, p, SCX_DSQ_GLOBAL, 0))
-            continue;
-        bpf_spin_lock(&lock);
-        leave_queue(task, leaf_of(row), now);
-        play(row);
-        bpf_spin_unlock(&lock);
-        rescued++;
-    }
-    return 0;
-}
-
-/* Sets a leaf's count right if its queue stays empty: no such case is known. */
-static __always_inline void heal(u32 row, u64 now)
-{
-    struct leaf *leaf = leaf_of(row);
-
-    if (scx_bpf_dsq_nr_queued(LEAF_QUEUES + row) > 0) {
-        leaf->missed = 0;
-        return;
-    }
-    if (++leaf->missed < MOST_MISSED)
-        return;
-    bpf_spin_lock(&lock);
-    count_waiting(leaf, now, -leaf->ready);
-    leaf->ready = 0;
-    leaf->missed = 0;
-    play(row);
-    bpf_spin_unlock(&lock);
-    healed++;
+    task_at(number_of(p))->tree = 0;
 }
 
 /* At the end of a period of limits: leaves that were stopped may run again, as far as they have not
- * spent more than the limit. */
+ * spent more than the limit. Returns whether one of them is free. */
+static __always_inline bool begin_period(u32 row)
+{
+    struct leaf *leaf = leaf_of(row);
+    bool was_stopped;
+
+    if (!leaf->limit_ns)
+        return false;
+    bpf_spin_lock(&lock);
+    was_stopped = leaf->is_stopped;
+    leaf->spent_ns -= leaf->spent_ns < leaf->limit_ns ? leaf->spent_ns : leaf->limit_ns;
+    leaf->is_stopped = leaf->spent_ns >= leaf->limit_ns;
+    play(row);
+    bpf_spin_unlock(&lock);
+    return was_stopped && !leaf->is_stopped;
+}
+
 static int on_beat(void *map, int *key, struct beat *beat)
 {
     u64 now = bpf_ktime_get_ns();
-    bool is_free = false;
+    bool is_free = false, is_full = false;
     u32 row, cpu;
 
-    beat->number++;
     bpf_for(row, 0, rows) {
         struct leaf *leaf = leaf_of(row);
-        if (leaf->limit_ns) {
-            bpf_spin_lock(&lock);
-            leaf->spent_ns -= leaf->spent_ns < leaf->limit_ns ? leaf->spent_ns : leaf->limit_ns;
-            is_free |= leaf->is_stopped;
-            leaf->is_stopped = leaf->spent_ns >= leaf->limit_ns;
-            play(row);
-            bpf_spin_unlock(&lock);
-        }
-        if (leaf->ready > 0)
-            heal(row, now);
-        if (leaf->ready > 0 && beat->number % 10 == 0)
-            rescue(row, now);
+        is_free |= begin_period(row);
+        is_full |= leaf->charged > MOST_CHARGE;
+        if (leaf->ready > 0 && is_late(queue_at(row)->first, now))
+            late_row = row;
+    }
+    if (is_full) {
+        bpf_spin_lock(&lock);
+        start_clocks(rows);
+        bpf_spin_unlock(&lock);
     }
     if (is_free) {
         bpf_for(cpu, 0, cpus_there)
@@ -820,78 +518,43 @@ static int on_beat(void *map, int *key, struct beat *beat)
     return 0;
 }
 
-static __always_inline s32 make_queue(u32 row)
-{
-    struct leaf *leaf = leaf_of(row);
-    s32 error = leaf->has_queue ? 0 : scx_bpf_create_dsq(LEAF_QUEUES + row, -1);
-    if (!error)
-        leaf->has_queue = 1;
-    return error;
-}
-
-/* Sets the amounts and limits that the loader wrote: a common start of all clocks, at which what
- * runs is picked. */
+/* Takes the amounts and limits that the loader wrote: a common start of all clocks. */
 static __noinline int start(void)
 {
     u32 row;
 
     bpf_spin_lock(&lock);
     bpf_for(row, 0, rows) {
-        if (is_before(greatest, leaf_of(row)->clock))
-            greatest = leaf_of(row)->clock;
-    }
-    bpf_for(row, 0, rows) {
         struct leaf *leaf = leaf_of(row);
         struct given *each = &given[WITHIN(row, MOST_LEAVES)];
         leaf->amount = each->amount ? each->amount : 1;
-        leaf->stride = SLICE_NS * CLOCK_UNIT / leaf->amount;
         leaf->limit_ns = each->limit_ns;
         leaf->is_stopped = leaf->is_stopped && leaf->limit_ns;
-        leaf->clock = greatest + leaf->running * leaf->stride;
-        play(row);
     }
+    start_clocks(rows);
     bpf_spin_unlock(&lock);
     return 0;
 }
 
-/* Takes a new plan. New rows have their queues before a task finds them. */
 SEC("syscall")
 int take_plan(void *context)
 {
-    u32 row;
-
-    bpf_for(row, 0, rows) {
-        s32 error = make_queue(row);
-        if (error)
-            return error;
-    }
     return start();
 }
 
 SEC("struct_ops.s/plan_init")
 s32 BPF_PROG(plan_init)
 {
-    u32 key = 0, cpu, row, node;
+    u32 key = 0, node;
     struct beat *beat = bpf_map_lookup_elem(&beats, &key);
-    s32 error = scx_bpf_create_dsq(SOME_QUEUE, -1);
 
     bpf_for(node, 0, 2 * MOST_LEAVES)
         winners[WITHIN(node, 2 * MOST_LEAVES)] = NOBODY;
-    bpf_for(cpu, 0, cpus_there) {
-        on_cpu(cpu)->is_busy = on_cpu(cpu)->bound = 0;
-        if (!error)
-            error = scx_bpf_create_dsq(CPU_QUEUES + cpu, -1);
-    }
-    bound_to_some = 0;
-    bpf_for(row, 0, rows) {
-        struct leaf *leaf = leaf_of(row);
-        leaf->there = leaf->waiting = leaf->ready = leaf->running = 0;
-        leaf->has_queue = 0;
-        if (!error)
-            error = make_queue(row);
-    }
-    if (error || !beat)
-        return error ? error : -ENOMEM;
+    /* (what was before has left its leaf, and given its number back) */
+    numbers = 1;
+    first_free = 0;
+    if (!beat)
+        return -ENOMEM;
     start();
     bpf_timer_init(&beat->timer, &beats, 1);
     bpf_timer_set_callback(&beat->timer, on_beat);
@@ -913,17 +576,21 @@ SEC(".struct_ops.link")
 struct sched_ext_ops plan_ops = {
     .select_cpu = (void *)plan_select_cpu,
     .enqueue = (void *)plan_enqueue,
+    .dequeue = (void *)plan_dequeue,
     .dispatch = (void *)plan_dispatch,
     .running = (void *)plan_running,
-    .stopping = (void *)plan_stopping,
     .quiescent = (void *)plan_quiescent,
+    .update_idle = (void *)plan_update_idle,
     .init_task = (void *)plan_init_task,
+    .exit_task = (void *)plan_exit_task,
     .enable = (void *)plan_enable,
+    .disable = (void *)plan_disable,
     .cgroup_init = (void *)plan_cgroup_init,
     .cgroup_move = (void *)plan_cgroup_move,
     .init = (void *)plan_init,
     .exit = (void *)plan_exit,
-    .flags = SCX_OPS_ENQ_LAST,
+    .flags = SCX_OPS_KEEP_BUILTIN_IDLE | SCX_OPS_ENQ_LAST | SCX_OPS_ENQ_EXITING
+         | SCX_OPS_ENQ_MIGRATION_DISABLED,
     .timeout_ms = TIMEOUT_MS,
     .name = "arbiter_plan",
 };

@@ -10,12 +10,18 @@
 #define LEVELS 12
 #define MOST_LEAVES (1 << LEVELS)
 #define MOST_CPUS 512
+/* Tasks that are planned, and one number that is none. */
+#define MOST_TASKS (1 << 16)
 /* A slice of a CPU. The kernel ends it at a tick, so it may last a tick longer. */
 #define SLICE_NS 3000000ULL
 /* Limits are in each of these. */
 #define LIMIT_PERIOD_NS 100000000ULL
-/* A clock is in nanoseconds, times this, over the amount. */
-#define CLOCK_UNIT 16384ULL
+/* Amounts are no greater, so that a charge to one leaf is none of more than 64 bits to another. */
+#define MOST_AMOUNT 1000000ULL
+/* All clocks begin anew when a leaf is charged as much: 18 minutes of a CPU. */
+#define MOST_CHARGE (1ULL << 40)
+/* Steps of the rule in one section of the lock. */
+#define MOST_STEPS 4
 
 /* What a new plan gives a row: an amount in slices of the plan, 1 or more, and a limit, 0 for none.
  */
@@ -25,10 +31,9 @@ struct given {
 };
 
 struct leaf {
-    /* Charged over amount: in advance at each pick, corrected when the slice ends. */
-    __u64 clock;
-    /* How far a whole slice takes the clock. */
-    __u64 stride;
+    /* Nanoseconds: a whole slice at each pick, corrected when the slice ends. Its clock is this
+     * over its amount. */
+    __u64 charged;
     __u64 amount;
     __u64 limit_ns;
     /* What it used of the limit in this period, and whether it waits for the next. */
@@ -40,9 +45,6 @@ struct leaf {
     __s32 running;
     __s32 waiting;
     __s32 ready;
-    /* Beats in a row at which its queue was empty, and its count was not. */
-    __u32 missed;
-    __u32 has_queue;
     __u32 pad;
     /* What it used, what its tasks waited in sum, and how long one or more waited: up to
      * `until_ns`.
@@ -56,22 +58,6 @@ struct leaf {
     __u64 stops;
 };
 
-/* What runs on a CPU, in a line of the cache of its own. */
-struct on_cpu {
-    __u32 row;
-    __u32 is_busy;
-    /* Tasks that wait in its queue. */
-    __s32 bound;
-    /* What a pick has chosen: a row, the kind of queue, and whether that task runs already. */
-    __u32 chosen;
-    __u32 queue;
-    __u32 goes_on;
-    /* Rows of the first tasks that it may run of its queue and of the queue of some CPUs. */
-    __u32 own;
-    __u32 some;
-    __u32 pad[8];
-};
-
 enum event_kind { EVENT_WAKE, EVENT_PICK, EVENT_END };
 
 /* One step of the rule, in the order of `at`. */
@@ -82,5 +68,23 @@ struct event {
     __u32 row;
     __u32 cpu;
     __u32 remains;
+};
+
+/* A CPU is two processors of the rule, that it uses in turn: it picks its next task before the last
+ * one has left. */
+struct on_cpu {
+    /* The task that it was given last and its leaf, and the one that is leaving. */
+    __u32 task;
+    __u32 row;
+    __u32 left_task;
+    __u32 left_row;
+    /* Which of the two the last one has. */
+    __u32 seat;
+    /* Whether it found nobody. */
+    __u32 is_idle;
+    /* Steps that are not told yet. */
+    __u32 steps;
+    __u32 pad;
+    struct event noted[MOST_STEPS];
 };
 #endif

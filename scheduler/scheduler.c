@@ -47,7 +47,8 @@ typedef __s32 s32;
 #define STATE "/sys/kernel/sched_ext/state"
 #define TYPES "/sys/kernel/btf/vmlinux"
 #define MOST_LINE 200
-#define MOST_AMOUNT 1000000000ULL
+/* Slices of a plan: its amounts are scaled to `MOST_AMOUNT`. */
+#define MOST_SLICES 1000000000ULL
 /* Bytes of the ring of steps: some minutes of a small host. */
 #define TRACE_BYTES (16 << 20)
 #define DEFAULT_WEIGHT 100
@@ -248,11 +249,22 @@ static bool drop_old(void)
     return has_dropped;
 }
 
+/* Amounts above the most that the scheduler takes are all made less, in proportion. */
+static void scale(u64 slices)
+{
+    u32 shift = 0;
+    while (slices >> shift > MOST_AMOUNT)
+        shift++;
+    for (u32 row = 0; row < rows && shift; row++)
+        program->bss->given[row].amount >>= shift;
+}
+
 static void take_plan(u64 slices, u64 given, bool is_new)
 {
     LIBBPF_OPTS(bpf_test_run_opts, options);
     u64 least = slices * (1 - planned_part()), left = slices > given ? slices - given : 0;
     program->bss->given[0].amount = left > least ? left : least;
+    scale(slices > given ? slices : given);
     is_new |= drop_old();
     program->data->rows = rows;
     /* the scheduler begins with the first plan */
@@ -316,14 +328,14 @@ static void obey(char *line)
     static bool is_open, is_new;
     char *rest = line, *word = strsep(&rest, " ");
     if (strcmp(word, "plan") == 0 && !is_open) {
-        slices = number(rest, MOST_AMOUNT);
+        slices = number(rest, MOST_SLICES);
         given = 0;
         is_open = true;
         is_new = false;
         plans++;
     } else if (strcmp(word, "leaf") == 0 && is_open) {
         u64 group = number(strsep(&rest, " "), ~0ULL);
-        u64 amount = number(strsep(&rest, " "), MOST_AMOUNT);
+        u64 amount = number(strsep(&rest, " "), MOST_SLICES);
         u64 limit = number(rest, LIMIT_PERIOD_NS * MOST_CPUS);
         u32 before = rows, row = row_of(group);
         is_new |= before != rows || !table[row].plan;
@@ -394,7 +406,8 @@ static void write_trace(void)
     if (!file)
         fail("%s: %s", trace, strerror(errno));
     qsort(steps, step_count, sizeof *steps, by_order);
-    fprintf(file, "processors %u\nslice %llu\n", program->rodata->cpus_there, SLICE_NS);
+    /* (a CPU is two processors of the rule) */
+    fprintf(file, "processors %u\nslice %llu\n", 2 * program->rodata->cpus_there, SLICE_NS);
     for (u32 row = 0; row < rows; row++)
         fprintf(file, "leaf %u %llu\n", row, (u64)program->bss->leaves[row].amount);
     for (size_t at = 0; at < step_count; at++) {
@@ -441,8 +454,8 @@ static void serve(void)
     bpf_link__destroy(link_);
     if (ring)
         write_trace();
-    fprintf(stderr, "arbiter-scheduler: ended after %llu plans; counts set right %llu"
-        ", taken out of turn %llu\n", plans, (u64)program->bss->healed, (u64)program->bss->rescued);
+    fprintf(stderr, "arbiter-scheduler: ended after %llu plans; out of turn %llu, tasks unplanned"
+        " %llu\n", plans, (u64)program->bss->rescued, (u64)program->bss->unplanned);
 }
 
 int main(int count, char **words)

@@ -1,24 +1,29 @@
-"""A short run by the kernel's scheduler in a guest: the plan is served, and it goes when it ends.
+"""Short runs by the kernel's scheduler in guests: the plan is served by the proved rule, and the
+scheduler goes when it ends.
 
 It needs the newest kernel of Debian's backports, which is used where it was unpacked before
 (`./test --kernel` with `--kernels 7`), or with ARBITER_GUESTS set.
 """
+import json
 import os
 import shutil
+from pathlib import Path
 
 import pytest
 
-from kernel import held, layout, machine, packages, scenario
+from kernel import layout, machine, packages, scenario
 from kernel.faults import KernelFault
 from kernel.planned import use
-from laboratory import compare, readings
+from laboratory import compare, endured, readings, scheduled_page, traced
 from laboratory.__main__ import SCENARIOS
-from laboratory.held import own_limits, plan
 
 SPAN = layout.Span(seconds=3, settle=1, has_grid=False)
 NAMES = ("two-three", "two-pinned")
 # Hundredths of a CPU that a group may be off in three seconds, and the least part that is served.
 MOST_OFF, LEAST_SERVED = 3.0, 0.98
+# What it endured in a long run, and the seconds after which the watchdog sees a task that waits.
+RUN = Path(__file__).with_name("runs") / "endured.json"
+WATCHDOG = 20
 
 
 @pytest.fixture(scope="module", name="newest")
@@ -37,23 +42,59 @@ def newest_kernel():
         pytest.skip(str(fault))
 
 
-def test_the_plan_is_served(program, newest):
-    """Each group has what the plan gives it, a pinned task too; then weights rule again."""
+@pytest.fixture(scope="module", name="traced_runs")
+def runs_with_traces(program, newest):
+    """The scenarios, their runs in one guest, and the traces of the scheduler's steps."""
     use(program.path)
     found = {name: scenario.read(SCENARIOS / f"{name}.script") for name in NAMES}
-    scripts = []
-    for name, each in found.items():
-        amounts = plan(each)
-        early, beside = held.scheduler_lines(each, amounts, own_limits(each, amounts))
-        scripts.append(held.begun(layout.script(each, SPAN, beside, early)
-                                  + "echo scheduler is $(cat /sys/kernel/sched_ext/state)\n",
-                                  name))
-    lines = held.lines_of(newest, machine.Board(2), machine.Setting(4), scripts, None, True)
-    runs = list(readings.runs(lines))
-    assert [run.key for run in runs] == list(NAMES)
-    for run in runs:
-        outcome = compare.outcome_of(found[run.key], run, SPAN)
-        root, *groups = outcome.lines
-        assert [(line.path, line.off) for line in groups if abs(line.off) > MOST_OFF] == []
-        assert root.had >= LEAST_SERVED * root.share
-        assert "scheduler is disabled" in run.told, run.told
+    lines, traces = traced.traces(newest, machine.Setting(4), list(found.values()), SPAN)
+    return found, {run.key: run for run in readings.runs(lines)}, traces
+
+
+@pytest.mark.parametrize("name", NAMES)
+def test_the_plan_is_served(traced_runs, name):
+    """Each group has what the plan gives it, a pinned task too; then weights rule again."""
+    found, runs, _ = traced_runs
+    outcome = compare.outcome_of(found[name], runs[name], SPAN)
+    root, *groups = outcome.lines
+    assert [(line.path, line.off) for line in groups if abs(line.off) > MOST_OFF] == []
+    assert root.had >= LEAST_SERVED * root.share
+    assert any("ended after 1 plans; out of turn 0" in line for line in runs[name].told)
+
+
+def test_each_pick_is_one_that_the_rule_allows(traced_runs):
+    """All of a trace where each task may run on each CPU."""
+    trace = traced_runs[2]["two-three"]
+    if not traced.DISPATCH.is_file():
+        pytest.skip(f"no {traced.DISPATCH}")
+    assert traced.replayed(trace) == f"allowed: {trace.count('pick ')} picks"
+    assert trace.count("pick ") > 500
+
+
+def test_what_it_endures(newest):
+    """It is attached five times, killed and ended; one that picks nobody ends by the watchdog."""
+    if machine.ALL not in os.environ:
+        pytest.skip(f"it takes minutes: {machine.ALL}")
+    found = endured.shown(newest, 5, 1)
+    check_endured(found, 5, 1)
+
+
+def test_what_it_endured():
+    """The run of 500 times and four loads that is kept."""
+    check_endured(json.loads(RUN.read_text(encoding="utf-8")), 500, endured.LOADS)
+
+
+def test_page_has_the_tables():
+    """docs/kernel/scheduler.txt has what the runs give."""
+    assert scheduled_page.tables() in scheduled_page.PAGE.read_text(encoding="utf-8")
+
+
+def check_endured(found, cycles, loads):
+    """All ended as they should, no slower than in a second, the watchdog's within its time."""
+    times = found["milliseconds"]
+    assert (found["cycles"], found["enabled"]) == (str(cycles), 2 * loads)
+    assert [len(times[name]) for name in ("killed", "ended", "stalled")] == [loads, loads, 1]
+    assert max(times["killed"] + times["ended"]) < 1000
+    assert times["stalled"][0] < 1000 * (WATCHDOG + WATCHDOG / 2)
+    assert "the kernel ended the scheduler" in found["said"] and "stall" in found["kernel"]
+    assert all(used > 0 for name in ("before", "after") for used in found["used"][name].values())

@@ -341,7 +341,7 @@ def test_quota_is_moved():
 def test_guest_lines_are_read():
     """A run's counters, tasks and quota periods."""
     text = ["kernel 6.1", "clock tsc", "steal 2", "run here",
-            "times 1000000 2000000 3000000", "ready 900000",
+            "times 1000000 2000000 3000000", "ready 900000 1",
             "grid /sys/fs/cgroup/host/a/cpu.stat 1500000", "at 2000000",
             "file /sys/fs/cgroup/host/a/cpu.stat", "usage_usec 5", "nr_periods 1",
             "file /proc/stat", "cpu  1 2 3 4 5 6 7 8", "at 3000000",
@@ -396,3 +396,12 @@ def test_unfinished_guest_is_refused(second):
              "usage_usec 5", *second, "usage_usec 9", "task a 9 10 0 2 3 40 2"]
     with pytest.raises(KernelFault, match="did not read it whole"):
         list(readings.runs(lines))
+
+
+def test_a_task_that_never_began_is_refused():
+    """Each task that was started has its line; a command that the guest lacks has none."""
+    lines = ["run here", "times 1 2 3", "ready 1 2", "at 2", "at 3", "task a 9 10 0 2 3 40 2",
+             "sh: chrt: not found"]
+    with pytest.raises(KernelFault, match=r"1 of 2 tasks .* never began: \['sh: chrt: not found'\]"):
+        list(readings.runs(lines))
+    assert len(list(readings.runs([*lines, "task a 9 10 0 2 3 40 2"]))) == 1

@@ -66,20 +66,25 @@ def loop_line(scenario: Scenario, way: Way) -> str:
     return f"{' '.join(words)} &"
 
 
-def scheduler_lines(scenario: Scenario, amounts: dict[str, int], limits: dict[str, int]
-                    ) -> tuple[str, str]:
+def scheduler_lines(scenario: Scenario, amounts: dict[str, int], limits: dict[str, int],
+                    has_trace: bool = False) -> tuple[str, str]:
     """The lines of a guest's script that load the scheduler with a plan, and that which ends it.
-    Limits are nanoseconds of 100 ms."""
+    Limits are nanoseconds of 100 ms. With a trace each step of the rule is told."""
     slices = scenario.processors * scenario.period // scenario.slice
     plan = "; ".join([f"echo plan {slices}", *(
         f"echo leaf $(stat -c %i {shlex.quote(layout.place(path))}) {amounts[path]}"
         f" {limits.get(path, 0)}" for path in scenario.leaves), "echo end"])
-    early = (f"rm -f /plan.in; mkfifo /plan.in\n/arbiter-scheduler {layout.HOME} < /plan.in"
+    trace = "--trace /steps " if has_trace else ""
+    early = (f"rm -f /plan.in; mkfifo /plan.in\n/arbiter-scheduler {trace}{layout.HOME} < /plan.in"
              " > /plan.out 2>&1 &\nscheduler=$!\nexec 9> /plan.in\n"
              f"{{ {plan}; }} >&9\n"
              "until grep -q -v ready /plan.out; do sleep 0.2; done")
-    beside = (f"(/guest until $last; echo read >&9; /guest until $((last + {SECOND // 4}));"
-              " kill $scheduler; wait; sed 's/^/scheduler /' /plan.out) &\nexec 9>&-")
+    # (a scheduler that has ended closes the pipe: its last line has to be told still)
+    beside = ("(trap '' PIPE; /guest until $last; echo read >&9;"
+              f" /guest until $((last + {SECOND // 4}));"
+              " kill $scheduler; while kill -0 $scheduler 2> /dev/null; do sleep 0.1; done;"
+              " sed 's/^/scheduler /' /plan.out" + "; sed 's/^/step /' /steps" * has_trace
+              + ") &\nexec 9>&-")
     return early, beside
 
 
@@ -114,6 +119,18 @@ def rounds_in(lines: Sequence[str]) -> Held:
                  "hungry": bool(hungry), "want": want, "plan": amount,
                  "limit": None if limit == NO_LIMIT else limit})
     return found
+
+
+def traces_in(lines: Sequence[str]) -> tuple[list[str], dict[str, str]]:
+    """The other lines, and the trace of the scheduler's steps by run."""
+    others, found, key = list[str](), dict[str, list[str]](), ""
+    for line in lines:
+        key = line[4:] if line.startswith("run ") else key
+        if line.startswith("step "):
+            found.setdefault(key, []).append(f"{line[5:]}\n")
+        else:
+            others.append(line)
+    return others, {key: "".join(steps) for key, steps in found.items()}
 
 
 def begun(script: str, key: str) -> str:

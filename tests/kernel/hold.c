@@ -31,6 +31,8 @@
 struct group {
     const char *path;
     char own[64];        /* the text of its cpu.max at the beginning */
+    uint64_t own_quota;  /* its quota and period; the quota is 0 for no limit */
+    uint64_t own_period;
     uint64_t quota;      /* the quota that was written last, 0 while its own stands */
     long weight;         /* the weight that was written last */
     int is_leaf, is_limited;
@@ -48,7 +50,7 @@ static struct task tasks[MOST_TASKS];
 static uint32_t parents[MOST], places[MOST];
 static uint64_t weights[MOST], limits[MOST], used[MOST], held[MOST], demands[MOST], amounts[MOST];
 static uint64_t asked[MOST], nums[MOST], dens[MOST], quotas[MOST], leaf_weights[MOST];
-static uint32_t hungry[MOST];
+static uint32_t hungry[MOST], guess[MOST];
 /* Whether a leaf asks for everything. */
 static uint8_t for_all[MOST], flags[MOST];
 /* What each task of a group did in a round that was there at both of its ends. */
@@ -115,7 +117,6 @@ static uint32_t row_of(const char *path, size_t size) {
 static void add(const char *path) {
     struct group *group = &groups[count];
     const char *last = strrchr(path, '/');
-    uint64_t quota = 0, own_period = 100000;
     if (count == MOST)
         fail("groups", path);
     group->path = path;
@@ -126,9 +127,11 @@ static void add(const char *path) {
     snprintf(group->own, sizeof group->own, "%.63s", get(path, "cpu.max"));
     group->own[strcspn(group->own, "\n")] = 0;
     limits[count] = ARBITER_NO_LIMIT;
-    group->is_limited = sscanf(group->own, "%lu %lu", &quota, &own_period) == 2;
+    group->is_limited =
+        sscanf(group->own, "%lu %lu", &group->own_quota, &group->own_period) == 2;
     if (group->is_limited
-        && arbiter_slices(processors, period, SLICE, quota, own_period, &limits[count]) != 0)
+        && arbiter_slices(processors, period, SLICE, group->own_quota, group->own_period,
+                          &limits[count]) != 0)
         fail("quota", path);
     count++;
 }
@@ -163,6 +166,13 @@ static uint32_t read_tasks(const char *path, int round, size_t *seen) {
     return there;
 }
 
+/* Microseconds that the limit which stands in a group allowed in so much time. */
+static uint64_t allowed(const struct group *group, uint64_t passed) {
+    uint64_t quota = group->quota ? group->quota : group->own_quota;
+    uint64_t of = group->quota ? period : group->own_period;
+    return quota ? quota * (passed / 1000) / of : ARBITER_NO_LIMIT;
+}
+
 /* What is read of the leaf of a row in a round in which so much time passed. */
 static void read_leaf(struct group *group, size_t row, int round, int64_t passed) {
     const char *stat = get(group->path, "cpu.stat");
@@ -174,8 +184,9 @@ static void read_leaf(struct group *group, size_t row, int round, int64_t passed
     if (passed
         && arbiter_reading(processors, period, SLICE, passed, usage - group->usage,
                            waited - group->waited, there,
-                           group->is_limited && throttled > group->throttled, ran, seen, stood,
-                           seen, &used[row], &asked[row], &hungry[row]) != 0)
+                           group->is_limited && throttled > group->throttled,
+                           allowed(group, passed), ran, seen, stood, seen, &used[row],
+                           &asked[row], &hungry[row], &guess[row]) != 0)
         fail("reading", group->path);
     for_all[row] = asked[row] == EVERYTHING;
     if (for_all[row])

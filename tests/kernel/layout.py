@@ -137,7 +137,7 @@ def script(scenario: Scenario, span: Span, beside: str = "", early: str = "") ->
         *[f"/guest load load $first $last {scenario.period} 0 {(1 << scenario.processors) - 1:x}"
           f" {scenario.period} > /dev/null &"] * scenario.outside,
         *tasks,
-        "echo ready $(/guest now)",
+        f"echo ready $(/guest now) {len(tasks)}",
         "wait",
         f"find {HOME} -depth -type d -exec rmdir {{}} ';'",
         *([f"for word in $features; do echo $word > {FEATURES}; done"] if scenario.features

@@ -13,6 +13,7 @@ import json
 import sys
 from collections.abc import Iterator, Sequence
 from dataclasses import dataclass, replace
+from statistics import fmean
 from typing import Any
 
 from kernel import faults, layout, machine, packages
@@ -23,19 +24,38 @@ from kernel.scenario import Scenario
 from laboratory import compare, exact, planned, readings
 from laboratory.__main__ import LATER, sources
 
-# Most of the processors' time that others may use beside a loop.
+# Most of the processors' time that others may use beside a loop, or where tasks come and go.
 MOST_OTHERS = 0.03
 
 
-def plan(scenario: Scenario) -> dict[str, int]:
-    """The program's plan of the first step, in slices; demands are cut at a group's tasks."""
-    slices = {path: int(exact.usable(scenario, path, demand) * scenario.period
-                        / (100 * scenario.slice))
-              for path, demand in scenario.steps[0].items()}
+def planned_for(scenario: Scenario, slices: dict[str, int]) -> dict[str, int]:
+    """The program's plan of demands, in slices."""
     lines = [" ".join(words) for words in scenario.settings]
     lines += [f"demand {path} {amount}" for path, amount in slices.items()]
     answer = planned.answers(scenario, [*lines, "plan"])[-len(scenario.paths) - 1:]
     return {path: int(amount) for amount, path in (line.split(" ", 1) for line in answer)}
+
+
+def usable(scenario: Scenario, step: dict[str, int]) -> dict[str, int]:
+    """The demands of a step in slices of the plan, cut at each group's tasks."""
+    return {path: int(exact.usable(scenario, path, demand) * scenario.period
+                      / (100 * scenario.slice)) for path, demand in step.items()}
+
+
+def plan(scenario: Scenario) -> dict[str, int]:
+    """The program's plan of the first step, in slices; demands are cut at a group's tasks."""
+    return planned_for(scenario, usable(scenario, scenario.steps[0]))
+
+
+def entitled(scenario: Scenario) -> dict[str, int]:
+    """The amounts that the scheduler is given: the plan of the mean demands, as a round of it sees
+    them, or what a leaf gets where all want all if that is more. One that asks for less than this
+    comes and goes, and then it may catch up."""
+    whole = scenario.processors * scenario.period // scenario.slice
+    steps = [usable(scenario, step) for step in scenario.steps]
+    means = {path: round(fmean(step.get(path, 0) for step in steps)) for path in scenario.leaves}
+    most = planned_for(scenario, dict.fromkeys(scenario.leaves, whole))
+    return {path: max(amount, most[path]) for path, amount in planned_for(scenario, means).items()}
 
 
 def weights_of(scenario: Scenario, amounts: dict[str, int]) -> dict[str, int]:
@@ -67,12 +87,17 @@ def limits_of(scenario: Scenario, amounts: dict[str, int], way: Way) -> Iterator
 
 
 def own_limits(scenario: Scenario, amounts: dict[str, int]) -> dict[str, int]:
-    """The limits of the scheduler, in nanoseconds of 100 ms: a leaf's own one, and the plan of one
-    below a limit."""
-    own = scenario.files("cpu.max")
-    found = {path: int(1000000 * (exact.quota_of(text) or 0)) for path, text in own.items()}
-    below = {path for path in scenario.leaves for above in found if path.startswith(f"{above}/")}
-    return {**found, **{path: int(1000000 * scenario.points(amounts[path])) for path in below}}
+    """The limits of the scheduler, in nanoseconds of 100 ms: a leaf's own one, and of one below a
+    limit its part of that, as the plan has it."""
+    own = {path: 1000000 * (exact.quota_of(text) or 0)
+           for path, text in scenario.files("cpu.max").items()}
+    found = {}
+    for leaf in scenario.leaves:
+        parts = [quota * amounts[leaf] / max(amounts[path], 1) for path, quota in own.items()
+                 if path == leaf or leaf.startswith(f"{path}/")]
+        if parts:
+            found[leaf] = max(int(min(parts)), 1)
+    return found
 
 
 def held_by(scenario: Scenario, way: Way) -> Scenario:
@@ -105,9 +130,8 @@ class Job:
         """The script of the guest."""
         early, beside = "", loop_line(self.scenario, self.way) if self.way.is_loop else ""
         if self.way.is_scheduled:
-            amounts = plan(self.scenario)
-            early, beside = scheduler_lines(self.scenario, amounts,
-                                            own_limits(self.scenario, amounts))
+            early, beside = scheduler_lines(self.scenario, entitled(self.scenario),
+                                            own_limits(self.scenario, plan(self.scenario)))
         return layout.script(held_by(self.scenario, self.way), self.span, beside, early)
 
 
@@ -135,8 +159,10 @@ def ran(kernel: packages.Kernel, jobs: Sequence[Job], setting: machine.Setting
 
 
 def refusal_of(outcome: compare.Outcome, way: Way) -> str:
-    """Why a run says nothing. The loop's own time is that of others, and is more."""
-    if way.is_loop and outcome.others <= MOST_OTHERS:
+    """Why a run says nothing. The loop's own time is that of others, and is more. So is what the
+    kernel's own tasks do for tasks that end."""
+    has_forks = any(leaf.fork for leaf in outcome.scenario.leaves.values())
+    if (way.is_loop or has_forks) and outcome.others <= MOST_OTHERS:
         return replace(outcome, others=0).refusal
     return outcome.refusal
 

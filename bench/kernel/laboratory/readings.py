@@ -36,7 +36,7 @@ class Reading:
 class Run:
     """One run of a scenario. `grid` has the times at which quota periods began, by group.
 
-    `ready` is when the last task was started, in nanoseconds. `guest` is what the guest said of
+    `ready` is when the last task was started, in nanoseconds, and `started` their number. `guest` is what the guest said of
     itself: its kernel, its clock, and how many of its processors have a clock of stolen time
     (`steal`).
     """
@@ -52,6 +52,7 @@ class Run:
     # the middle one, of 99 of 100 and of the longest.
     pieces: list[tuple[str, int, int, int, int]] = field(default_factory=list)
     ready: int = 0
+    started: int = 0
     guest: dict[str, str] = field(default_factory=dict)
 
     def rose(self) -> dict[str, dict[str, int]]:
@@ -86,7 +87,7 @@ def add(run: Run, line: str, file: str) -> str:
     if words[:1] == ["times"]:
         run.times = tuple(map(int, words[1:]))
     elif words[:1] == ["ready"]:
-        run.ready = int(words[1])
+        run.ready, run.started = int(words[1]), int(words[2])
     elif words[:1] == ["at"]:
         run.readings.append(Reading(int(words[1])))
     elif words[:1] == ["others"]:
@@ -136,4 +137,7 @@ def checked(run: Run) -> Run:
     if (len(run.readings) != 2 or not run.tasks or len(run.times) != 3
             or run.readings[0].groups.keys() != run.readings[1].groups.keys()):
         raise KernelFault(f"{run.key}: the guest did not read it whole: {run.told[-3:]}")
+    if len(run.tasks) != run.started:
+        raise KernelFault(f"{run.key}: {len(run.tasks)} of {run.started} tasks told what they had:"
+                          f" a task never began: {run.told[-3:]}")
     return run

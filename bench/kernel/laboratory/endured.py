@@ -1,0 +1,152 @@
+"""What the scheduler endures: attached and detached, killed, loaded again under load, and stalled.
+
+    PYTHONPATH=tests:bench/kernel /usr/bin/python3 -m laboratory.endured [--cycles N] [--save FILE]
+
+One guest of two processors runs tasks of all kinds: spinners, a pinned one, one that may use one of
+two processors, forks and sleepers. It prints what happened as JSON.
+"""
+from __future__ import annotations
+
+import argparse
+import json
+import re
+import shutil
+import sys
+import tempfile
+from collections.abc import Sequence
+from pathlib import Path
+from typing import Any
+
+from kernel import faults, held, layout, machine, packages
+from kernel.scenario import parse
+
+TREE = "mkdir a\nwrite a cpu.weight 300\nmkdir b\nmkdir b/c\nmkdir d\n"
+LEAVES = {"a": 50, "b/c": 30, "d": 20}
+# The words of the tasks of each leaf, behind their end: a period or a job, a nap, a mask, work.
+TASKS = {"a": ["load a $now END 100000 0 3 100000"] * 2 + ["load a $now END 100000 0 1 100000"],
+         "b/c": ["farm c $now END 5000 3", "load c $now END 100000 0 2 100000"],
+         "d": ["load d $now END 100000 7000 3 3000", "load d $now END 100000 2000 2 1000"]}
+END = "9000000000000"
+LOADS = 2
+# The edit of a program that picks nobody, so that the kernel's watchdog has to end it.
+PICKS = "    found = choose(cpu, now);\n"
+PICKS_NOBODY = "    found = 0 * choose(cpu, now);\n"
+STATE = "/sys/kernel/sched_ext/state"
+MAKE = "make"
+
+
+def programs(folder: Path) -> dict[str, tuple[int, bytes]]:
+    """The loader, one of a scheduler that picks nobody, and the program that attaches it again."""
+    source, made = folder / "scheduler", folder / "out"
+    shutil.copytree(held.SCHEDULER, source)
+    main_file = source / "plan.bpf.c"
+    text = main_file.read_text(encoding="ascii")
+    if text.count(PICKS) != 1:
+        raise faults.KernelFault(f"{main_file}: no line {PICKS.strip()}")
+    packages.said([MAKE, "-C", str(source), f"OUT={made}", "LDFLAGS=-static"])
+    packages.said(["gcc", "-O2", "-Wall", "-Wextra", "-Werror", "-static", f"-I{source}",
+                   f"-I{made}", "-o", str(folder / "cycles"),
+                   str(Path(held.__file__).with_name("cycles.c")), "-lbpf", "-lelf", "-lz"])
+    main_file.write_text(text.replace(PICKS, PICKS_NOBODY), encoding="ascii")
+    packages.said([MAKE, "-C", str(source), f"OUT={folder}/stalls", "LDFLAGS=-static"])
+    return {"arbiter-scheduler": (0o100755, (made / "arbiter-scheduler").read_bytes()),
+            "stalled-scheduler": (0o100755, (folder / "stalls/arbiter-scheduler").read_bytes()),
+            "cycles": (0o100755, (folder / "cycles").read_bytes())}
+
+
+def loaded(program: str) -> list[str]:
+    """Loads a scheduler with a plan; $scheduler is its process."""
+    plan = "; ".join(f"echo leaf $(stat -c %i {layout.place(path)}) {amount} 0"
+                     for path, amount in LEAVES.items())
+    return ["rm -f /plan.in; mkfifo /plan.in; : > /plan.out",
+            f"{program} {layout.HOME} < /plan.in > /plan.out 2>&1 &",
+            "scheduler=$!; exec 9> /plan.in",
+            f"{{ echo plan 200; {plan}; echo end; }} >&9",
+            "until grep -q -v ready /plan.out; do sleep 0.1; done"]
+
+
+def gone(name: str) -> list[str]:
+    """Tells how many nanoseconds it takes until no scheduler is there, and the last line."""
+    return ["began=$(/guest now)",
+            f"until grep -q disabled {STATE}; do sleep 0.01; done",
+            f"echo {name} $(($(/guest now) - began)) $(tail -n 1 /plan.out)", "exec 9>&-"]
+
+
+def used(name: str) -> list[str]:
+    """Tells what each leaf uses in a second, in microseconds."""
+    files = " ".join(f"{layout.place(path)}/cpu.stat" for path in LEAVES)
+    return [f"one=$(grep -h usage_usec {files}); sleep 1; two=$(grep -h usage_usec {files})",
+            f"echo {name} $one $two"]
+
+
+def work(cycles: int, loads: int = LOADS) -> str:
+    """The guest's script."""
+    lines = [f"echo +cpu > {layout.TOP}/cgroup.subtree_control",
+             *layout.groups(parse("tree", TREE)), "now=$(/guest now)"]
+    for path, tasks in TASKS.items():
+        lines += [f"(echo 0 > {layout.place(path)}/cgroup.procs;"
+                  f" exec /guest {words.replace('END', END)}) > /dev/null &" for words in tasks]
+    numbers = " ".join(f"$(stat -c %i {layout.place(path)})" for path in LEAVES)
+    # (from here on this shell and what it begins go ahead of the tasks)
+    lines += ["sleep 1", "renice -n -20 $$ > /dev/null", *used("before"),
+              f"/cycles {cycles} 60 40 {numbers}"]
+    for name, signal in (("killed", "-9"), ("ended", "-15")):
+        for _ in range(loads):
+            lines += [*loaded("/arbiter-scheduler"), f"cat {STATE}", "sleep 0.3",
+                      f"kill {signal} $scheduler", *gone(name)]
+    lines += [*loaded("/stalled-scheduler"), *gone("stalled"), "sleep 2",
+              "echo said $(cat /plan.out)", *used("after"),
+              "dmesg | grep 'sched_ext: BPF scheduler' | tail -n 2 | sed 's/^/kernel-said /'"]
+    return "\n".join(lines) + "\n"
+
+
+def stalled(said: Sequence[str]) -> int:
+    """The milliseconds from the line that a scheduler is enabled to the one that it is not."""
+    one, two = (float(re.sub(r"^\[ *([0-9.]+)\].*", r"\1", line)) for line in said)
+    return round(1000 * (two - one))
+
+
+def read(lines: Sequence[str]) -> dict[str, Any]:
+    """What the guest told."""
+    words = [line.split(maxsplit=1) for line in lines if " " in line]
+    told: dict[str, list[str]] = {}
+    for name, rest in words:
+        told.setdefault(name, []).append(rest)
+    times = {name: [int(each.split()[0]) // 1000000 for each in told.get(name, [])]
+             for name in ("killed", "ended")}
+    times["stalled"] = [stalled(told["kernel-said"])]
+    rose = {}
+    for name in ("before", "after"):
+        numbers = [int(each) for each in told[name][0].split() if each.isdigit()]
+        half = len(numbers) // 2
+        rose[name] = {path: two - one for path, one, two
+                      in zip(LEAVES, numbers[:half], numbers[half:])}
+    return {"release": told["kernel"][0], "cycles": told["cycles"][0], "milliseconds": times,
+            "enabled": sum(line == "enabled" for line in lines), "used": rose,
+            "said": told["said"][0], "kernel": told["kernel-said"][-1]}
+
+
+def shown(kernel: packages.Kernel, cycles: int, loads: int = LOADS) -> dict[str, Any]:
+    """Runs all in a guest."""
+    with tempfile.TemporaryDirectory(prefix="arbiter-endured-") as name:
+        more = programs(Path(name))
+    return read(machine.run(kernel, machine.Board(2), machine.Setting(4), work(cycles, loads),
+                            more, 512))
+
+
+def main(words: Sequence[str]) -> int:
+    """The command."""
+    parser = argparse.ArgumentParser(prog="laboratory.endured",
+                                     description=__doc__.splitlines()[0])
+    parser.add_argument("--cycles", type=int, default=500)
+    parser.add_argument("--save", metavar="FILE")
+    options = parser.parse_args(words)
+    text = json.dumps(shown(packages.kernel(packages.NEWEST), options.cycles), indent=1) + "\n"
+    print(text, end="")
+    if options.save:
+        Path(options.save).write_text(text, encoding="utf-8")
+    return 0
+
+
+if __name__ == "__main__":
+    sys.exit(main(sys.argv[1:]))

@@ -1,0 +1,59 @@
+"""The tables of docs/kernel/scheduler.txt, from the files of `laboratory.held --save` and others.
+
+    PYTHONPATH=tests:bench/kernel /usr/bin/python3 -m laboratory.scheduled_page
+
+A cell has the group that was furthest off, in hundredths of a processor, and the part of the plan
+that was served if that is less than 99.5 %.
+"""
+from __future__ import annotations
+
+import json
+from collections.abc import Iterator
+from pathlib import Path
+from statistics import median
+from typing import Any
+
+from laboratory import held_page
+from laboratory.held_page import Saved, of, rows
+
+FOLDER = Path(__file__).resolve().parents[1] / "runs"
+RUNS, COSTS = FOLDER / "scheduler.jsonl.gz", FOLDER / "costs.jsonl"
+PAGE = Path(__file__).resolve().parents[3] / "docs/kernel/scheduler.txt"
+WAYS = ["scheduler", "weights", "limits"]
+
+
+def waits(found: list[Saved]) -> Iterator[str]:
+    """How long a piece of work took: the middle of the workers' medians, and the worst of the times
+    that 99 of 100 pieces did not exceed, in milliseconds."""
+    yield "| A piece takes, ms | " + " | ".join(WAYS) + " |"
+    yield "|---" * (len(WAYS) + 1) + "|"
+    for name in sorted({each["scenario"] for each in found if each["pieces"]}):
+        cells = []
+        for way in WAYS:
+            pieces = [piece for run in of(found, name, way) for piece in run["pieces"]]
+            cells.append(f"{median(each[2] for each in pieces) / 1000:.1f},"
+                         f" {max(each[3] for each in pieces) / 1000:.1f}" if pieces else "")
+        yield f"| `{name}` | " + " | ".join(cells) + " |"
+
+
+def costs() -> list[dict[str, Any]]:
+    """The runs of `laboratory.costs`."""
+    return [json.loads(line) for line in COSTS.read_text(encoding="utf-8").splitlines()]
+
+
+def cost_rows() -> Iterator[str]:
+    """Instructions of a pick, with all that a slice takes of the scheduler."""
+    yield "| Leaves | instructions a pick | picks |"
+    yield "|---|---|---|"
+    for each in costs():
+        yield f"| {each['leaves']} | {each['instructions']} | {each['picks']} |"
+
+
+def tables() -> str:
+    """All three tables."""
+    found = held_page.read([str(RUNS)])
+    return "\n".join([*rows(found, "Scenario", WAYS), "", *waits(found), "", *cost_rows()])
+
+
+if __name__ == "__main__":
+    print(tables())

@@ -1,0 +1,75 @@
+"""Traces of the scheduler's picks in guests, and what the proved rule says of them.
+
+    PYTHONPATH=tests:bench/kernel /usr/bin/python3 -m laboratory.traced [--save FOLDER] SCENARIO..
+
+Each scenario runs by the scheduler with its trace. The program of crates/dispatch replays it: it
+says that all picks are allowed, or the first line that is not.
+"""
+from __future__ import annotations
+
+import argparse
+import gzip
+import subprocess
+import sys
+from collections.abc import Iterator, Sequence
+from pathlib import Path
+
+from kernel import faults, held, layout, machine, packages
+from kernel.planned import begin
+from kernel.scenario import Scenario
+from laboratory.__main__ import sources
+from laboratory.held import entitled, own_limits, plan
+
+TOP = Path(__file__).resolve().parents[3]
+DISPATCH = TOP / "crates/dispatch/out/dispatch"
+SPAN = layout.Span(seconds=5, settle=1, has_grid=False)
+SECONDS = 120
+
+
+def traces(kernel: packages.Kernel, setting: machine.Setting, found: Sequence[Scenario],
+           span: layout.Span = SPAN) -> tuple[list[str], dict[str, str]]:
+    """Boots a guest for scenarios of one board. Returns its lines, and the traces by name."""
+    scripts = []
+    for each in found:
+        early, beside = held.scheduler_lines(each, entitled(each), own_limits(each, plan(each)),
+                                             True)
+        scripts.append(held.begun(layout.script(each, span, beside, early), each.name))
+    return held.traces_in(held.lines_of(kernel, found[0].board, setting, scripts, None, True))
+
+
+def replayed(trace: str) -> str:
+    """What the program says of a trace."""
+    if not DISPATCH.is_file():
+        raise faults.KernelFault(f"no {DISPATCH}: `rt run` in crates/dispatch makes it")
+    ended = subprocess.run([DISPATCH], input=trace, capture_output=True, text=True, check=False,
+                           timeout=SECONDS)
+    return ended.stdout.strip()
+
+
+def shown(kernel: packages.Kernel, found: Sequence[Scenario]) -> Iterator[tuple[str, str, str]]:
+    """The name, the trace and what is said of it, of each scenario in a guest of its own."""
+    for each in found:
+        setting = machine.Setting(each.board.shift)
+        yield from ((name, trace, replayed(trace))
+                    for name, trace in traces(kernel, setting, [each])[1].items())
+
+
+def main(words: Sequence[str]) -> int:
+    """The command."""
+    parser = argparse.ArgumentParser(prog="laboratory.traced", description=__doc__.splitlines()[0])
+    parser.add_argument("sources", nargs="+", metavar="SCENARIO")
+    parser.add_argument("--save", type=Path, metavar="FOLDER")
+    options = parser.parse_args(words)
+    begin()
+    wrong = 0
+    for name, trace, said in shown(packages.kernel(packages.NEWEST), sources(options.sources)):
+        print(f"{name}: {said}", flush=True)
+        wrong += not said.startswith("allowed: ")
+        if options.save:
+            file = options.save / f"picks-{name}.txt.gz"
+            file.write_bytes(gzip.compress(trace.encode(), mtime=0))
+    return 1 if wrong else 0
+
+
+if __name__ == "__main__":
+    sys.exit(main(sys.argv[1:]))
