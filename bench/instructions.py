@@ -5,6 +5,10 @@
     bench/instructions.py --keep            also keeps the numbers, with the commit
     bench/instructions.py --only plan,check    some work alone
     bench/instructions.py --program FILE    another program than the one that ./build made
+    bench/instructions.py --floor FILE      also prints the numbers of a flat tree over those of FILE
+
+The floor is a program of plain Rust that keeps the whole contract, and that no proof binds. It
+takes the words of arbiter, `--groups N` for the most groups and `--depth N` for the deepest.
 
 valgrind counts, and the keys of the hash of names are known. So a number is the same however loaded
 the machine is. What the kernel does is not counted.
@@ -39,6 +43,8 @@ LINES = ["demand", "read", "write"]
 # The work that is counted on trees of so many groups, and the shapes of these.
 SIZES = [(4096, WORK, SHAPES), (16384, ["mkdir", "plan", "check"], ["flat", "random"]),
          (4096, LINES, ["flat" + AGAIN, "random" + AGAIN])]
+# The tree on which the floor is counted, and the words that it takes beside ours.
+FLOOR_TREE, FLOOR_WORDS = ("flat", 4096), ("--groups", "4096", "--depth", "64")
 # Times that a line of all groups is given, so that the first of them tells less.
 ROUNDS = 5
 # A number may be so many times the one that is kept.
@@ -109,10 +115,15 @@ def rows_of(only: Iterable[str]) -> list[Row]:
 
 
 class Counts:
-    """Counts of one program, as many at once as there are processors."""
+    """Counts of one program, as many at once as there are processors.
 
-    def __init__(self, program: str, room: str) -> None:
-        self.program, self.room = program, room
+    `more` are words behind those of a run. `certifier` writes the text that is checked.
+    """
+
+    def __init__(self, program: str, room: str, more: tuple[str, ...] = (),
+                 certifier: str = "") -> None:
+        self.program, self.room, self.more = program, room, more
+        self.certifier = certifier or program
         # built once, before several threads ask for it
         fixed_random()
         self.trees: dict[tuple[str, int], Tree] = {}
@@ -124,14 +135,14 @@ class Counts:
             key = (row.shape, row.groups)
             if key not in self.trees:
                 self.trees[key] = Tree(*key)
-            yield row, piece(self.program, self.trees[key], row)
+            yield row, piece(self.certifier, self.trees[key], row)
 
     def count(self, run: Run) -> int:
         """The instructions of a run."""
         with tempfile.NamedTemporaryFile(dir=self.room) as script:
             script.write(run.text)
             script.flush()
-            return int(counted([self.program, *run.words], script.name)[0])
+            return int(counted([self.program, *run.words, *self.more], script.name)[0])
 
     def table(self, rows: Iterable[Row]) -> Table:
         """The number of each row. Each run is counted once."""
@@ -201,6 +212,16 @@ def printed(kept: Table, found: Table) -> Iterator[str]:
         yield f"| `{work}` | {' | '.join(cells)} |"
 
 
+def over_floor(found: Table, floor: Table) -> Iterator[str]:
+    """The table of numbers over the floor's."""
+    shape, groups = FLOOR_TREE
+    yield f"| Over the floor, {shape}, {groups} | {' | '.join(row.work for row in floor)} |"
+    yield "|---" * (len(floor) + 1) + "|"
+    yield f"| the floor | {' | '.join(f'{number:.0f}' for number in floor.values())} |"
+    cells = [f"{found[row]:.0f}, {found[row] / number:.2f}" for row, number in floor.items()]
+    yield f"| ours, and over it | {' | '.join(cells)} |"
+
+
 def counted_again(counts: Counts, kept: Table, found: Table) -> list[Row]:
     """The rows that grew too much in two counts. The lesser number of each stays in the table."""
     failed = grown(kept, found)
@@ -228,6 +249,7 @@ def read_words() -> argparse.Namespace:
     asked.add_argument("--only", default=",".join(WORK), help="some work, with commas")
     asked.add_argument("--kept", type=Path, default=KEPT, metavar="FILE",
                        help=f"where numbers are kept (default: bench/{KEPT.name})")
+    asked.add_argument("--floor", metavar="FILE", help="a program whose numbers are printed beside")
     asked.add_argument("--program", help="the program that is counted (default: the one that"
                        " ./build made, if that is up to date)")
     options = asked.parse_args()
@@ -256,12 +278,18 @@ def main() -> None:
     if not shutil.which("valgrind"):
         stop("there is no valgrind to count instructions with")
     kept = kept_table(options, rows)
+    floor: Table = {}
     with tempfile.TemporaryDirectory(prefix="bench-") as room:
         counts = Counts(program, room)
         counts.check_repeats()
         found = counts.table(rows)
         failed = [] if options.keep else counted_again(counts, kept, found)
+        if options.floor:
+            beside = Counts(os.path.abspath(options.floor), room, FLOOR_WORDS, program)
+            floor = beside.table(row for row in rows if (row.shape, row.groups) == FLOOR_TREE)
     print(*printed(kept, found), "", f"Counted at {commit()}.", sep="\n", flush=True)
+    if floor:
+        print("", *over_floor(found, floor), sep="\n", flush=True)
     if options.keep:
         options.kept.write_text(text_of_table(found, commit()))
     for row in failed:

@@ -46,8 +46,8 @@ PARTS: dict[str, tuple[tuple[str, ...], ...]] = {
 }
 # Definitions that are left out: they join a text with the program's own values.
 LEFT_OUT = {"certified_value", "IsCertifiedText", "seen", "Fails", "ReadsAs", "group_view",
-            "columns_view", "certified_view", "IsLate", "IsRefused", "host_fault_name",
-            "instance_fault_name", "cert_fault_name"}
+            "columns_view", "certified_view", "groups_read", "rows_view", "IsLate", "IsRefused",
+            "host_fault_name", "instance_fault_name", "cert_fault_name"}
 # Constants of Rust that the definitions name.
 CONSTANTS = ("MAX_PROCESSORS", "MIN_PERIOD_US", "MAX_PERIOD_US", "MIN_SLICE_US", "MIN_WEIGHT",
              "MAX_WEIGHT", "MAX_DEMAND", "MAX_GROUPS", "MAX_DEPTH", "MAX_PER_PROCESSOR")

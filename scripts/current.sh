@@ -9,6 +9,8 @@ program=crates/arbiter/out/arbiter
 library=crates/bw_exports/out/libarbiter
 # The names that the shared library exports.
 library_names=share/arbiter.map
+# The kit's word for the processors of both, where `./build --native` chose them.
+native=out/native
 # Debian's packages that independent/build needs.
 # shellcheck disable=SC2034
 coq_packages='coq ocaml-findlib libzarith-ocaml-dev'
@@ -25,9 +27,10 @@ find_version() {
 
 # The two functions below choose what the other functions speak of. They set `crate`, its `made`
 # files (an executable or shared library first), its `stamp`, and the `lists` and words for the
-# linker (`linked`) that count as sources.
+# linker (`linked`) that count as sources, and the kit's words for its processors (`cpu`).
 of_program() {
   crate=arbiter made=("$program") lists=(HANDLES) linked=() stamp=$program.sources
+  find_processors
 }
 
 of_library() {
@@ -35,6 +38,14 @@ of_library() {
   soname=libarbiter.so.${version%%.*}
   crate=bw_exports made=("$library.so" "$library.a") lists=(HANDLES "$library_names")
   linked=("-Wl,-soname,$soname" "-Wl,--version-script=$library_names") stamp=$library.sources
+  find_processors
+}
+
+# shellcheck disable=SC2034
+find_processors() {
+  cpu=()
+  [ -f "$native" ] && mapfile -t cpu <"$native" && lists+=("$native")
+  return 0
 }
 
 of_program

@@ -57,6 +57,7 @@ find_installed() {
     share/completions/arbiterctl.fish share/fish/vendor_completions.d/arbiterctl.fish 644
     share/systemd/arbiter-hold.service lib/systemd/system/arbiter-hold.service 644
     share/grafana.json share/arbiter/grafana.json 644
+    share/alerts.yml share/arbiter/alerts.yml 644
   )
   [ ! -x "$checker" ] || installed+=(
     "$checker" bin/arbiter-check 755

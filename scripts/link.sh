@@ -7,7 +7,7 @@ link_made() {
 
 # `rt run` also runs the program: help prints its text and changes nothing.
 link_arbiter() {
-  (cd crates/arbiter && rt run -- --help </dev/null)
+  (cd crates/arbiter && rt run "${cpu[@]}" -- --help </dev/null)
 }
 
 # Links the libraries from the archive of the crate, and the kit's C that it needs at run time.
@@ -15,7 +15,7 @@ link_bw_exports() {
   local kit_folder bin runtime folder status archive=crates/bw_exports/out/libbw_exports.a
   kit_folder=$(readlink -f "$(command -v rt)")
   kit_folder=${kit_folder%/*/*} bin=$kit_folder/toolchain/bin runtime=$kit_folder/c/liblibc_c.a
-  (cd crates/bw_exports && rt lib </dev/null) || return 1
+  (cd crates/bw_exports && rt lib "${cpu[@]}" </dev/null) || return 1
   folder=$(mktemp -d crates/bw_exports/out/link.XXXXXX) || return 1
   "$bin/llvm-ar" qcL "$folder/libarbiter.a" "$archive" "$runtime" &&
     "$bin/clang" -shared -fuse-ld=lld "${linked[@]}" -o "$folder/libarbiter.so" \

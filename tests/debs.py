@@ -201,7 +201,8 @@ def test_completions_and_pages(installed):
     pages = [Path(line).name for line in listed.split("\n") if "/man1/" in line]
     wanted = ["arbiter.1.gz", *(f"{path.name}.gz" for path in (ROOT / "share/man").iterdir())]
     same(sorted(pages), sorted(wanted), "man pages")
-    assert "/usr/share/arbiter/grafana.json" in listed.split("\n")
+    assert {f"/usr/share/arbiter/{name}" for name in ("grafana.json", "alerts.yml")} <= set(
+        listed.split("\n"))
 
 
 def test_unit_is_not_enabled(installed):

@@ -37,13 +37,12 @@ int main(void)
     uint64_t wants[7], mosts[7], active_weights[7], withheld[7];
     uint8_t tights[7];
     uint32_t actives[7];
-    const uint32_t goal_groups[2] = {1, 2};
-    const uint64_t goal_amounts[2] = {14, 6}, too_much[2] = {14, 7};
-    uint8_t together[2] = {7, 7};
+    const uint64_t goals[3] = {0, 14, 6}, too_much[3] = {0, 14, 7};
+    const uint8_t may[3] = {0, 1, 1};
     uint64_t unmet = 9;
     const uint64_t half[1] = {500000000};
     uint64_t used_now = 9, asked_now = 9;
-    uint32_t is_hungry = 9;
+    uint32_t is_hungry = 9, is_guess = 9;
     const uint64_t used[3] = {0, 4, 10};
     const uint8_t hungry[3] = {0, 0, 1};
     uint64_t caps[3] = {0, 0, 0}, asks[3];
@@ -174,28 +173,24 @@ int main(void)
     if (bursts[1] != 25000 || carries[1] != 6 || capped[1] != 15 || capped[2] != ARBITER_NO_LIMIT || quotas[2] != ARBITER_NO_LIMIT)
         return 46;
     /* The fourteenth slice of the first costs 27 / 208, the seventh of the second 13 / 100: less with 208, and more with 207. */
-    if (arbiter_tune(1, 100000, 5000, parents, 3, alike, 3, limits, 3, demands, 3, goal_groups, 2, goal_amounts, 1, 0, heavy, 3, together, 2, &unmet) != 50)
+    if (arbiter_tune(1, 100000, 5000, parents, 3, alike, 3, limits, 3, demands, 3, goals, 2, may, 3, 0, heavy, 3, &unmet) != 50)
         return 47;
-    if (arbiter_tune(1, 100000, 5000, parents, 3, alike, 3, limits, 3, demands, 3, parents, 2, goal_amounts, 2, 0, heavy, 3, together, 2, &unmet) != 20)
-        return 48;
-    if (arbiter_tune(1, 100000, 5000, parents, 3, alike, 3, limits, 3, demands, 3, parents + 1, 2, goal_amounts, 2, 0, heavy, 3, together, 2, &unmet) != 26)
-        return 49;
-    if (heavy[1] != 100 || together[0] != 7 || together[1] != 7 || unmet != 9)
+    if (heavy[1] != 100 || unmet != 9)
         return 50;
-    if (arbiter_tune(1, 100000, 5000, parents, 3, alike, 3, limits, 3, demands, 3, goal_groups, 2, goal_amounts, 2, 0, heavy, 3, together, 2, &unmet) != 0)
+    if (arbiter_tune(1, 100000, 5000, parents, 3, alike, 3, limits, 3, demands, 3, goals, 3, may, 3, 0, heavy, 3, &unmet) != 0)
         return 51;
-    if (heavy[0] != 100 || heavy[1] != 208 || heavy[2] != 100 || together[0] != 0 || together[1] != 0 || unmet != ARBITER_NO_GOAL)
+    if (heavy[0] != 100 || heavy[1] != 208 || heavy[2] != 100 || unmet != ARBITER_NO_GOAL)
         return 52;
-    if (arbiter_tune(1, 100000, 5000, parents, 3, alike, 3, limits, 3, demands, 3, goal_groups, 2, too_much, 2, 1, heavy, 3, together, 2, &unmet) != 0)
+    if (arbiter_tune(1, 100000, 5000, parents, 3, alike, 3, limits, 3, demands, 3, too_much, 3, may, 3, 1, heavy, 3, &unmet) != 0)
         return 53;
-    if (heavy[0] != 100 || heavy[1] != 100 || heavy[2] != 100 || together[0] != 1 || together[1] != 1 || unmet != 1)
+    if (heavy[0] != 100 || heavy[1] != 100 || heavy[2] != 100 || unmet != 0)
         return 54;
     /* A starved task used half of the processor and could have used it whole. Its group may use three quarters of it. */
-    if (arbiter_reading(1, 100000, 5000, 1000000000, 500000, 500000, 1, 0, half, 1, half, 0, &used_now, &asked_now, &is_hungry) != 50
-            || arbiter_reading(1, 100000, 5000, 0, 500000, 500000, 1, 0, half, 1, half, 1, &used_now, &asked_now, &is_hungry) != 15 || used_now != 9)
+    if (arbiter_reading(1, 100000, 5000, 1000000000, 500000, 500000, 1, 0, ARBITER_NO_LIMIT, half, 1, half, 0, &used_now, &asked_now, &is_hungry, &is_guess) != 50
+            || arbiter_reading(1, 100000, 5000, 0, 500000, 500000, 1, 0, ARBITER_NO_LIMIT, half, 1, half, 1, &used_now, &asked_now, &is_hungry, &is_guess) != 15 || used_now != 9)
         return 56;
-    if (arbiter_reading(2, 100000, 5000, 1000000000, 500000, 500000, 1, 0, half, 1, half, 1, &used_now, &asked_now, &is_hungry) != 0
-            || used_now != 10 || asked_now != 20 || is_hungry != 1)
+    if (arbiter_reading(2, 100000, 5000, 1000000000, 500000, 500000, 1, 0, ARBITER_NO_LIMIT, half, 1, half, 1, &used_now, &asked_now, &is_hungry, &is_guess) != 0
+            || used_now != 10 || asked_now != 20 || is_hungry != 1 || is_guess != 0)
         return 57;
     if (arbiter_written(1, 100000, 5000, ARBITER_NO_LIMIT, 0, 0, 1, &used_now, &asked_now) != 14 || used_now != 10)
         return 58;
@@ -203,7 +198,7 @@ int main(void)
         return 59;
     if (arbiter_written(1, 100000, 5000, 15, 15, 0, 1, &used_now, &asked_now) != 0 || used_now != ARBITER_NO_LIMIT)
         return 60;
-    if (arbiter_name(29, name, sizeof name) != 9 || !is_same(name, "GoalAbove"))
+    if (arbiter_name(26, name, sizeof name) != 9 || !is_same(name, "RootFixed"))
         return 55;
     /* A quota of 10 slices and a burst of 5: with 6 left of the last period the next has 15. */
     if (arbiter_period_limit(1, 100000, 5000, 999, 999, 0, 0, &slices) != 13 || arbiter_period_limit(1, 100000, 5000, 50000, 999, UINT64_MAX, 0, &slices) != 15)

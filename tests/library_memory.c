@@ -40,15 +40,12 @@ static const uint8_t hungry[5] = {0, 0, 1, 0, 1};
 static uint64_t amounts[5], nums[5], dens[5], caps[5], asks[5], rest, planned[3];
 static uint64_t wants[5], mosts[5], active_weights[5], withheld[5];
 static uint8_t flags[5], reasons[5], tights[5];
-/* The two goals are met by weights that are lower. */
+/* The second pod of the host is to have 16: only weights that are lower give it that. */
 static const uint64_t greatest[5] = {100, 10000, 100, 300, 10000};
-static const uint32_t goal_groups[2] = {1, 4};
-static const uint64_t goal_amounts[2] = {6, 14};
-static const uint64_t asks_too_much[2] = {7, 14};
 static const uint64_t most_for_one[5] = {0, 0, 0, 0, 16};
+static const uint64_t asks_too_much[5] = {0, 7, 0, 0, 14};
 static const uint8_t may[5] = {0, 1, 1, 1, 1};
 static uint64_t tuned[5], unmet;
-static uint8_t together[2];
 static uint32_t places[5], groups[5], blamed[5], actives[5], count, row;
 /* Each command of a script, a name that takes memory, a period with a carry, and refused lines. */
 static const char script[] = "mkdir pod\nmkdir pod/a-name-of-more-than-24-bytes\nmkdir pod/y\nwrite pod cpu.max 50000\n"
@@ -82,7 +79,7 @@ static void mark(void)
         tuned[g] = carried[g] = 7;
     for (int cell = 0; cell < 90; cell++)
         cells[cell / 10][cell % 10] = 7;
-    together[0] = together[1] = unmet = 7;
+    unmet = 7;
     rest = count = row = 7;
     names_count = refused_count = 7;
 }
@@ -105,7 +102,7 @@ static int is_marked(void)
     for (int cell = 0; cell < 90; cell++)
         if (cells[cell / 10][cell % 10] != 7)
             return 0;
-    if (together[0] != 7 || together[1] != 7 || unmet != 7)
+    if (unmet != 7)
         return 0;
     return rest == 7 && count == 7 && row == 7 && names_count == 7 && refused_count == 7;
 }
@@ -127,17 +124,16 @@ static uint32_t call(int which)
     case 11: return arbiter_script(1, 100000, 5000, 7, (const uint8_t *)script, sizeof script - 1, above, 5, columns[0], 5,
                                   columns[1], 5, columns[2], 5, columns[3], 5, columns[4], 5, columns[5], 5, columns[6], 5,
                                   names, sizeof names, lines, 5, faults, 5, &count, &names_count, &refused_count);
-    case 12: return arbiter_tune(1, 100000, 5000, parents, 5, greatest, 5, limits, 5, demands, 5, goal_groups, 2,
-                                goal_amounts, 2, 0, tuned, 5, together, 2, &unmet);
-    case 13: return arbiter_tune(ROWS, goal_groups, 2, asks_too_much, 2, 1, tuned, 5, together, 2, &unmet);
+    case 12: return arbiter_tune(1, 100000, 5000, parents, 5, greatest, 5, limits, 5, demands, 5, most_for_one, 5, may, 5, 0,
+                                tuned, 5, &unmet);
+    case 13: return arbiter_tune(ROWS, asks_too_much, 5, may, 5, 0, tuned, 5, &unmet);
     case 14: return arbiter_book(ROWS, limits, 5, demands, 5, columns[0], 5, columns[1], 5, columns[2], 5, columns[3], 5,
                                 columns[4], 5, columns[5], 5, columns[6], 5);
     case 15: return arbiter_periods(1, 100000, 5000, parents, 5, weights, 5, quotas, 5, lasting, 5, bursts, 5, two_samples, 10, 5,
                                    carried, 5, cells[0], 10, cells[1], 10, cells[2], 10, cells[3], 10, cells[4], 10,
                                    cells[5], 10, cells[6], 10, cells[7], 10, cells[8], 10);
-    /* the second pod of the host is to have 16: only lower weights give it that */
-    case 16: return arbiter_tune_from_root(1, 100000, 5000, parents, 5, greatest, 5, limits, 5, demands, 5, most_for_one, 5,
-                                          may, 5, tuned, 5, &unmet);
+    case 16: return arbiter_tune(1, 100000, 5000, parents, 5, greatest, 5, limits, 5, demands, 5, most_for_one, 5, may, 5, 1,
+                                tuned, 5, &unmet);
     default: return arbiter_check(ROWS, amounts, 5, flags, 5, nums, 5, dens, 5, places, 5, &row);
     }
 }
@@ -190,8 +186,8 @@ int main(void)
         return 53;
     const uint64_t ran[1] = {500000000};
     uint64_t two[2];
-    uint32_t is_hungry;
-    if (arbiter_reading(1, 100000, 5000, 1000000000, 500000, 500000, 1, 0, ran, 1, ran, 1, two, two + 1, &is_hungry) != 0 || is_hungry != 1)
+    uint32_t is_hungry, is_guess;
+    if (arbiter_reading(1, 100000, 5000, 1000000000, 500000, 500000, 1, 0, ARBITER_NO_LIMIT, ran, 1, ran, 1, two, two + 1, &is_hungry, &is_guess) != 0 || is_hungry != 1)
         return 55;
     if (arbiter_written(1, 100000, 5000, 10, ARBITER_NO_LIMIT, 0, 1, two, two + 1) != 0)
         return 56;

@@ -161,6 +161,14 @@ def test_counts_that_differ_say_nothing(stub):
     same((ended.status, b"has two counts" in ended.err), (2, True), ended.err.decode())
 
 
+def test_a_floor_is_counted_beside(stub):
+    """`--floor` prints the numbers of a flat tree over those of another program."""
+    ended = stub.run("--only", "plan", "--floor", stub.folder / "program")
+    same(ended.out.decode().split("\n")[-5:-1], [
+        "| Over the floor, flat, 4096 | plan |", "|---|---|", "| the floor | 100 |",
+        "| ours, and over it | 100, 1.00 |"], ended.err.decode())
+
+
 def test_nothing_kept(stub):
     """A row without a kept number, and a part that would be kept as the whole, are refused."""
     ended = stub.run("--only", "plan,mkdir")

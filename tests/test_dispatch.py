@@ -2,6 +2,7 @@
 
 The traces are worked by hand, or runs of a model of the rule in fractions.
 """
+import gzip
 import random
 from fractions import Fraction
 from typing import List, Optional, Tuple
@@ -11,6 +12,8 @@ import pytest
 from support import ROOT, Program, same
 
 DISPATCH = ROOT / "crates/dispatch/out/dispatch"
+# Traces of the kernel's scheduler in guests (bench/kernel, `laboratory.traced`).
+RECORDED = sorted((ROOT / "bench/kernel/runs").glob("picks-*.txt.gz"))
 HEAD = "processors 2\nslice 10\nleaf 0 2\nleaf 1 1\n"
 LESSER = "not allowed: a leaf that waits has a lesser clock"
 
@@ -119,6 +122,31 @@ def test_closed_output(dispatch):
     with open("/dev/full", "wb") as full:
         ended = dispatch.run([], b"", stdout=full)
     same((ended.status, ended.err[:10]), (1, b"dispatch: "))
+
+
+def test_there_are_recordings():
+    """Three, of thousands of picks: steady groups, sleepers, and forks."""
+    assert len(RECORDED) >= 3
+
+
+@pytest.mark.parametrize("path", RECORDED, ids=[path.name for path in RECORDED])
+def test_recorded_picks(dispatch, path):
+    """Each pick of the kernel's scheduler is one that the rule allows. One of another leaf in its
+    place is found at its line, but where both clocks are equal or none of that leaf waits."""
+    lines = gzip.decompress(path.read_bytes()).decode().splitlines()
+    picks = [at for at, line in enumerate(lines) if line.startswith("pick ")]
+    assert len(picks) > 1000
+    same(replayed(dispatch, "\n".join(lines) + "\n"), (0, f"allowed: {len(picks)} picks\n"))
+    leaves = sum(line.startswith("leaf ") for line in lines)
+    found = set()
+    for at in picks[len(picks) // 4::len(picks) // 4]:
+        _, processor, leaf = lines[at].split()
+        for other in {*range(leaves)} - {int(leaf)}:
+            cut = [*lines[:at], f"pick {processor} {other}"]
+            status, said = replayed(dispatch, "\n".join(cut) + "\n")
+            assert status == 0 or said.startswith(f"line {at + 1}: not allowed: ")
+            found.add(said.partition(": ")[2])
+    assert f"{LESSER}\n" in found
 
 
 class Model:

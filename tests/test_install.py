@@ -32,6 +32,7 @@ FILES = {
     "share/fish/vendor_completions.d/arbiterctl.fish": ("share/completions/arbiterctl.fish", 0o644),
     "lib/systemd/system/arbiter-hold.service": ("share/systemd/arbiter-hold.service", 0o644),
     "share/arbiter/grafana.json": ("share/grafana.json", 0o644),
+    "share/arbiter/alerts.yml": ("share/alerts.yml", 0o644),
     **{f"share/man/man1/{path.name}": (f"share/man/{path.name}", 0o644)
        for path in (ROOT / "share/man").iterdir()},
 }
@@ -150,6 +151,31 @@ def test_library_where_needed(copy):
     os.remove(f"{copy.top}/{LIBRARY}.so")
     copy.installs("there", "no shared library", [LIBRARY_PROVED])
     is_installed(copy, f"{copy.top}/there")
+
+
+def test_native(copy):
+    """--native makes both anew for AVX2, where each processor has it; without it, for all."""
+    flags = "flags\t\t: fpu abm avx avx2 bmi1 bmi2 f16c fma movbe\n"
+    copy.write("../cpus", 2 * flags)
+    copy.write("build", copy.read("build").replace("/proc/cpuinfo", f"{copy.top}/../cpus"))
+    copy.installs("there", "for all", [PROVED, LIBRARY_PROVED])
+    native = ["rt run --cpu=x86-64-v3 -- --help", "rt lib --cpu=x86-64-v3"]
+    for wanted in (native, []):
+        status, _, err = copy.call(["./build", "--native", "--install", "there"])
+        same(status, 0, err)
+        called = [line for line in copy.log() if line.startswith(("rt run", "rt lib"))]
+        same(called, wanted, "what the kit links")
+    copy.is_native("for AVX2")
+    for text in (flags + flags.replace("avx2 ", ""), flags.replace("movbe", "movbes"), ""):
+        copy.write("../cpus", text)
+        status, _, err = copy.call(["./build", "--native"])
+        same(status, 2, err)
+        holds("--native needs AVX2", err, "a processor without it")
+    copy.write("../cpus", flags)
+    status, _, err = copy.call(["./build", "--native", "--deb"])
+    same(status, 2, err)
+    holds("a package is for all processors", err, "packages")
+    copy.installs("there", "for all again", [PROVED, LIBRARY_PROVED])
 
 
 def test_library_of_another_version(copy):

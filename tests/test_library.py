@@ -34,7 +34,7 @@ ASKING = {line.encode() for line in ASKED.split("\n") if line}
 HOST_OF_ONE = arbiter.Host(1, 100000, 5000)
 LEVEL = re.compile(r"(\d+)/(\d+)@(\d+)\Z")
 # The numbers that share/arbiter.h lists.
-NUMBERS = {*range(1, 18), *range(20, 32), 33, *range(40, 44), *range(50, 59), 71,
+NUMBERS = {*range(1, 18), *range(20, 29), 30, 31, 33, *range(40, 44), *range(50, 59), 71,
            *range(80, 83)}
 # Worked trees: host; rows of parent, weight, limit and demand; amounts.
 WORKED = {
@@ -425,7 +425,6 @@ KINDS = {
     "certify": (CERTIFIED, [], 9),
     "reasons": ([c.U8, c.U32], [], 6),
     "hold": ([c.U8, c.U64, c.U64, *CERTIFIED], [], 12),
-    "tune_from_root": ([c.U64, c.U8, c.U64], [c.U64], 7),
     "check": (CERTIFIED, [c.U32], 4),
 }
 

@@ -53,8 +53,20 @@ def test_hunger_by_hand(module, tasks, used, waited, hungry):
     times = arbiter.RoundTimes(SECOND, used * 1000, waited * 1000, len(tasks))
     found = module.reading(HOST, times, in_nanoseconds(tasks))
     same((found.is_hungry, found.used), (hungry, -(-used // 10)))
+    same(found.is_guess, waited >= 10 and (not used or 2 * sum(ran for ran, _ in tasks) < used))
     if not hungry:
         same(found.asked, found.used)
+
+
+@pytest.mark.parametrize("allowed, is_stopped", [(500, True), (501, False), (0, True),
+                                                 (None, False)])
+def test_all_that_a_limit_allowed(module, allowed, is_stopped):
+    """Half a second was used, and no task waited: a group that was allowed no more is hungry, and
+    asks for what its two tasks could use."""
+    times = arbiter.RoundTimes(SECOND, 500000, 0, 2, False,
+                               None if allowed is None else 1000 * allowed)
+    found = module.reading(HOST, times, in_nanoseconds([(400, 0), (100, 0)]))
+    same(found, arbiter.Reading(50, 200 if is_stopped else 50, is_stopped, False))
 
 
 def in_nanoseconds(tasks: Sequence[Task]) -> List[Task]:
@@ -83,7 +95,7 @@ def test_asked_by_hand(module, tasks, count, used, throttled, asked):
     """Milliseconds of a second: tasks ran and waited, and the group used."""
     times = arbiter.RoundTimes(SECOND, used * 1000, SECOND // 1000, count, bool(throttled))
     found = module.reading(HOST, times, in_nanoseconds(tasks))
-    same(found, arbiter.Reading(-(-used // 10), asked, True))
+    same(found, arbiter.Reading(-(-used // 10), asked, True, not used))
 
 
 @pytest.mark.parametrize("number, host, passed, count, tasks", [
@@ -102,22 +114,24 @@ def test_refused_reading(module, number, host, passed, count, tasks):
 def test_reading_is_whole(module, lengths, passed, number):
     """Columns of two lengths and of too many tasks; a refusal writes nothing."""
     columns = [(c.U64 * length)(*[5] * length) for length in lengths]
-    written = c.U64(7), c.U64(7), c.U32(7)
+    written = c.U64(7), c.U64(7), c.U32(7), c.U32(7)
     words = [word for column, length in zip(columns, lengths) for word in (column, length)]
-    same(module.calls.arbiter_reading(*module.host(HOST), passed, 0, 0, 1, 0, *words,
+    same(module.calls.arbiter_reading(*module.host(HOST), passed, 0, 0, 1, 0, c.NO_LIMIT, *words,
                                       *map(ctypes.byref, written)), number)
-    same([each.value for each in written], [7] * 3 if number else [0] * 3)
+    same([each.value for each in written], [7] * 4 if number else [0] * 4)
 
 
 def test_reading_at_the_ends(module):
     """The greatest numbers, and a round of a nanosecond."""
     most = 2**64 - 1
-    great = arbiter.RoundTimes(most, most, most, 2**32 - 1, False)
+    great = arbiter.RoundTimes(most, most, most, 2**32 - 1, False, most - 1)
     same(module.reading(HOST, great, [(most, most)]), arbiter.Reading(100000, EVERYTHING, True))
     short = arbiter.RoundTimes(1, 1, 0, 1, False)
     same(module.reading(HOST, short, [(0, 0)]), arbiter.Reading(100000, 100000, False))
     same(module.reading(HOST, great._replace(passed=1), []),
          arbiter.Reading(EVERYTHING, EVERYTHING, True))
+    guess = great._replace(used=most - 1, allowed=None)
+    same(module.reading(HOST, guess, []), arbiter.Reading(100000, EVERYTHING, True, True))
     long = arbiter.RoundTimes(most, 0, 0, 2**32 - 1, True)
     same(module.reading(arbiter.Host(64, 10**6, 1000), long, []),
          arbiter.Reading(0, EVERYTHING, True))
@@ -143,19 +157,21 @@ def by_model(host: arbiter.Host, times: arbiter.RoundTimes, tasks: Sequence[Task
     ran = sum((Fraction(each[0]) for each in tasks), Fraction(0)) / passed
     starved = [is_starved(times.passed, *each) for each in tasks]
     known = ran / used if used else Fraction(-1)
-    if times.is_throttled:
+    guess = False
+    if times.is_throttled or times.allowed is not None and times.used >= times.allowed:
         hungry, could = True, Fraction(times.tasks)
     else:
-        hungry = (any(starved) if known >= Fraction(1, 2) else waited >= Fraction(1, 2)
-                  ) if waited >= Fraction(1, 100) else False
+        has_waited, guess = waited >= Fraction(1, 100), known < Fraction(1, 2)
+        hungry = has_waited and (waited >= Fraction(1, 2) if guess else any(starved))
+        guess = guess and has_waited
         could = Fraction(times.tasks - len(tasks)) + sum(
             (Fraction(1) if flag else Fraction(each[0]) / passed
              for flag, each in zip(starved, tasks)), Fraction(0))
     if not hungry:
-        return arbiter.Reading(slices(used), slices(used), False)
+        return arbiter.Reading(slices(used), slices(used), False, guess)
     most = max(used, could)
     is_all = known < Fraction(19, 20) or most >= host.processors
-    return arbiter.Reading(slices(used), EVERYTHING if is_all else slices(most), True)
+    return arbiter.Reading(slices(used), EVERYTHING if is_all else slices(most), True, guess)
 
 
 def near(numbers: random.Random, value: int) -> int:
@@ -178,7 +194,9 @@ def drawn(numbers: random.Random) -> Tuple[arbiter.Host, arbiter.RoundTimes, Lis
     used = near(numbers, ran * numbers.choice((20, 38, 19)) // 19 // 1000)
     waited = near(numbers, passed // numbers.choice((100, 2, 1)) // 1000)
     count = len(tasks) + numbers.choice((0, 0, 1, 3))
-    return host, arbiter.RoundTimes(passed, used, waited, count, numbers.random() < 0.2), tasks
+    allowed = numbers.choice((None, None, near(numbers, used)))
+    return host, arbiter.RoundTimes(passed, used, waited, count, numbers.random() < 0.2,
+                                    allowed), tasks
 
 
 def test_random_readings(module):
@@ -188,9 +206,10 @@ def test_random_readings(module):
         host, times, tasks = drawn(numbers)
         found = module.reading(host, times, tasks)
         same(found, by_model(host, times, tasks), f"{host} {times} {tasks}")
-        seen.add((found.is_hungry, found.asked == EVERYTHING, times.is_throttled))
-    same(len(seen & {(False, False, False), (True, False, False), (True, False, True),
-                     (True, True, False), (True, True, True)}), 5)
+        seen.add((found.is_hungry, found.asked == EVERYTHING, found.is_guess,
+                  times.is_throttled, times.allowed is None))
+    # (a guess asks for everything, and a group that was stopped is none)
+    same(len(seen), 14)
 
 
 @pytest.mark.parametrize("limit, own, stands, quota", [

@@ -431,9 +431,9 @@ CALLS_OF_COUNTS = {
             {"tables.rt": 3, "one_pass.rt": 1, "conditions.rt": 1, "checking.rt": 1},
     },
     "bw_questions": {
-        r"\*plans = plans\.one_more\(\);": {"least.rt": 1, "tuned/excess.rt": 1},
+        r"\*plans = plans\.one_more\(\);": {"least.rt": 1},
         r"\bplan(?:_\w+)?\((?:rt, )?alloc":
-            {"guaranteed.rt": 1, "held.rt": 2, "least.rt": 1, "tuned/excess.rt": 1},
+            {"guaranteed.rt": 1, "held.rt": 2, "least.rt": 1},
         r"\bCount::none\(": {},
     },
 }
@@ -447,8 +447,8 @@ def test_calls_of_counts(crate):
 
 @pytest.mark.parametrize("crate, file, call", [
     ("bw_check", "checking.rt", "for g in 0..count {"), ("bw_check", "marks.rt", "Count::none()"),
-    ("bw_questions", "tuned/judged.rt", "plan(alloc, &shown)?"),
-    ("bw_questions", "tuned.rt", "&mut Count::none()")])
+    ("bw_questions", "from_root/planned.rt", "plan(alloc, &light)?"),
+    ("bw_questions", "from_root.rt", "&mut Count::none()")])
 def test_another_call_of_a_count_is_found(crate, file, call):
     sources = sources_of(crate)
     assert misplaced(CALLS_OF_COUNTS[crate], {**sources, file: sources[file] + call})

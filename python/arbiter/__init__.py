@@ -13,11 +13,11 @@ package is not.
 """
 from arbiter.columns import (Certificate, Columns, Counters, Figures, Host, Kind, Level,
                              QuotaColumns, Reading, Reason, Round, RoundTimes, Row, Samples,
-                             Script, Unmet)
+                             Script)
 from arbiter.found import Unavailable
 from arbiter.library import Library, Refused
 
 __all__ = ["Certificate", "Columns", "Counters", "Figures", "Host", "Kind", "Level", "Library",
            "QuotaColumns", "Reading", "Reason", "Refused", "Round", "RoundTimes", "Row", "Samples",
-           "Script", "Unavailable", "Unmet"]
+           "Script", "Unavailable"]
 __version__ = "1.0.0"

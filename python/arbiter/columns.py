@@ -256,15 +256,6 @@ class Certificate(NamedTuple):
                 for each in zip(self.nums, self.dens, self.places)]
 
 
-class Unmet(NamedTuple):
-    """Goals that no weights of 1 to 10000 of the goals' groups meet at once, by their places."""
-
-    # One of them.
-    goal: int
-    # All of them, in their order.
-    together: list[int]
-
-
 class Round(NamedTuple):
     """The limits of a round, and the demands and the certified plan that they come from. Each has
     one entry for each row, in slices of one period."""
@@ -288,8 +279,9 @@ class RoundTimes(NamedTuple):
     waited: int
     # Its tasks at the end.
     tasks: int
-    # Whether it was throttled at a limit of its own.
+    # Whether it was throttled at a limit of its own, and the microseconds that this allowed it.
     is_throttled: bool = False
+    allowed: int | None = None
 
 
 class Reading(NamedTuple):
@@ -298,5 +290,6 @@ class Reading(NamedTuple):
     used: int
     # 1000000 for everything.
     asked: int
-    # Whether it would have used more.
+    # Whether it would have used more, and whether that is a guess.
     is_hungry: bool
+    is_guess: bool = False

@@ -11,12 +11,10 @@ from typing import TypeAlias
 from arbiter import c, found, pipe
 from arbiter.columns import (U8, U32, U64, Certificate, Columns, Counters, Figures, Host, Kind,
                              QuotaColumns, Reading, Reason, Round, RoundTimes, Row, Samples,
-                             Script, Unmet, column, given, in_range, number_or_none, zeros)
+                             Script, column, given, in_range, number_or_none, zeros)
 
 # The rows of a tree, or their columns, which are made once for several calls.
 Rows: TypeAlias = Sequence[Row] | Columns
-# The row of a group, and the slices of one period that it is to get at least.
-Goal: TypeAlias = tuple[int, int]
 # Most groups of a tree, the root among them.
 MOST_GROUPS = 16384
 CONVERSIONS = {"linear": 1, "logarithmic": 2}
@@ -194,13 +192,15 @@ class Library:
         columns = given(*(column(U64, [each[part] for each in tasks], "task")
                           for part in (0, 1))) if tasks else NO_TASKS
         passed, used_us, waited_us = [in_range(each, 64, "time") for each in times[:3]]
-        used, asked, hungry = c.U64(), c.U64(), c.U32()
+        used, asked, hungry, guess = c.U64(), c.U64(), c.U32(), c.U32()
+        allowed = number_or_none(times.allowed, c.NO_LIMIT, "limit")
         number = self.calls.arbiter_reading(
             *self.host(host), passed, used_us, waited_us, in_range(times.tasks, 32, "tasks"),
-            int(times.is_throttled), *columns, *map(ctypes.byref, (used, asked, hungry)))
+            int(times.is_throttled), in_range(allowed, 64, "limit"), *columns,
+            *map(ctypes.byref, (used, asked, hungry, guess)))
         if number:
             raise self.refused(number)
-        return Reading(used.value, asked.value, bool(hungry.value))
+        return Reading(used.value, asked.value, bool(hungry.value), bool(guess.value))
 
     def written(self, host: Host, limit: int, own: int | None, stands: int, tasks: int
                 ) -> tuple[int | None, int]:
@@ -218,41 +218,22 @@ class Library:
                       ctypes.byref(quota), ctypes.byref(weight))
         return None if quota.value == c.NO_LIMIT else quota.value, weight.value
 
-    def tune(self, host: Host, rows: Rows, goals: Sequence[Goal],
-             guaranteed: bool = False) -> list[int] | Unmet:
-        """The weight of each row under which each goal is met at once, or goals that cannot be.
-
-        A goal asks for the slices by the plan or, where `guaranteed`, whatever the groups ask for
-        that are not under its group. Only the weights of the goals' groups change, within 1 to
-        10000. They are the least that are no less than the rows have, or else the least of all.
-        Refused as a plan is, then 20 NotFound if a goal's group is no row, 26 RootFixed if one is
-        row 0, and 29 GoalAbove if one is another goal's group, or above it.
-        """
-        columns, unmet = Columns.of(rows), c.U64()
-        groups = column(U32, [group for group, _ in goals], "group")
-        amounts = column(U64, [amount for _, amount in goals], "amount")
-        tuned, together = zeros(U64, len(columns)), zeros(U8, len(goals))
-        self.ask("tune", host, columns, *given(groups, amounts), int(bool(guaranteed)),
-                 *given(tuned, together), ctypes.byref(unmet))
-        if unmet.value == c.NO_GOAL:
-            return tuned.tolist()
-        return Unmet(unmet.value, [place for place, flag in enumerate(together) if flag])
-
-    def tune_from_root(self, host: Host, rows: Rows, goals: Sequence[int],
-                       may: Sequence[bool]) -> list[int] | int:
+    def tune(self, host: Host, rows: Rows, goals: Sequence[int], may: Sequence[bool],
+             guaranteed: bool = False) -> list[int] | int:
         """The weight of each row under which each has its goal, or a row whose goals cannot be met.
 
-        `goals` has the slices that the plan is to give each row at least, 0 for none. `may` tells
-        for each row whether its weight may change, within 1 to 10000. The weights are the least
-        from the root down. None is less than the row has, unless no such weights meet all goals. If
-        none do, the answer is a row: its goal and those below it cannot be met together. Refused as
-        a plan is, and by 50 WrongLength if there is not one goal and one `may` for each row.
+        `goals` has the slices that each row is to get at least, 0 for none: by the plan or, where
+        `guaranteed`, whatever the groups ask for that are not under it. `may` tells for each row
+        whether its weight may change, within 1 to 10000. The weights are the least from the root
+        down. None is less than the row has, unless no such weights meet all goals. If none do, the
+        answer is a row: its goal and those below it cannot be met together. Refused as a plan is,
+        and by 50 WrongLength if there is not one goal and one `may` for each row.
         """
         columns, unmet = Columns.of(rows), c.U64()
         flags = column(U8, [bool(each) for each in may], "may")
         tuned = zeros(U64, len(columns))
-        self.ask("tune_from_root", host, columns, *given(column(U64, goals, "goal"), flags, tuned),
-                 ctypes.byref(unmet))
+        self.ask("tune", host, columns, *given(column(U64, goals, "goal"), flags),
+                 int(bool(guaranteed)), *given(tuned), ctypes.byref(unmet))
         return tuned.tolist() if unmet.value == c.NO_GOAL else unmet.value
 
     def of_group(self, name: str, host: Host, rows: Rows, group: int, *amount: int) -> int:

@@ -35,6 +35,8 @@ BAR = 12
 MOST_RANGES = 20
 # The mark of a group that is counted as throttled and gets less than its limit.
 ELSEWHERE = "throttled, not by its limit"
+UNKNOWN_NOTE = ("(not known: tasks that sleep often or fork, nice values that differ, kernels after"
+                " 6.12)")
 THROTTLED_NOTE = f"* {ELSEWHERE}: it gets less than its limit"
 
 
@@ -276,6 +278,8 @@ def placed(plan: Plan, view: View, outlook: Outlook) -> Iterator[str]:
     if ranges:
         yield "what Linux may give a group by where tasks run (a model):"
         yield from range_lines(plan, view, ranges)
+    if spans:
+        yield UNKNOWN_NOTE
 
 
 def range_lines(plan: Plan, view: View, ranges: Mapping[int, tuple[int, int]]) -> Iterator[str]:

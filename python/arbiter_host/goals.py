@@ -10,8 +10,8 @@ from typing import NamedTuple
 from arbiter_host import demands, search, units
 from arbiter_host.faults import HostFault, UsageFault, naming
 from arbiter_host.model import Model
-from arbiter_host.names import parent_path, shown
-from arbiter_host.plan import Plan, Planned, plan
+from arbiter_host.names import shown
+from arbiter_host.plan import Plan, Planned, plan, walk
 
 NO_CHANGE = "all goals are met as it stands: nothing changes"
 # At most so many changes are left out one by one.
@@ -36,6 +36,13 @@ class NewSetting(NamedTuple):
     key: str
     now: str
     then: str
+
+
+class Clash(NamedTuple):
+    """A group, and the goals of it and below it, which no weights that may change meet together."""
+
+    group: Planned
+    goals: tuple[Goal, ...]
 
 
 @dataclass(frozen=True)
@@ -77,26 +84,41 @@ class Goals:
         return frozenset(goal.group.row for goal in self.goals)
 
     @property
-    def free(self) -> list[int]:
-        """The places of the goals whose groups may have another weight."""
-        return [place for place, goal in enumerate(self.goals) if goal.group.row not in self.kept]
+    def paths(self) -> frozenset[int]:
+        """The rows of goals' groups and of those above them."""
+        return frozenset(each.row for goal in self.goals
+                         for each in (goal.group, *self.before.above(goal.group)))
 
     @property
-    def depth(self) -> int:
-        return max(goal.group.depth for goal in self.goals)
+    def others(self) -> list[Planned]:
+        """The groups without children that have no goal, nor one above them."""
+        inside = {group.row for group in walk([goal.group for goal in self.goals])}
+        return [group for group in self.before.groups[1:]
+                if not group.children and group.row not in inside]
 
     @property
-    def sums(self) -> dict[int, int]:
-        """What the goals at a row and below it ask for in all, for each row of goals and above."""
-        sums: dict[int, int] = {}
-        for goal in self.goals:
-            for group in (goal.group, *self.before.above(goal.group)):
-                sums[group.row] = sums.get(group.row, 0) + goal.amount
-        return sums
+    def column(self) -> list[int]:
+        """The slices that each row is to get at least, 0 for none."""
+        amounts = {goal.group.row: goal.amount for goal in self.goals}
+        return [amounts.get(row, 0) for row in range(len(self.before.groups))]
 
     @property
-    def weights(self) -> list[int]:
-        return self.before.weights
+    def may(self) -> list[bool]:
+        """Whether the weight of each row may change: of goals' groups, and of those above them
+        unless such weights follow from requests of containers."""
+        source = self.before.model.owned
+        has_requests = source is not None and "request" in source.keys
+        may = (self.rows if has_requests else self.paths) - self.kept
+        return [row in may for row in range(len(self.before.groups))]
+
+    @property
+    def needs(self) -> list[int]:
+        """The slices that each row has to get at least for the goals of it and below it."""
+        needs, below = self.column, [0] * len(self.before.groups)
+        for group in reversed(self.before.groups):
+            needs[group.row] = max(needs[group.row], below[group.row])
+            below[group.parent or 0] += needs[group.row]
+        return needs
 
     def amount(self, after: Plan, row: int) -> int:
         """What a goal of a group is measured by in a plan."""
@@ -136,21 +158,6 @@ class Goals:
         return Way(tuple(changes), after, self.amounts(after), told if changes else NO_CHANGE)
 
 
-def check_apart(goals: Sequence[Goal]) -> None:
-    """A fault that names a goal's group which is another goal's, or above it."""
-    counts = Counter(goal.group.path for goal in goals)
-    for path, many in counts.items():
-        if many > 1:
-            raise UsageFault(f"--goal: {shown(path)} has two goals: name it once")
-    for path in counts:
-        higher = parent_path(path)
-        while higher not in counts and higher != ".":
-            higher = parent_path(higher)
-        if higher != ".":
-            raise UsageFault(f"--goal: {shown(higher)} is above {shown(path)}: a goal of both"
-                             " cannot be asked for at once")
-
-
 def goal_of(word: str) -> tuple[str, Fraction]:
     """The pattern of groups and the thousandths of a CPU of a word `GROUP=AMOUNT`."""
     pattern, equals, amount = word.rpartition("=")
@@ -171,5 +178,7 @@ def goals_of(before: Plan, words: Sequence[str]) -> tuple[Goal, ...]:
     goals = [Goal(groups[each.path], slices.demand(thousandths), thousandths)
              for pattern, thousandths in map(goal_of, words)
              for each in demands.matching(before.model, pattern)]
-    check_apart(goals)
+    for path, many in Counter(goal.group.path for goal in goals).items():
+        if many > 1:
+            raise UsageFault(f"--goal: {shown(path)} has two goals: name it once")
     return tuple(goals)

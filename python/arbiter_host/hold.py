@@ -22,6 +22,7 @@ from arbiter import Columns, Host, Reading, Refused, Round, Row
 from arbiter_host import apply, cgroup2, hunger, looks, output, safe_files, units
 from arbiter_host.apply import BURST, MAXIMUM, WEIGHT, Back, By, Change, Settings
 from arbiter_host.demands import rise
+from arbiter_host.ends import Ends, Sums, served
 from arbiter_host.faults import HostFault
 from arbiter_host.looks import Counted, Times
 from arbiter_host.model import MAX_DEPTH, Group, Model, TooMany, planned, up_to_64_cpus
@@ -30,7 +31,6 @@ from arbiter_host.plan import Engine, asking, fault_of
 from arbiter_host.record import Record
 from arbiter_host.safe_files import Gone, Identity, Root
 from arbiter_host.sources.pods import kubelets
-from arbiter_host.swings import MOST_ROUNDS, Swings
 
 # What is told of a round.
 Line = dict[str, Any]
@@ -101,6 +101,8 @@ class Written(NamedTuple):
     told: dict[str, Line]
     quotas: dict[str, int | None]
     weights: dict[str, int]
+    # The number of leaves that have another limit than their own.
+    held: int
 
 
 class WriteFault(HostFault):
@@ -265,9 +267,9 @@ class Loop:
         # The folder of each group with what stood in it, is written and may stand, as the undo
         # file has it.
         self.undo: list[tuple[str, Settings, Settings, Settings]] = []
-        # Whether it was told that limits are rounded up.
-        self.has_rounded = False
-        self.swings = Swings(host.processors * (host.period_us // host.slice_us))
+        self.ends = Ends(host.processors * (host.period_us // host.slice_us))
+        # Whether the limits of a round are written, and whether they stay at the end.
+        self.is_written, self.stays = record is not None, False
         # The last time and the microseconds used outside the tree; None after it was told.
         self.outside: tuple[int, int] | None = (-1, 0)
         # Whether no group was kubelet's when the loop began.
@@ -445,6 +447,7 @@ class Loop:
         kept = self.groups[path]
         if has_look:
             self.look(kept, path)
+        limit = kept.stands
         stat, begun = self.root.read(kept.folder, "cpu.stat"), kept.at
         kept.at = self.clock()
         passed = kept.at - begun
@@ -458,8 +461,9 @@ class Loop:
             raise HostFault(f"{shown(kept.folder)}: its reading is older than the last: nothing is"
                             " written")
         try:
-            return looks.reading_of(self.engine.library, self.small, rose, passed, before.threads,
-                                    kept.counted.threads, kept.stands.quota is not None)
+            return looks.reading_of(
+                self.engine.library, self.small, rose, passed, before.threads,
+                kept.counted.threads, looks.allowed(limit.quota, limit.period, limit.burst, passed))
         except (Refused, OverflowError) as error:
             raise fault_of(shown(kept.folder), error) from error
 
@@ -488,24 +492,25 @@ class Loop:
 
     def planned(self, model: Model, used: dict[str, Reading]) -> Written:
         """The limits and weights of the next round."""
-        rows, found, weights = self.rows(model), Written({}, {}, {}), dict[str, int]()
+        rows, weights = self.rows(model), dict[str, int]()
         places = {path: row for row, path in enumerate(model.groups, 1) if path in used}
         held = self.held(Columns.of(rows), {row: used[path] for path, row in places.items()})
+        found = Written({}, {}, {}, sum(held.limits[row] != rows[row].limit
+                                        for row in places.values()))
         for path, row in places.items():
             limit, kept, each = held.limits[row], self.groups[path], used[path]
             lacks = (kept.planned or 0) - each.used if each.is_hungry else 0
             kept.planned = held.amounts[row]
             found.told[path] = {"want": held.demands[row], "plan": held.amounts[row],
                                 "used": each.used, "limit": limit, "hungry": each.is_hungry,
-                                "unserved": max(lacks, 0)}
+                                "guess": each.is_guess, "unserved": max(lacks, 0)}
             found.quotas[path] = None
             if limit is not None:
                 found.quotas[path], weights[path] = self.written(
                     limit, rows[row].limit, self.standing(kept), self.tasks[path])
         if self.ways.has_weights:
             # A round that holds nobody leaves the weights of the operator.
-            is_calm = all(held.limits[row] == rows[row].limit for row in places.values())
-            found.weights.update(tree_weights(model, {} if is_calm else weights))
+            found.weights.update(tree_weights(model, weights if found.held else {}))
             for path, line in found.told.items():
                 line["weight"] = found.weights[path]
         return found
@@ -519,9 +524,8 @@ class Loop:
     def limited(self, path: str, kept: Kept, found: Written) -> Settings:
         """What is written for a limit: what stood where that allows no more."""
         quota = found.quotas[path]
-        if found.told[path]["limit"] == 0 and not self.has_rounded:
-            self.has_rounded = True
-            self.tell([f"{path}: a limit below 1 ms is rounded up to it, and so is each other"])
+        if found.told[path]["limit"] == 0:
+            self.tell(["limits below 1 ms are rounded up to it"])
         if quota is None:
             return kept.old
         return apply.known(kept.old.weight, quota, self.host.period_us, 0)
@@ -543,7 +547,7 @@ class Loop:
             kept.target = self.target_of(path, kept, found)
         changes = [kept for kept in self.groups.values() if kept.target is not kept.stands
                    and kept.target != kept.stands]
-        if self.record is None:
+        if self.record is None or not self.is_written:
             return 0
         try:
             undo = [(kept.folder, kept.old, kept.target, kept.stands)
@@ -623,20 +627,22 @@ class Loop:
         found = self.planned(model, used)
         self.rounds += 1
         return {"round": self.rounds, "missed": missed, "written": self.write(found),
+                "held": found.held, "served": served([Sums.of(found.told.values())]),
                 "unserved": sum(line["unserved"] for line in found.told.values()),
                 "groups": found.told}
 
-    def is_swinging(self, line: Line) -> bool:
-        """Whether the limits of a round end the loop, since they go back and forth."""
-        limits = {path: each["limit"] for path, each in line["groups"].items()}
-        swung = self.swings.take(limits) if self.record is not None else None
-        if swung is not None:
-            output.warn(f"{shown(swung)}: its limit went back and forth for {MOST_ROUNDS} rounds:"
-                        " it comes too late here, and the loop ends")
-        return swung is not None
+    def is_over(self, line: Line) -> bool:
+        """Whether the rounds up to one tell that limits do harm here. It is said why."""
+        why = self.ends.take(line) if self.is_written else ""
+        if why:
+            output.warn(f"{why}: limits do not help here, and the loop ends")
+        return bool(why)
 
     def end(self) -> None:
         """Puts back what stood, and removes the undo file if all of it stands again."""
+        if self.stays and self.record is not None and self.record.text:
+            output.warn(f"limits stand. To undo: arbiterctl undo {shown(self.record.path)} --yes")
+            return
         try:
             self.put_back(self.groups.values())
             if self.record is not None:
@@ -646,11 +652,12 @@ class Loop:
             raise HostFault(f"{fault.message}\nto undo: arbiterctl undo {name} --yes") from fault
 
 
-def run(loop: Loop, times: Times, wait: Callable[[float], bool],
-        emit: Callable[[Line], None], begin: Callable[[], object] = lambda: None) -> None:
-    """Rounds until the last reading, or until `wait` tells a signal. What stood is put back at each
-    end. The limits of the last round stand for an interval. `begin` is called after the first
-    reading. It ends by itself where limits go back and forth."""
+def run(loop: Loop, times: Times, wait: Callable[[float], bool], emit: Callable[[Line], None],
+        begin: Callable[[], object] = lambda: None, is_once: bool = False) -> None:
+    """Rounds until the last reading, until `wait` tells a signal, or until limits do harm. What
+    stood is put back at each end. The limits of the last round stand for an interval. With
+    `is_once` they alone are written, and stay. `begin` is called after the first reading."""
+    loop.is_written = not is_once and loop.record is not None
     try:
         loop.read()
         begin()
@@ -665,20 +672,22 @@ def run(loop: Loop, times: Times, wait: Callable[[float], bool],
                 output.warn(f"{missed} rounds missed")
             if readings == times.number:
                 return
+            readings += 1
+            loop.is_written |= is_once and readings == times.number
             try:
                 line = loop.round(missed, now - until > most_late)
             except HostFault as fault:
                 failed += 1
-                if failed >= MOST_FAILED or isinstance(fault, WriteFault):
+                if failed >= MOST_FAILED or is_once or isinstance(fault, WriteFault):
                     raise
                 output.warn(fault.message)
             else:
                 failed = 0
                 emit(line)
-                if loop.is_swinging(line):
+                if loop.is_over(line):
                     return
-            readings += 1
-            if loop.record is None and readings == times.number:
+            if readings == times.number and (is_once or loop.record is None):
+                loop.stays = is_once
                 return
             turn, now = turn + 1 + missed, loop.clock()
     finally:

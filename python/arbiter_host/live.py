@@ -2,14 +2,12 @@
 from __future__ import annotations
 
 import os
-import select
 import signal
 import sys
 import termios
-import time
 import tty
 from collections import deque
-from collections.abc import Callable, Iterator
+from collections.abc import Iterator
 from contextlib import contextmanager
 from dataclasses import dataclass, field
 
@@ -109,32 +107,3 @@ def key_by_key() -> Iterator[int | None]:
 
 class Ended(Exception):
     """A key that ends the view."""
-
-
-class Screen:
-    """What is shown: the last plan, what keys have changed, and the history."""
-
-    def __init__(self, view: Callable[[Plan], View], put: Callable[[Lines], None],
-                 keyboard: int | None) -> None:
-        self.view, self.put, self.keyboard = view, put, keyboard
-        self.keys, self.history = Keys(), Recent()
-        self.plan: Plan | None = None
-
-    def draw(self, letters: str = "") -> None:
-        """Takes keys, and shows the plan."""
-        raise NotImplementedError
-
-    def wait(self, seconds: float) -> None:
-        """Waits, and takes keys meanwhile."""
-        until, left = time.monotonic() + seconds, seconds
-        while True:
-            if self.keyboard is None:
-                time.sleep(left)
-            elif (select.select([self.keyboard], [], [], left)[0]
-                  and (data := os.read(self.keyboard, 100))):
-                self.draw(data.decode("ascii", "ignore"))
-            if self.keys.is_ended:
-                raise Ended
-            if not left:
-                return
-            left = max(until - time.monotonic(), 0)

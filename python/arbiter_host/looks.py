@@ -25,6 +25,8 @@ Clock = Callable[[], float]
 Sleep = Callable[[float], None]
 HOST_TREE = "/sys/fs/cgroup"
 MICROSECONDS, MAX_SECONDS, MAX_READINGS = 10**6, 86400, 10000
+# Microseconds that no group uses.
+MOST_ALLOWED = 2**63
 # Why nothing is known of what a group used between two looks.
 CAME, FELL, STILL = ("groups that came or went", "groups whose counters fell",
                      "groups without a new sample")
@@ -105,10 +107,11 @@ class Span(NamedTuple):
         """What it used, in thousandths of a CPU."""
         return units.thousandths_of_usage(self.risen.usage or 0, self.seconds)
 
-    def reading(self, library: Library, host: Host, has_limit: bool) -> Reading:
+    def reading(self, library: Library, host: Host, group: Group) -> Reading:
         """What it used and asks for, and whether it would have used more, by the library."""
-        return reading_of(library, up_to_64_cpus(host), self.risen, int(self.seconds * 10**9),
-                          self.before, self.after, has_limit)
+        passed = int(self.seconds * 10**9)
+        return reading_of(library, up_to_64_cpus(host), self.risen, passed, self.before, self.after,
+                          allowed(group.quota, group.period, group.burst, passed))
 
     def measured(self, tasks: int | None) -> Measured:
         """The same as two readings."""
@@ -116,12 +119,18 @@ class Span(NamedTuple):
         return Measured([first, self.risen], tasks=tasks)
 
 
+def allowed(quota: int | None, period: int, burst: int, passed: int) -> int | None:
+    """Microseconds that a limit allows in so many nanoseconds; None without one."""
+    return None if quota is None else min(quota * passed // (1000 * period) + burst, MOST_ALLOWED)
+
+
 def reading_of(library: Library, host: Host, rose: CounterReading, passed: int,
-               before: hunger.Tasks, after: hunger.Tasks, has_limit: bool) -> Reading:
+               before: hunger.Tasks, after: hunger.Tasks, allowed: int | None) -> Reading:
     """What a group used in so many nanoseconds and asks for, by the library."""
     times = RoundTimes(passed, rose.usage or 0, rose.pressure or 0, len(after),
-                       has_limit and bool(rose.throttled))
-    return library.reading(host, times, list(hunger.rises(before, after)) if after else ())
+                       allowed is not None and bool(rose.throttled), allowed)
+    tasks = [each[:2] for each in hunger.rises(before, after)] if after else ()
+    return library.reading(host, times, tasks)
 
 
 def risen(one: Counted, two: Counted) -> CounterReading:
@@ -165,7 +174,7 @@ def between(one: Look, two: Look, path: str) -> Span | str:
 
 class Tree:
     """A tree of cgroups that is read again and again, or with no clock a copy of one. With
-    `has_threads` each look has what the tasks of this host did, too."""
+    `has_threads` each look has what the tasks of this host did, and their ranks."""
 
     def __init__(self, folder: str, host: Host, clock: Clock | None = None,
                  depth: int = MAX_DEPTH, has_threads: bool = False) -> None:
@@ -265,7 +274,7 @@ class Tree:
             look.tasks[leaf.path] = count
         if self.has_threads and leaf.path in look.counted:
             text = cgroup2.file_text(leaf.place, "cgroup.threads") or ""
-            threads = hunger.tasks(text[:hunger.MOST_TEXT])
+            threads = hunger.tasks(text[:hunger.MOST_TEXT], True)
             look.counted[leaf.path] = {key: each._replace(threads=threads) for key, each
                                        in look.counted[leaf.path].items()}
 

@@ -24,6 +24,7 @@ from arbiter_host.atomic_files import CHANGED, Place, collected_folder, faults, 
 from arbiter_host.faults import HostFault, UsageFault, strerror
 from arbiter_host.names import shown
 from arbiter_host.top import POD_LABELS, Alert, GroupFigures
+from arbiter_host.units import MAX_DEMAND
 
 # First lines of a file.
 MARK = "# HELP arbiter_"
@@ -46,11 +47,24 @@ OTHERS = ("arbiter_alert", "arbiter_round_timestamp_seconds")
 NAMES = (*(name for name, *_ in GROUPS), *OTHERS)
 # Keys of a group in the line of a round of a loop, and what the gauge is.
 HELD = {
-    "want": "CPUs that a group asked for in the last round; +Inf for a hungry one.",
+    "want": "CPUs that a group asked for in the last round; +Inf for all.",
     "plan": "CPUs that the plan of the last round gives a group.",
     "used": "CPUs that a group used in the last round.",
     "limit": "CPUs of the limit of a group for the next round; +Inf for none.",
     "unserved": "CPUs of the plan that stood which a hungry group was not given.",
+}
+# Flags of a group there, and what the gauge is.
+FLAGS = {
+    "hungry": "1 if a group would have used more in the last round.",
+    "guess": "1 if it is a guess whether a group would have used more.",
+}
+# Numbers of a round, and what the gauge is.
+ROUND = {
+    "round": ("rounds", "Rounds since the loop began."),
+    "missed": ("missed_rounds", "Rounds missed before the last one."),
+    "written": ("written_groups", "Groups that were written in the last round."),
+    "held": ("held_groups", "Groups that have another limit than their own."),
+    "served": ("served_ratio", "Part of the plan of the last round that was served, 0 to 1."),
 }
 
 
@@ -91,18 +105,21 @@ class Held(Collector):
 
     def __init__(self, line: dict[str, Any], host: Host) -> None:
         self.line, self.one = line, Fraction(host.slice_us, host.period_us)
+        self.at = time.time()
 
     def collect(self) -> Iterable[GaugeMetricFamily]:
         groups: dict[str, dict[str, Any]] = self.line["groups"]
         for key, words in HELD.items():
             yield gauge(f"arbiter_hold_{key}_cpus", words, (
-                ((path,), float("inf") if each[key] is None or key == "want" and each["hungry"]
-                 else each[key] * self.one) for path, each in groups.items()), ("group",))
-        yield gauge("arbiter_hold_hungry", "1 if a group would have used more in the last round.",
-                    (((path,), each["hungry"]) for path, each in groups.items()), ("group",))
-        for key, name, words in (("round", "rounds", "Rounds since the loop began."),
-                                 ("missed", "missed_rounds", "Rounds missed before the last one.")):
+                ((path,), float("inf") if each[key] in (None, MAX_DEMAND) else each[key] * self.one)
+                for path, each in groups.items()), ("group",))
+        for key, words in FLAGS.items():
+            yield gauge(f"arbiter_hold_{key}", words,
+                        (((path,), each[key]) for path, each in groups.items()), ("group",))
+        for key, (name, words) in ROUND.items():
             yield GaugeMetricFamily(f"arbiter_hold_{name}", words, value=self.line[key])
+        yield GaugeMetricFamily("arbiter_hold_round_timestamp_seconds", "When the last round was.",
+                                value=self.at)
 
 
 def text_of(collector: Collector) -> bytes:

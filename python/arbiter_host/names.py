@@ -48,11 +48,6 @@ def shown(text: str) -> str:
     return "".join(escaped(each) if is_raw(each) else each for each in text)
 
 
-def label(text: str) -> str:
-    """A text within the quotation marks of a label of OpenMetrics."""
-    return shown(text).replace("\\", "\\\\").replace('"', '\\"')
-
-
 def short(text: str) -> str:
     """A text whose container and pod identifiers are cut to their first letters."""
     text = POD_UNIT.sub("pod\\1\u2026", SCOPE_UNIT.sub("\\1\u2026", text))

@@ -197,6 +197,8 @@ TABLE = (
            helps={"undo": "also over what somebody set since `apply`"}),
     Option(("--weights",), "weights", "doing", ("hold",), "also write weights from the limits,"
            " which tell Linux how near each task is to a whole CPU", is_flag=True),
+    Option(("--once",), "once", "doing", ("hold",), "write the limits of the last round alone, and"
+           " leave them: where demands stay (default: of one round)", is_flag=True),
     Option(("--pod", "--pods"), "pod", "pods", ("place", "top"), "a pod that is put into each host;"
            " may be said again", "FILE", is_many=True, kinds_of={"top": ("cgroup",)},
            helps={"top": "the pods whose groups a tree has, so that these have their names: what"
@@ -272,7 +274,7 @@ TABLE = (
     Option(("--library",), "library", "host", (*READ, "hold"), "the C library (default: the first"
            " that is found)", "PATH"),
 )
-MOST = 45
+MOST = 46
 
 
 class Output(NamedTuple):

@@ -11,10 +11,9 @@ from dataclasses import dataclass, replace
 from fractions import Fraction
 from typing import NamedTuple, TypeAlias
 
-from arbiter import Unmet
 from arbiter_host import change, owned, search, units
 from arbiter_host.faults import HostFault
-from arbiter_host.goals import NEEDED, Goals, NewSetting, Way
+from arbiter_host.goals import NEEDED, Clash, Goals, NewSetting, Way
 from arbiter_host.model import Model
 from arbiter_host.owned import Owned, Setting
 from arbiter_host.plan import Plan, Planned
@@ -58,10 +57,12 @@ def limitable(goals: Goals, can_be: Callable[[Planned], bool]) -> Iterator[Plann
 
 
 def words_of(before: Plan, group: Planned, slices: int) -> str:
-    """A limit of so many slices of the host's period, as `--set GROUP.max=` takes it."""
+    """A limit of so many slices of the host's period, as `--set GROUP.max=` takes it: of the
+    group's own period where that is a quota, else of the host's."""
     host, own = before.model.host, group.group
     thousandths = before.thousandths(slices)
-    if own is not None and (thousandths * own.period / 1000).denominator == 1:
+    quota = Fraction(0) if own is None else thousandths * own.period / 1000
+    if quota.denominator == 1 and quota >= units.MIN_QUOTA:
         return units.cpu_text(thousandths)
     return f"{slices * host.slice_us} {host.period_us}"
 
@@ -72,7 +73,8 @@ def cap_of(before: Plan, group: Planned) -> Cap:
     now = "-" if own is None or own.quota is None else units.cpu_text(
         Fraction(1000 * own.quota, own.period))
     most = before.capacity if group.limit is None else min(group.limit, before.capacity)
-    return Cap(group.path, "max", now, 1, most, lambda slices: words_of(before, group, slices))
+    least = -(-units.MIN_QUOTA // before.model.host.slice_us)
+    return Cap(group.path, "max", now, least, most, lambda slices: words_of(before, group, slices))
 
 
 def owned_cap_of(before: Plan, source: Owned, group: Planned) -> Cap | None:
@@ -185,7 +187,7 @@ def by_limits(goals: Goals) -> Way | None:
         return goals.way(known.limited(limits).before, known.changes(limits), LIMITED + NEEDED)
     if goals.before.model.owned is not None:
         return None
-    limits = known.lowered(lambda some: not isinstance(own_weights(known.limited(some)), Unmet))
+    limits = known.lowered(lambda some: not isinstance(own_weights(known.limited(some)), Clash))
     way = None if limits is None else by_weights(known.limited(limits))
     if limits is None or not isinstance(way, Way):
         return None

@@ -17,16 +17,15 @@ def nothing() -> None:
 
 
 @contextmanager
-def bar(what: str, total: int, is_open: bool = False) -> Iterator[Callable[[], None]]:
-    """A bar on standard error, where that is a terminal. The value is called for each step. An open
-    one shows that there is work, and not how much."""
+def bar(what: str, total: int) -> Iterator[Callable[[], None]]:
+    """A bar on standard error, where that is a terminal. The value is called for each step."""
     if not is_allowed or sys.stderr is None or not sys.stderr.isatty() or total < 2:
         yield nothing
         return
     from rich.console import Console  # (few calls show one)
     from rich.progress import Progress
     with Progress(console=Console(stderr=True), transient=True) as progress:
-        task = progress.add_task(what, total=None if is_open else total)
+        task = progress.add_task(what, total=total)
         yield lambda: progress.advance(task)
 
 

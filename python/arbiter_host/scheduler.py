@@ -11,10 +11,10 @@ import select
 import shutil
 import subprocess
 import time
-from collections.abc import Iterator
+from collections.abc import Iterator, Mapping
 from typing import Any, NamedTuple
 
-from arbiter import Reading
+from arbiter import Columns, Reading, Round
 from arbiter_host import hold
 from arbiter_host.faults import HostFault
 from arbiter_host.hold import Kept, Line, WriteFault, Written
@@ -26,17 +26,17 @@ PROGRAM = "arbiter-scheduler"
 FOLDERS = "/usr/sbin:/usr/local/sbin"
 # Seconds within which it answers: a slow machine loads it for a while.
 LONGEST = 60
-# The period of limits in nanoseconds. A group is hungry whose tasks waited for a hundredth.
-LIMIT_PERIOD, HUNGRY = 10**8, 100
+# The period of limits in nanoseconds.
+LIMIT_PERIOD = 10**8
+# A leaf that asks for everything.
+EVERYTHING = Reading(0, MAX_DEMAND, True)
 
 
 class UsedTime(NamedTuple):
-    """What a group did in a round, in nanoseconds: it used, its tasks waited in sum, and one or
-    more of them waited."""
+    """What a group did in a round, in nanoseconds: it used, and its tasks waited in sum."""
 
     used: int
     waited: int
-    some: int
 
 
 class Scheduler:
@@ -99,7 +99,7 @@ class Scheduler:
         self.say("read")
         *leaves, last = self.answer("read")
         try:
-            found = {int(words[1]): UsedTime(*map(int, words[2:5])) for words in leaves}
+            found = {int(words[1]): UsedTime(*map(int, words[2:4])) for words in leaves}
             return found, int(last[1])
         except (ValueError, TypeError, IndexError) as error:
             raise self.fault("it answers what is no reading") from error
@@ -128,6 +128,8 @@ class ScheduledLoop(hold.Loop):
         self.scheduler, self.used, self.passed = scheduler, dict[int, UsedTime](), 0
         # The limits of groups that have one of their own, in slices.
         self.limits = dict[str, int]()
+        # The row of each group, the plan, and that where all leaves ask for everything.
+        self.places, self.amounts, self.most = dict[str, int](), list[int](), list[int]()
         # kubelet's groups are served too, since nothing in them is written
         self.is_checked = True
 
@@ -141,44 +143,63 @@ class ScheduledLoop(hold.Loop):
         return super().read()
 
     def read_group(self, path: str, has_look: bool) -> Reading:
-        """What a group used, and what it would have used had no task waited. One that was in no
-        plan yet is read as by limits."""
+        """What a group used, and what it would have used had no task waited: the kernel counts
+        both, so no hunger is guessed. One that was in no plan yet is read as by limits."""
         kept = self.groups[path]
         each = self.used.get(kept.identity[1])
         if each is None or not self.passed:
             return super().read_group(path, has_look)
         if has_look:
             self.look(kept, path)
+        used = self.slices(each.used)
         asked = min(self.slices(each.used + each.waited), MAX_DEMAND)
-        return Reading(self.slices(each.used), asked, each.some * HUNGRY >= self.passed)
+        return Reading(used, asked, asked > used)
 
     def slices(self, ns: int) -> int:
         """Nanoseconds of a round as slices of a period, rounded up."""
         return -(-ns * self.host.period_us // (self.passed * self.host.slice_us))
 
+    def held(self, rows: Columns, used: Mapping[int, Reading]) -> Round:
+        """The limits of the next round. And the plan where all leaves ask for everything."""
+        self.most = super().held(rows, dict.fromkeys(used, EVERYTHING)).amounts
+        found = super().held(rows, used)
+        self.amounts = found.amounts
+        return found
+
     def write(self, found: Written) -> int:
-        """Gives the scheduler the amounts, and the limits of leaves at or below a limit."""
+        """Gives the scheduler the amounts, and the limits of leaves at or below a limit. A leaf
+        that asks for less than it may have comes and goes: its amount is what it may have, so that
+        it catches up."""
         slices = self.host.processors * self.host.period_us // self.host.slice_us
         self.scheduler.plan(slices, [
-            (self.groups[path].identity[1], line["plan"], self.limit(path, line))
+            (self.groups[path].identity[1], max(line["plan"], self.most[self.places[path]]),
+             self.limit(path, line))
             for path, line in found.told.items()])
         return len(found.told)
 
     def limit(self, path: str, line: Line) -> int:
-        """The limit of a leaf in nanoseconds of its period; 0 where no group sets one. Where the
-        round holds nobody it is the least of those that groups set."""
+        """The limit of a leaf in nanoseconds of its period; 0 where no group sets one. Of the limit
+        of a group it has the part that it has of the plan, or the limit of the round if that is
+        more. Where the round holds nobody it has it whole."""
         names = path.split("/")
         paths = ("/".join(names[:length]) for length in range(1, len(names) + 1))
-        above = [self.limits[each] for each in paths if each in self.limits]
+        above = [self.part(each, line) for each in paths if each in self.limits]
         if not above:
             return 0
-        limit: int = min(above) if line["limit"] is None else line["limit"]
-        part = limit * self.host.slice_us * LIMIT_PERIOD // self.host.period_us
-        return max(part, 1)
+        return max(min(above) * self.host.slice_us * LIMIT_PERIOD // self.host.period_us, 1)
+
+    def part(self, group: str, line: Line) -> int:
+        """What a leaf below a group with a limit, or that group, has of it, in slices."""
+        limit, planned = self.limits[group], self.amounts[self.places[group]]
+        if line["limit"] is None or not planned:
+            return limit
+        part: int = max(limit * line["plan"] // planned, line["limit"])
+        return min(part, limit)
 
     def rows(self, model: Model) -> list[Any]:
         """The rows of the operator's own settings; the groups with a limit are kept."""
         found = super().rows(model)
+        self.places = {path: row for row, path in enumerate(model.groups, 1)}
         self.limits = {path: row.limit for path, row in zip(model.groups, found[1:])
                        if row.limit is not None}
         return found

@@ -1,7 +1,9 @@
 """The view of `top` at a terminal: a table that scrolls, is searched, and folds row by row."""
 from __future__ import annotations
 
+import os
 import re
+import select
 import shutil
 import time
 from collections.abc import Callable, Iterator, Mapping
@@ -10,7 +12,7 @@ from fractions import Fraction
 
 from arbiter_host import explain, live, names, text
 from arbiter_host.explain import View
-from arbiter_host.live import FILTERS, HISTORY, SORTS, Lines
+from arbiter_host.live import FILTERS, HISTORY, SORTS, Keys, Lines, Recent
 from arbiter_host.plan import Plan, Planned
 from arbiter_host.top import PlannedRound
 
@@ -35,12 +37,14 @@ def used(plan: Plan, got: Fraction | None, unit: str) -> str:
     return "-" if got is None else text.measured(plan.model.host, got, unit)
 
 
-class Viewer(live.Screen):
+class Viewer:
     """What is shown of the last round, and where the reader is."""
 
     def __init__(self, view: Callable[[Plan], View], put: Callable[[Lines], None],
                  keyboard: int | None) -> None:
-        super().__init__(view, put, keyboard)
+        self.view, self.put, self.keyboard = view, put, keyboard
+        self.keys, self.history = Keys(), Recent()
+        self.plan: Plan | None = None
         self.got: Mapping[str, Fraction] = {}
         # The path of the row of the cursor, the first row that is shown, and the rows of a page.
         self.path, self.first, self.page = "", 0, 1
@@ -120,6 +124,21 @@ class Viewer(live.Screen):
                 self.take(self.plan, key)
         if self.plan is not None:
             self.put(self.lines(self.plan, shutil.get_terminal_size().lines))
+
+    def wait(self, seconds: float) -> None:
+        """Waits, and takes keys meanwhile."""
+        until, left = time.monotonic() + seconds, seconds
+        while True:
+            if self.keyboard is None:
+                time.sleep(left)
+            elif (select.select([self.keyboard], [], [], left)[0]
+                  and (data := os.read(self.keyboard, 100))):
+                self.draw(data.decode("ascii", "ignore"))
+            if self.keys.is_ended:
+                raise live.Ended
+            if not left:
+                return
+            left = max(until - time.monotonic(), 0)
 
     def head(self, plan: Plan, view: View) -> Iterator[str]:
         planned, left, wanted = (text.amount(plan, each, view.unit) for each in (

@@ -194,9 +194,12 @@ def test_no_worker_outlives_the_run(ctl, folder, how):
     hosts = fleets.make(folder / "hosts", 400, 300)
     run = begun(ctl, "explain", hosts, "--workers", 2, *JSON, start_new_session=True)
     pids = workers_of(run, 2)
-    time.sleep(1)
+    # A fast machine answers all hosts within a second. A run that is stopped ends on none.
+    run.send_signal(signal.SIGSTOP)
+    time.sleep(0.5)
     if how == signal.SIGINT:
         os.killpg(run.pid, how)
+        run.send_signal(signal.SIGCONT)
     else:
         run.kill()
     status, out, err = ended(run)

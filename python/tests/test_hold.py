@@ -36,10 +36,15 @@ def test_limits_of_worked_readings(world, engine, folder):
     (one, stood), (two, then) = world.run(loop, first, second)
     # a: used 20 + 2 of headroom, but its guarantee is 50. b, c: 180 shared out by 100 to 200.
     assert one["groups"] == {
-        "a": {"want": 20, "plan": 20, "used": 20, "limit": 50, "hungry": False, "unserved": 0},
-        "b": {"want": 1000000, "plan": 60, "used": 90, "limit": 60, "hungry": True, "unserved": 0},
+        "a": {"want": 20, "plan": 20, "used": 20, "limit": 50, "hungry": False, "guess": False,
+              "unserved": 0},
+        "b": {"want": 1000000, "plan": 60, "used": 90, "limit": 60, "hungry": True, "guess": True,
+              "unserved": 0},
         "c": {"want": 1000000, "plan": 120, "used": 90, "limit": 120, "hungry": True,
-              "unserved": 0}}
+              "guess": True, "unserved": 0}}
+    assert (one["held"], one["served"], two["served"]) == (3, 1, 1)
+    # both were throttled: that is no guess
+    assert [each["guess"] for each in two["groups"].values()] == [False] * 3
     assert stood == {"a": limit(50), "b": limit(60), "c": limit(120)}
     # a uses more than its plan of 50, so it is held at that.
     assert [(each["plan"], each["limit"]) for each in two["groups"].values()] == [
@@ -77,8 +82,8 @@ def test_a_calm_round_holds_nobody(folder, engine):
     world = World(folder, [("a", 100, FREE), ("b", 100, FREE), ("c", 200, "80000 100000")], "none")
     loop, seen = world.loop(engine, folder / "undo", ways=hold.Ways(has_weights=True)), []
 
-    def calm():
-        world.uses("a", 100)
+    def calm(used=100):
+        world.uses("a", used)
         world.uses("c", 80, throttled=9)
 
     def busy():
@@ -90,7 +95,8 @@ def test_a_calm_round_holds_nobody(folder, engine):
         step()
         seen.append([(world.tree / path / "cpu.weight").read_text().strip() for path in "abc"])
 
-    lines = world.run(loop, calm, busy, lambda: look(calm), lambda: look(calm))
+    # (one that used all of its limit of 60 would be hungry)
+    lines = world.run(loop, calm, busy, lambda: look(lambda: calm(59)), lambda: look(calm))
     free, own = FREE, "80000 100000"
     assert [stood for _, stood in lines] == [
         {"a": free, "b": free, "c": own}, {"a": limit(60), "b": limit(60), "c": own},
@@ -140,7 +146,7 @@ def test_inner_limits_and_rounding_up(folder, engine, capsys):
 
     loop = world.loop(engine, folder / "undo2")
     assert world.run(loop, starved, starved)[1][1]["z"] == limit(1)
-    assert capsys.readouterr().err.count("z: a limit below 1 ms is rounded up to it") == 1
+    assert capsys.readouterr().err.count("limits below 1 ms are rounded up to it") == 1
 
 
 def test_groups_come_and_go(world, engine, folder):

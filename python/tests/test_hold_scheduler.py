@@ -70,7 +70,7 @@ GROUPS = [("a", 100, FREE), ("b", 100, "80000 100000"), ("c", 200, FREE)]
 
 def test_a_plan_is_given_and_nothing_is_written(folder, begun):
     """The first round is read as by limits. In the second a used 0.5 CPUs and waited for 1.5; b
-    used all that its limit allows, and c used 0.4 CPUs."""
+    used all that its limit allows, and c used 0.4 CPUs of the 1 that it may have."""
     world, loop = begun(GROUPS, "", "", "500000000,1500000000;800000000,1200000000;400000000,0")
 
     def first():
@@ -89,8 +89,8 @@ def test_a_plan_is_given_and_nothing_is_written(folder, begun):
     # b is below a limit: 80 slices of a period are 80 ms of 100
     assert told == [
         f"top {world.tree}", "read", "read", "plan 200", f"leaf {a} 60 0",
-        f"leaf {b} 60 {one['groups']['b']['limit'] * 1000000}", f"leaf {c} 60 0", "end", "read",
-        "plan 200", f"leaf {a} 80 0", f"leaf {b} 80 80000000", f"leaf {c} 40 0", "end", "ended"]
+        f"leaf {b} 60 {one['groups']['b']['limit'] * 1000000}", f"leaf {c} 100 0", "end", "read",
+        "plan 200", f"leaf {a} 80 0", f"leaf {b} 80 80000000", f"leaf {c} 100 0", "end", "ended"]
     assert [world.maximum(path) for path in "abc"] == [FREE, "80000 100000", FREE]
     assert stood == then and [each.name for each in folder.glob("undo*")] == []
 
@@ -138,7 +138,7 @@ def test_without_a_loader(monkeypatch, folder):
 def test_refused_words(ctl, folder, world):
     """Another tree than the host's, and weights."""
     for words, said in ((["--yes", "--undo", folder / "u"], "the kernel has one scheduler"),
-                        (["--weights"], "--weights writes files")):
+                        (["--weights"], "--weights and --once write files")):
         _, err = ctl.run("hold", world.tree, "--root", world.tree, "--by", "scheduler", *words,
                          status=2)
         assert said in err

@@ -16,14 +16,15 @@ import pytest
 import trees
 from arbiter import Host
 from arbiter_host import apply, hold, hunger, metrics, safe_files
+from arbiter_host.ends import MOST_ROUNDS, Ends, Shadow
 from arbiter_host.faults import HostFault
 from arbiter_host.model import Group, Model
 from arbiter_host.subcommands.hold import Notifier, Service
-from arbiter_host.swings import MOST_ROUNDS, Swings
 from held import FREE, TWO, World, content, limit, said, started
 from places import PACKAGE
 
-UNIT = PACKAGE.parent / "share/systemd/arbiter-hold.service"
+SHARE = PACKAGE.parent / "share"
+UNIT = SHARE / "systemd/arbiter-hold.service"
 WEIGHTS = hold.Ways(has_weights=True)
 
 
@@ -124,9 +125,9 @@ def test_a_leaf_that_gets_children_and_weights(world, engine, folder):
 
 
 @pytest.mark.parametrize("before, now, seen", [
-    ({7: (9, 9)}, {7: (500, 509)}, [(491, 500)]),
+    ({7: (9, 9, 3)}, {7: (500, 509, 7, ("20", "0"))}, [(491, 500, 4, ("20", "0"))]),
     # one that came, one that went, and a number that was given to another task
-    ({7: (1, 1), 8: (1, 1), 9: (8, 0)}, {7: (1, 1), 9: (7, 5), 10: (2, 2)}, [(0, 0)]),
+    ({7: (1, 1), 8: (1, 1), 9: (8, 0)}, {7: (1, 1), 9: (7, 5), 10: (2, 2)}, [(0, 0, 0, ())]),
 ])
 def test_tasks_at_both_readings(before, now, seen):
     """What each did is told of those alone that were there at both."""
@@ -141,9 +142,14 @@ def test_tasks_are_read(folder, monkeypatch):
     for number, text in ((12, "5 6 7\n"), (13, "nonsense\n"), (15, "8 9 1\n")):
         (folder / str(number)).mkdir()
         (folder / str(number) / "schedstat").write_text(text)
-    assert hunger.tasks("12\n13\n14\n0\nx\n15\n") == {12: (5, 6), 15: (8, 9)}
+    assert hunger.tasks("12\n13\n14\n0\nx\n15\n") == {12: (5, 6, 0, ()), 15: (8, 9, 0, ())}
+    # a name with a bracket and blanks, nice 19 and SCHED_BATCH; the other task has gone
+    (folder / "12/stat").write_text(f"12 (a) b) S {' '.join(['0'] * 14)} 39 19"
+                                    f" {' '.join(['0'] * 21)} 3 0 0\n")
+    (folder / "12/status").write_text("Name:\ta\nvoluntary_ctxt_switches:\t41\nnonvoluntary: 7\n")
+    assert hunger.tasks("12\n15\n", True) == {12: (5, 6, 41, ("39", "3")), 15: (8, 9, 0, ())}
     monkeypatch.setattr(hunger, "MOST_TASKS", 2)
-    assert hunger.tasks("12\n13\n15\n") == {12: (5, 6)}
+    assert hunger.tasks("12\n13\n15\n") == {12: (5, 6, 0, ())}
 
 
 @pytest.fixture
@@ -179,7 +185,10 @@ def test_a_group_below_its_limit_is_hungry(world, begun, engine, folder):
     assert [line["groups"]["c"]["hungry"] for line, _ in lines] == [True] * 3
     # planned the CPU, of which it was not given 45
     assert lines[-1][0]["groups"]["c"] == {
-        "want": 100, "plan": 100, "used": 55, "limit": None, "hungry": True, "unserved": 100 - 55}
+        "want": 100, "plan": 100, "used": 55, "limit": None, "hungry": True, "guess": False,
+        "unserved": 100 - 55}
+    # 55, 20 and 20 of 100, 20 and 20
+    assert lines[-1][0]["served"] == 0.6786
 
 
 def test_a_group_of_many_tasks_asks_for_all(world, begun, engine, folder):
@@ -188,8 +197,22 @@ def test_a_group_of_many_tasks_asks_for_all(world, begun, engine, folder):
     (world.tree / "c/cgroup.threads").write_text("100\n101\n")
     lines = world.run(world.loop(engine, folder / "undo"), step, step)
     assert lines[-1][0]["groups"]["c"] == {
-        "want": 1000000, "plan": 160, "used": 110, "limit": 160, "hungry": True,
+        "want": 1000000, "plan": 160, "used": 110, "limit": 160, "hungry": True, "guess": False,
         "unserved": 160 - 110}
+
+
+@pytest.mark.parametrize("used, quota, is_hungry", [
+    (49, FREE, False), (50, "50000 100000", True), (49, "50000 100000", False),
+    (50, "25000 50000", True), (50, "1000000 1000000", False)])
+def test_who_used_all_that_his_limit_allowed(folder, engine, used, quota, is_hungry):
+    """He is hungry before the kernel counts that he was throttled. A burst is allowed, too."""
+    world = World(folder, [("a", 100, quota), ("b", 100, FREE)])
+    (line, _), = world.run(world.loop(engine), lambda: world.uses("a", used))
+    assert line["groups"]["a"]["hungry"] == is_hungry
+    if quota != FREE:
+        (world.tree / "a/cpu.max.burst").write_text("1000\n")
+        (line, _), = world.run(world.loop(engine), lambda: world.uses("a", used))
+        assert not line["groups"]["a"]["hungry"]
 
 
 def test_many_tasks_are_read_whole(folder):
@@ -292,8 +315,8 @@ def test_limits_that_go_back_and_forth(world, engine, folder, capsys):
 
     def step():
         if next(turns) % 2:
-            world.uses("a", 90, waited=10**6)
-        world.uses("b", 90, waited=10**6)
+            world.uses("a", 90, throttled=1, waited=10**6)
+        world.uses("b", 90, throttled=1, waited=10**6)
 
     lines = world.run(world.loop(engine, folder / "undo"), *[step] * 70)
     assert len(lines) == MOST_ROUNDS + 2 and not (folder / "undo").exists()
@@ -301,17 +324,100 @@ def test_limits_that_go_back_and_forth(world, engine, folder, capsys):
     assert "a: its limit went back and forth for 60 rounds" in capsys.readouterr().err
     assert len(world.run(world.loop(engine), *[step] * 70)) == 70
     for limits in ([50] * 70, [100, 90] * 35, [*range(50, 120)], [50, 90, None] * 23):
-        swings = Swings(200)
-        assert {swings.take({"a": limit}) for limit in limits} == {None}
-    swings = Swings(200)
-    assert [swings.take({"a": limit}) for limit in [None, 50] * 31] == [None] * 61 + ["a"]
+        ends = Ends(200)
+        assert {ends.swung({"a": limit}) for limit in limits} == {None}
+    ends = Ends(200)
+    assert [ends.swung({"a": limit}) for limit in [None, 50] * 31] == [None] * 61 + ["a"]
 
 
-LINE = {"round": 7, "missed": 1, "written": 2, "unserved": 3, "groups": {
-    'a"b\\c\n': {"want": 20, "plan": 20, "used": 19, "limit": 50, "hungry": False, "unserved": 0},
-    "b": {"want": 1000000, "plan": 60, "used": 57, "limit": 60, "hungry": True, "unserved": 3}}}
-CALM = {"round": 8, "missed": 0, "written": 1, "unserved": 0, "groups": {
-    "b": {"want": 5, "plan": 5, "used": 5, "limit": None, "hungry": False, "unserved": 0}}}
+def of_round(held, used, plan, hungry=True, guess=False):
+    """The line of a round with one group."""
+    return {"held": held, "groups": {"a": {"used": used, "plan": plan, "limit": 50,
+                                           "hungry": hungry, "guess": guess}}}
+
+
+@pytest.mark.parametrize("free, last, why", [
+    # 90 of 100 while nobody was held, 84 of 100 then; 86 are not 5 hundredths less
+    (90, of_round(1, 84, 100), "84% of the plan was served, and 90% while nobody was held"),
+    (90, of_round(1, 86, 100), ""), (80, of_round(1, 84, 100), ""),
+    # nothing was planned
+    (90, of_round(1, 0, 0, False), ""),
+    (90, of_round(1, 90, 100, guess=True), "who is hungry is mostly a guess here"),
+    # a guess that is 'served' is one too
+    (90, of_round(1, 90, 100, False, True), "who is hungry is mostly a guess here"),
+])
+def test_a_loop_that_does_harm_ends(free, last, why):
+    """It is judged by so many rounds under limits, and not by those in which nobody was held."""
+    ends = Ends(200)
+    # (nobody lacked anything in the first two rounds)
+    assert [ends.take(of_round(*each, 100)) for each in ((0, 9), (0, 9), (1, free))] == [""] * 3
+    assert [ends.take(last) for _ in range(MOST_ROUNDS - 1)] == [""] * (MOST_ROUNDS - 1)
+    told = ends.take(last)
+    assert told.startswith(why) and bool(told) == bool(why)
+    few = Ends(200)
+    assert {few.take({**last, "held": 0}) for _ in range(2 * MOST_ROUNDS)} == {""}
+
+
+def test_a_loop_that_guesses_ends(world, engine, folder, capsys):
+    """What stood is put back. A loop that writes nothing goes on."""
+    def step():
+        # (none uses all that his limit allows)
+        for path, used in (("a", 40), ("b", 40), ("c", 90)):
+            world.uses(path, used, waited=10**6)
+
+    assert len(world.run(world.loop(engine), *[step] * 62)) == 62
+    assert len(world.run(world.loop(engine, folder / "undo"), *[step] * 70)) == MOST_ROUNDS + 1
+    assert "mostly a guess here: tasks are too short to tell: limits" in capsys.readouterr().err
+    assert [world.maximum(path) for path in "abc"] == [FREE] * 3
+
+
+def test_a_shadow_run():
+    """Means over all rounds, the farthest first; nothing where all are near their plans."""
+    shadow = Shadow(100)
+    for used in (10, 20):
+        shadow.take({"groups": {path: {"used": used, "plan": plan, "hungry": False, "guess": False}
+                                for path, plan in (("a", 20), ("b", 28), ("c", 0))}})
+    assert shadow.told() == [
+        "by weights 2 of 3 groups are more than 5 hundredths of a CPU off their plans: c +15,"
+        " b -13"]
+    assert Shadow(100).told() == []
+
+
+def test_limits_of_one_round(ctl, world, folder):
+    """With --once those of the last round alone are written, and stay. `undo` brings back what
+    stood. Without --yes nothing is written, and it is told who is off."""
+    before, undo = content(world.tree), folder / "u"
+    words = ["hold", world.tree, "--root", world.tree, "--cpus", "2", "--period", "100ms",
+             "--undo", undo, "--once", "--read"]
+    with world.lacking():
+        out, err = ctl.run(*words, "3x200ms")
+        assert [json.loads(line)["written"] for line in out.splitlines()] == [0, 0]
+        assert content(world.tree) == before and not undo.exists()
+        assert "by weights 1 of 3 groups are more than 5 hundredths of a CPU off" in err
+        out, err = ctl.run(*words, "3x200ms", "--yes")
+    assert [json.loads(line)["written"] for line in out.splitlines()] == [0, 3]
+    assert f"limits stand. To undo: arbiterctl undo {undo} --yes" in err
+    assert world.maximum("a") == limit(50)
+    ctl.run("undo", undo, "--yes")
+    assert content(world.tree) == before
+    undo.unlink()
+    # nobody lacks anything: nothing is written
+    out, err = ctl.run(*words, "x200ms", "--yes")
+    assert json.loads(out)["written"] == 0 and err == "" and not undo.exists()
+    _, err = ctl.run(*words, "x1s", "--by", "scheduler", status=2)
+    assert "--weights and --once write files" in err
+
+
+LINE = {
+    "round": 7, "missed": 1, "written": 2, "held": 2, "served": 0.95, "unserved": 3, "groups": {
+        'a"b\\c\n': {"want": 20, "plan": 20, "used": 19, "limit": 50, "hungry": False,
+                     "guess": True, "unserved": 0},
+        "b": {"want": 1000000, "plan": 60, "used": 57, "limit": 60, "hungry": True, "guess": False,
+              "unserved": 3}}}
+CALM = {
+    "round": 8, "missed": 0, "written": 1, "held": 0, "served": 1.0, "unserved": 0, "groups": {
+        "b": {"want": 5, "plan": 5, "used": 5, "limit": None, "hungry": True, "guess": False,
+              "unserved": 0}}}
 
 
 def held(line=None):
@@ -320,11 +426,14 @@ def held(line=None):
 
 
 def test_metrics_by_hand():
-    """CPUs of slices; a hungry group wants everything."""
+    """CPUs of slices; +Inf is everything, or no limit."""
+    before = time.time()
     lines = metrics.text_of(held()).decode().split("\n")
     assert lines[-2:] == ["# EOF", ""]
     assert "# TYPE arbiter_hold_plan_cpus gauge" in lines
     found = dict(line.rsplit(" ", 1) for line in lines if line and not line.startswith("#"))
+    at = found.pop("arbiter_hold_round_timestamp_seconds")
+    assert before <= float(at) <= time.time()
     odd = 'group="a\\"b\\\\c\\\\x0a"'
     assert {key: float(value) for key, value in found.items()} == {
         f"arbiter_hold_want_cpus{{{odd}}}": 0.2,
@@ -334,8 +443,27 @@ def test_metrics_by_hand():
         f"arbiter_hold_limit_cpus{{{odd}}}": 0.5, 'arbiter_hold_limit_cpus{group="b"}': 0.6,
         f"arbiter_hold_unserved_cpus{{{odd}}}": 0, 'arbiter_hold_unserved_cpus{group="b"}': 0.03,
         f"arbiter_hold_hungry{{{odd}}}": 0, 'arbiter_hold_hungry{group="b"}': 1,
-        "arbiter_hold_rounds": 7, "arbiter_hold_missed_rounds": 1}
+        f"arbiter_hold_guess{{{odd}}}": 1, 'arbiter_hold_guess{group="b"}': 0,
+        "arbiter_hold_rounds": 7, "arbiter_hold_missed_rounds": 1,
+        "arbiter_hold_written_groups": 2, "arbiter_hold_held_groups": 2,
+        "arbiter_hold_served_ratio": 0.95}
+    assert b'\narbiter_hold_want_cpus{group="b"} 0.05\n' in metrics.text_of(held(CALM))
     assert b'\narbiter_hold_limit_cpus{group="b"} +Inf\n' in metrics.text_of(held(CALM))
+
+
+def test_dashboard_and_alerts_name_the_metrics():
+    """They name metrics that there are; the dashboard draws all but three."""
+    there = {name for name in re.findall(r"^# TYPE (\S+)", metrics.text_of(held()).decode(), re.M)}
+    board, alerts = ({name for name in re.findall(r"arbiter_hold_\w+", path.read_text())}
+                     for path in (SHARE / "grafana.json", SHARE / "alerts.yml"))
+    assert there - board == {f"arbiter_hold_{name}" for name in (
+        "rounds", "want_cpus", "unserved_cpus")}
+    assert board <= there and len(alerts) >= 5 and alerts <= there
+
+
+@pytest.mark.skipif(shutil.which("promtool") is None, reason="no promtool")
+def test_alerts_are_what_prometheus_reads():
+    subprocess.run(["promtool", "check", "rules", SHARE / "alerts.yml"], timeout=30, check=True)
 
 
 @pytest.mark.skipif(shutil.which("promtool") is None, reason="no promtool")
@@ -406,7 +534,8 @@ def test_systemd_is_told(ctl, world, folder, is_abstract):
         found = received(at)
     assert set(found[:found.index("READY=1")]) <= {"WATCHDOG=1"} and found[-1] == "STOPPING=1"
     told = [each for each in found if each.startswith("WATCHDOG=1\nSTATUS=round ")]
-    assert told[0] == "WATCHDOG=1\nSTATUS=round 1: 3 groups, 0 slices unserved"
+    assert re.fullmatch("WATCHDOG=1\nSTATUS=round 1: 3 of 3 groups held, [0-9]+% of the plan"
+                        " served, 0 slices unserved", told[0])
     assert found.count("WATCHDOG=1") >= 2
 
 

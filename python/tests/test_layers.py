@@ -18,7 +18,7 @@ LAYERS = {
 # The modules of a feature beside the one of its name. No feature leans on another.
 PARTS = {
     "tune": "goals knobs tune_weights tune_settings other_limits",
-    "hold": "scheduler swings",
+    "hold": "ends scheduler",
     "top": "live metrics viewer",
 }
 ORDER = list(LAYERS)

@@ -94,7 +94,6 @@ def of_tree(library, host, rows, chance):
     amounts, evidence = certified(library, host, rows)
     wrong = [amount + (place == len(rows) - 1) for place, amount in enumerate(amounts)]
     group, amount = chance.randrange(len(rows) + 1), chance.randrange(30)
-    goals = [(chance.randrange(len(rows) + 1), chance.randrange(20)) for _ in range(2)]
     yield from ((call, (host, rows)) for call in ("plan", "certify", "limiting", "reasons",
                                                   "figures"))
     yield from (("check", (host, rows, each, evidence)) for each in (amounts, wrong, wrong[1:]))
@@ -104,11 +103,9 @@ def of_tree(library, host, rows, chance):
                   for _ in range(len(rows))], []):
         yield "book", (host, rows, each, amounts, arbiter.Counters.zeros(len(rows)))
     yield "periods", of_periods(host, rows, chance)
-    for few in ([], goals[:1], goals):
-        yield from (("tune", (host, rows, few, guaranteed)) for guaranteed in (False, True))
     may = [chance.random() < 0.5 for _ in range(len(rows))]
     for least in ([chance.choice((0, 0, 3, 9)) for _ in range(len(rows))], []):
-        yield "tune_from_root", (host, rows, least, may)
+        yield from (("tune", (host, rows, least, may, guaranteed)) for guaranteed in (False, True))
     yield "guarantee", (host, rows, group)
     for call in ("least_weight", "least_limit", "least_processors"):
         yield call, (host, rows, group, amount)
@@ -162,7 +159,7 @@ def test_random_trees(both):
         rows = some_rows(chance)
         more = compare(both, of_tree(both[0], host, rows, chance))
         met, refused = met + more[0], refused + more[1]
-    assert met == 25 * TREES and met / 4 < refused < met * 3 / 4
+    assert met == 21 * TREES and met / 4 < refused < met * 3 / 4
 
 
 def test_no_tree(both):
@@ -189,7 +186,7 @@ def test_examples(both, path):
     told = both[0].script(host, text)
     assert len(told.names) > 1
     asked = [("script", (host, text)), *of_tree(both[0], host, told.columns, random.Random(SEED))]
-    assert compare(both, asked)[0] == 26
+    assert compare(both, asked)[0] == 22
 
 
 def test_many_groups(both):

@@ -181,12 +181,13 @@ def lines(engine, model, **view):
 def test_lines_of_explain(engine):
     """Firm groups are counted, and each other one has its range beside the plan."""
     assert lines(engine, host(2, ("a", 100, 2000, 2), ("b", 300, 2000, 2))) == [
-        "", "firm to 0.03 CPUs, wherever tasks run: 2 of 2 groups"]
+        "", "firm to 0.03 CPUs, wherever tasks run: 2 of 2 groups", explain.UNKNOWN_NOTE]
     ranged = lines(engine, host(2, *((each, 100, 1000, 1) for each in "abc")))
     assert ranged[:3] == ["", "what Linux may give a group by where tasks run (a model):",
                           "  from    to  gets  group"]
-    assert [line.split()[3] for line in ranged[3:]] == ["a", "b", "c"]
-    for line in ranged[3:]:
+    assert [line.split()[3] for line in ranged[3:-1]] == ["a", "b", "c"]
+    assert ranged[-1] == explain.UNKNOWN_NOTE
+    for line in ranged[3:-1]:
         low, high, gets = map(float, line.split()[:3])
         assert low < gets < high and low < 0.62 and high > 0.7
     assert lines(engine, host(2, ("a", 100, 2000, None), ("b", 1, 2000, 2))) == [
@@ -208,8 +209,8 @@ def test_many_ranges_are_cut(engine):
     """The widest ranges are told, and the number of the others."""
     model = host(8, *((f"g{at}", 50 + 8 * at, 1000, 1) for at in range(25)))
     found = lines(engine, model)
-    assert len(found) == 3 + 20 + 1
-    assert found[-1] == "  and 5 with narrower ranges; -o json has all"
+    assert len(found) == 3 + 20 + 2
+    assert found[-2] == "  and 5 with narrower ranges; -o json has all"
 
 
 def test_data_of_explain(engine):

@@ -305,7 +305,7 @@ _arbiterctl() {
                 --slice) ;;
                 --library) ;;
                 *)
-                    [[ $word == -* ]] && mapfile -t COMPREPLY < <(compgen -W "-o --output --depth -v --verbose --yes --root --by --undo --force --weights --read --cpus --period --slice --library -h --help" -- "$word")
+                    [[ $word == -* ]] && mapfile -t COMPREPLY < <(compgen -W "-o --output --depth -v --verbose --yes --root --by --undo --force --weights --once --read --cpus --period --slice --library -h --help" -- "$word")
                     ;;
             esac
             ;;

@@ -273,6 +273,7 @@ complete -c arbiterctl -n '__fish_seen_subcommand_from hold' -l by -x -a 'limits
 complete -c arbiterctl -n '__fish_seen_subcommand_from hold' -l undo -r -F -d 'the undo file, which must be new, in a folder that only this user may change (default /run/arbiter/hold-undo.json)'
 complete -c arbiterctl -n '__fish_seen_subcommand_from hold' -l force -d 'also groups of kubelet (kubepods)'
 complete -c arbiterctl -n '__fish_seen_subcommand_from hold' -l weights -d 'also write weights from the limits, which tell Linux how near each task is to a whole CPU'
+complete -c arbiterctl -n '__fish_seen_subcommand_from hold' -l once -d 'write the limits of the last round alone, and leave them: where demands stay (default: of one round)'
 complete -c arbiterctl -n '__fish_seen_subcommand_from hold' -l read -x -d 'a round lasts TIME, at least the period; N rounds (default x1s, which goes on)'
 complete -c arbiterctl -n '__fish_seen_subcommand_from hold' -l cpus -x -d 'CPUs of the host (default: what the source says, else this machine\'s for cgroups, systemd and containers, else 1)'
 complete -c arbiterctl -n '__fish_seen_subcommand_from hold' -l period -x -d 'period of the limits, 100ms or 1s (default 1s)'

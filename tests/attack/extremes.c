@@ -96,9 +96,8 @@ static uint64_t told(const uint32_t *parents, const uint64_t *weights, const uin
     uint64_t *wants = guard_block(n * 8, 0), *mosts = guard_block(n * 8, 1), *shares = guard_block(n * 8, 0), *withheld = guard_block(n * 8, 1);
     uint32_t *actives = guard_block(n * 4, 1);
     uint64_t *carries = guard_block(n * 8, 0), *sums[6];
-    uint8_t *hungry = copied(weights, n), *together = guard_block(1, 0);
+    uint8_t *hungry = copied(weights, n);
     uint64_t *held = guard_block(n * 8, 0), *round = guard_block(n * 8, 1), *tuned = guard_block(n * 8, 0), unmet = 7;
-    const uint32_t last = (uint32_t)n - 1;
     uint32_t answers[15];
 
     answers[0] = arbiter_plan(HOST, ALL(n), amounts, n);
@@ -114,16 +113,16 @@ static uint64_t told(const uint32_t *parents, const uint64_t *weights, const uin
     for (size_t g = 0; g < n; g++)
         sum = sum * 31 + amounts[g] + 3 * nums[g] + 5 * dens[g] + 7 * flags[g];
     answers[10] = arbiter_hold(HOST, ALL(n), hungry, n, held, n, round, n, amounts, n, flags, n, nums, n, dens, n, places, n);
-    answers[11] = arbiter_tune(HOST, ALL(n), &last, 1, demands, 1, 0, tuned, n, together, 1, &unmet);
+    uint64_t *goals = guard_block(n * 8, 1);
+    for (size_t g = 0; g < n; g++)
+        goals[g] = g + 1 < n ? 0 : 1;
+    answers[11] = arbiter_tune(HOST, ALL(n), goals, n, hungry, n, 0, tuned, n, &unmet);
     for (int each = 0; each < 6; each++)
         sums[each] = guard_block(n * 8, 1);
     answers[12] = arbiter_book(HOST, ALL(n), limits, n, demands, n, carries, n, sums[0], n, sums[1], n, sums[2], n, sums[3], n, sums[4], n, sums[5], n);
     for (size_t g = 0; g < n; g++)
-        sum = sum * 31 + held[g] + 3 * round[g] + 5 * tuned[g] + 7 * (g ? 0 : unmet + together[0]);
-    uint64_t *goals = guard_block(n * 8, 1);
-    for (size_t g = 0; g < n; g++)
-        goals[g] = g + 1 < n ? 0 : 1;
-    answers[13] = arbiter_tune_from_root(HOST, ALL(n), goals, n, hungry, n, tuned, n, &unmet);
+        sum = sum * 31 + held[g] + 3 * round[g] + 5 * tuned[g] + 7 * (g ? 0 : unmet);
+    answers[13] = arbiter_tune(HOST, ALL(n), goals, n, hungry, n, 1, tuned, n, &unmet);
     guard_drop(goals);
     /* as many periods as there can be, of quotas that are none */
     uint64_t *quotas = guard_block(n * 8, 0), *own = guard_block(n * 8, 1), *bursts = guard_block(n * 8, 0), *left = guard_block(n * 8, 1), *cells[9];
@@ -156,7 +155,7 @@ static uint64_t told(const uint32_t *parents, const uint64_t *weights, const uin
     for (int each = 0; each < 6; each++)
         guard_drop(sums[each]);
     guard_drop(carries);
-    guard_drop(hungry), guard_drop(together), guard_drop(held), guard_drop(round), guard_drop(tuned);
+    guard_drop(hungry), guard_drop(held), guard_drop(round), guard_drop(tuned);
     guard_drop(amounts), guard_drop(nums), guard_drop(dens), guard_drop(places), guard_drop(groups), guard_drop(flags), guard_drop(reasons);
     guard_drop(tights), guard_drop(wants), guard_drop(mosts), guard_drop(shares), guard_drop(withheld), guard_drop(actives);
     return sum * 31 + rest + count + row;
@@ -217,8 +216,7 @@ static void nothing(void)
     IS(5, arbiter_least_weight(HOST, ALL(0), UINT32_MAX, UINT64_MAX, &number));
     IS(5, arbiter_refused_row(ALL(0), &row));
     IS(5, arbiter_hold(HOST, ALL(0), flags, 0, amounts, 0, amounts, 0, amounts, 0, flags, 0, amounts, 0, amounts, 0, places, 0));
-    IS(5, arbiter_tune(HOST, ALL(0), parents, 0, amounts, 0, 1, amounts, 0, flags, 0, &number));
-    IS(5, arbiter_tune_from_root(HOST, ALL(0), amounts, 0, flags, 0, amounts, 0, &number));
+    IS(5, arbiter_tune(HOST, ALL(0), amounts, 0, flags, 0, 1, amounts, 0, &number));
     IS(50, arbiter_periods(HOST, parents, 0, weights, 0, limits, 0, weights, 0, demands, 0, demands, 0, UINT64_MAX, amounts, 0, amounts, 0, amounts, 0,
                            amounts, 0, amounts, 0, amounts, 0, amounts, 0, amounts, 0, amounts, 0, amounts, 0));
     IS(50, arbiter_plan(0, 0, 0, parents, 0, weights, 0, limits, 0, demands, 0, &number, 1));
@@ -259,8 +257,7 @@ static void millions(void)
     uint64_t *held = mapped(n * 8), *round = mapped(n * 8);
     uint8_t *hungry = mapped(n);
     IS(4, arbiter_hold(HOST, ALL(n), hungry, n, held, n, round, n, amounts, n, flags, n, nums, n, dens, n, places, n));
-    IS(4, arbiter_tune(HOST, ALL(n), parents, n, weights, n, 0, held, n, flags, n, &number));
-    IS(4, arbiter_tune_from_root(HOST, ALL(n), weights, n, hungry, n, held, n, &number));
+    IS(4, arbiter_tune(HOST, ALL(n), weights, n, hungry, n, 1, held, n, &number));
     munmap(held, n * 8), munmap(round, n * 8), munmap(hungry, n);
     IS(50, arbiter_plan(HOST, parents, n, weights, 3, limits, n, demands, n, amounts, n));
     IS(50, arbiter_plan(HOST, ALL(n), amounts, n - 1));
@@ -359,12 +356,12 @@ static void numbers(void)
                 demand(answer ? cpus == 7 && period == 7 && slice == 7 : cpus * (period / slice) == ends[p] * (ends[u] / ends[s]), __LINE__);
                 demand(answer || arbiter_plan(cpus, period, slice, ALL(3), amounts, 3) == 0, __LINE__);
                 uint64_t ran[2] = {ends[u], ends[p]}, asked = 7, quota = 7, weight = 7;
-                uint32_t hungry = 7;
+                uint32_t hungry = 7, guess = 7;
                 number = 7;
                 answer = arbiter_reading(ends[p], ends[u], ends[s], ends[(u * 5 + p) % many], ends[(s + p) % many], ends[(s * 3 + u) % many], p % 2 ? 2 : UINT32_MAX, s % 2,
-                                         ran, 2, ran, 2, &number, &asked, &hungry);
+                                         ends[(u + p * 3) % many], ran, 2, ran, 2, &number, &asked, &hungry, &guess);
                 demand(host ? answer == host : answer == 0 || answer == 15, __LINE__);
-                demand(answer ? number == 7 && asked == 7 && hungry == 7 : number <= asked && asked <= 1000000 && hungry < 2, __LINE__);
+                demand(answer ? number == 7 && asked == 7 && hungry == 7 && guess == 7 : number <= asked && asked <= 1000000 && hungry < 2 && guess < 2, __LINE__);
                 answer = arbiter_written(ends[p], ends[u], ends[s], ends[(p + u) % many], ends[(u + s) % many], ends[(s + p) % many], (uint32_t)ends[(p * 7 + s) % many], &quota, &weight);
                 demand(host ? answer == host : answer == 0 || answer == 14, __LINE__);
                 demand(answer ? quota == 7 && weight == 7 : (quota >= 1000 || quota == NONE) && weight >= 1 && weight <= 10000, __LINE__);

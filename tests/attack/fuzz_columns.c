@@ -385,57 +385,25 @@ static uint64_t gets(struct host host, struct rows rows, uint32_t group, uint32_
     return amount;
 }
 
-/* Weights of the goals' groups alone meet the goals, or some of these are told. */
-static void hold_tune(struct host host, struct rows rows)
-{
-    size_t n = rows.parents_length, many = taken(1) % 4, flagged = 0;
-    uint32_t *groups = column(many, 4), guaranteed = (uint32_t)(taken(1) % 2), is_goal[MOST] = {0}, is_wrong = 0;
-    uint64_t *amounts = column(many, 8), *tuned = marked(n, 8), unmet = 77;
-    uint8_t *together = marked(many, 1);
-
-    for (size_t each = 0; each < many; each++) {
-        groups[each] = (uint32_t)(taken(1) % (n + 1));
-        amounts[each] = number(40);
-        is_wrong |= groups[each] == 0 || groups[each] == n || is_goal[groups[each]]++;
-    }
-    for (size_t each = 0; each < many && !is_wrong; each++)
-        for (uint32_t above = groups[each]; above;)
-            is_wrong |= is_goal[above = rows.parents[above]];
-    uint32_t answer = counted(arbiter_tune(HOST(host), ROWS(rows), groups, many, amounts, many, guaranteed, tuned, n, together, many, &unmet));
-    demand(is_wrong ? answer == 20 || answer == 26 || answer == 29 : answer == 0, "goals answer another number");
-    if (answer) {
-        demand(is_marked(tuned, n * 8) && is_marked(together, many) && unmet == 77, "refused goals wrote");
-    } else {
-        for (size_t each = 0; each < many; each++)
-            flagged += together[each];
-        demand(unmet == ARBITER_NO_GOAL ? !flagged : unmet < many && together[unmet] == 1, "other goals are told");
-        for (size_t row = 0; row < n; row++)
-            demand(tuned[row] == rows.weights[row] || (is_goal[row] && unmet == ARBITER_NO_GOAL && tuned[row] - 1 < 10000), "another weight");
-        rows.weights = tuned;
-        for (size_t each = 0; each < many && unmet == ARBITER_NO_GOAL; each++)
-            demand(gets(host, rows, groups[each], guaranteed) >= amounts[each], "a goal is not met");
-    }
-    guard_drop(groups), guard_drop(amounts), guard_drop(tuned), guard_drop(together);
-}
-
 /* Weights of the rows that may change meet the goals of rows, or a row is told. */
-static void hold_tune_from_root(struct host host, struct rows rows)
+static void hold_tune(struct host host, struct rows rows)
 {
     size_t n = rows.parents_length;
     uint64_t *goals = column(n, 8), *tuned = marked(n, 8), unmet = 77;
     uint8_t *may = column(n, 1);
+    uint32_t guaranteed = (uint32_t)(taken(1) % 2);
 
     for (size_t row = 0; row < n; row++) {
         may[row] = (uint8_t)(taken(1) % 3);
         goals[row] = taken(1) % 4 ? 0 : number(12);
     }
-    demand(counted(arbiter_tune_from_root(HOST(host), ROWS(rows), goals, n, may, n, tuned, n, &unmet)) == 0, "no weights from the root down");
+    demand(counted(arbiter_tune(HOST(host), ROWS(rows), goals, n, may, n, guaranteed, tuned, n, &unmet)) == 0, "no weights from the root down");
     demand(unmet == ARBITER_NO_GOAL || unmet < n, "another row is told");
     for (size_t row = 0; row < n; row++)
         demand(tuned[row] == rows.weights[row] || (may[row] && unmet == ARBITER_NO_GOAL && tuned[row] - 1 < 10000), "another weight");
     rows.weights = tuned;
     for (uint32_t row = 0; row < n && unmet == ARBITER_NO_GOAL; row++)
-        demand(planned(host, rows, row) >= goals[row], "a goal of a row is not met");
+        demand(gets(host, rows, row, guaranteed) >= goals[row], "a goal of a row is not met");
     guard_drop(goals), guard_drop(tuned), guard_drop(may);
 }
 
@@ -515,8 +483,7 @@ static void hold_refusal(struct host host, struct rows rows, struct answer *foun
     uint8_t *hungry = column(n, 1);
     demand(counted(arbiter_hold(HOST(host), ROWS(rows), hungry, n, held, n, demands, n, found->amounts, n, found->flags, n, found->nums, n,
                                 found->dens, n, found->places, n)) == answer, "hold answers another number");
-    demand(counted(arbiter_tune(HOST(host), ROWS(rows), found->places, 0, demands, 0, 0, held, n, hungry, 0, &number_)) == answer, "tune answers another number");
-    demand(counted(arbiter_tune_from_root(HOST(host), ROWS(rows), demands, n, hungry, n, held, n, &number_)) == answer, "tune_from_root answers another number");
+    demand(counted(arbiter_tune(HOST(host), ROWS(rows), demands, n, hungry, n, 0, held, n, &number_)) == answer, "tune answers another number");
     demand(is_marked(held, n * 8) && is_marked(demands, n * 8), "a refused call wrote");
     guard_drop(held), guard_drop(demands), guard_drop(hungry);
     demand(is_marked(found->amounts, n * 8) && is_marked(found->nums, n * 8) && is_marked(found->dens, n * 8), "a refused call wrote");
@@ -556,7 +523,6 @@ static void hold_answer(struct host host, struct rows rows, struct answer *found
     hold_least(host, rows, group, number(64));
     hold_round(host, rows);
     hold_tune(host, rows);
-    hold_tune_from_root(host, rows);
     hold_periods(host, rows, amounts);
     hold_check(host, rows, found);
     seen[answer * 16 + amounts[0] % 16] = 1;

@@ -20,9 +20,9 @@ struct answers {
     uint64_t carries[MOST], sums[6][MOST], left[MOST], cells[9][MOST];
     uint64_t amounts[MOST], nums[MOST], dens[MOST], wants[MOST], mosts[MOST], weights[MOST], withheld[MOST], rest, least[4];
     uint32_t places[MOST], groups[MOST], blamed[MOST], actives[MOST], count, row, numbers[CALLS];
-    uint8_t flags[MOST], reasons[MOST], tights[MOST], together[1];
+    uint8_t flags[MOST], reasons[MOST], tights[MOST];
     /* of a round, of goals, and of a script */
-    uint64_t held[MOST], demands[MOST], planned[MOST], round_nums[MOST], round_dens[MOST], tuned[MOST], unmet;
+    uint64_t held[MOST], demands[MOST], planned[MOST], round_nums[MOST], round_dens[MOST], kept[MOST], tuned[MOST], unmet;
     uint32_t round_places[MOST], above[LINES], faults[LINES], made;
     uint8_t round_flags[MOST], names[TEXT];
     uint64_t columns[7][LINES], lines[LINES], names_count, refused_count;
@@ -82,14 +82,14 @@ static void ask(const struct tree *tree, struct answers *found)
     numbers[10] = arbiter_figures(HOST, ROWS, found->wants, n, found->mosts, n, found->tights, n, found->actives, n, found->weights, n, found->withheld, n);
     numbers[11] = arbiter_hold(HOST, ROWS, tree->hungry, n, found->held, n, found->demands, n, found->planned, n, found->round_flags, n, found->round_nums, n,
                                found->round_dens, n, found->round_places, n);
-    numbers[12] = arbiter_tune(HOST, ROWS, &last, 1, &found->rest, 1, 0, found->tuned, n, found->together, 1, &found->unmet);
+    numbers[12] = arbiter_tune(HOST, ROWS, found->amounts, n, tree->hungry, n, 1, found->kept, n, &found->unmet);
     numbers[13] = arbiter_script(HOST, (uintptr_t)found, (const uint8_t *)tree->script, strlen(tree->script), found->above, LINES, found->columns[0], LINES,
                                  found->columns[1], LINES, found->columns[2], LINES, found->columns[3], LINES, found->columns[4], LINES, found->columns[5], LINES,
                                  found->columns[6], LINES, found->names, TEXT, found->lines, LINES, found->faults, LINES, &found->made, &found->names_count,
                                  &found->refused_count);
     numbers[14] = arbiter_book(HOST, ROWS, tree->limits, n, found->amounts, n, found->carries, n, found->sums[0], n, found->sums[1], n,
                                found->sums[2], n, found->sums[3], n, found->sums[4], n, found->sums[5], n);
-    numbers[15] = arbiter_tune_from_root(HOST, ROWS, found->amounts, n, tree->hungry, n, found->tuned, n, &found->unmet);
+    numbers[15] = arbiter_tune(HOST, ROWS, found->amounts, n, tree->hungry, n, 0, found->tuned, n, &found->unmet);
     numbers[16] = arbiter_periods(HOST, tree->parents, n, tree->weights, n, tree->quotas, n, tree->own, n, tree->bursts, n, tree->demands, n, 9,
                                   found->left, n, found->cells[0], n, found->cells[1], n, found->cells[2], n, found->cells[3], n, found->cells[4], n,
                                   found->cells[5], n, found->cells[6], n, found->cells[7], n, found->cells[8], n);

@@ -74,7 +74,7 @@ def row_of(path: str, intervals: Sequence[Interval]) -> AuditRow:
 
 def ranked(audit: Audit) -> Ranked:
     """The rows of all groups that were measured, by how far off they were at worst."""
-    intervals, outlooks = audit.intervals, Outlooks(audit.intervals)
+    intervals, outlooks = audit.intervals, Outlooks(audit.intervals, audit.why_not)
     paths = {path for interval in intervals for path in interval.cells}
     rows = [replace(row, cause=cause_of(intervals, row.worst, row.path, outlooks))
             for row in sorted((row_of(path, intervals) for path in paths),

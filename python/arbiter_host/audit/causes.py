@@ -15,6 +15,7 @@ from fractions import Fraction
 from arbiter import Host
 from arbiter_host import placement
 from arbiter_host.audit.intervals import Interval, with_demands
+from arbiter_host.audit.unknown import told
 from arbiter_host.model import Model
 from arbiter_host.names import parent_path
 from arbiter_host.placement import Outlook
@@ -28,8 +29,8 @@ MOST_TRIED = 16
 class Outlooks:
     """How far groups may be off by where tasks run, of the intervals that are asked for."""
 
-    def __init__(self, intervals: Sequence[Interval]) -> None:
-        self.intervals = intervals
+    def __init__(self, intervals: Sequence[Interval], why_not: str = "") -> None:
+        self.intervals, self.of_all = intervals, why_not
         self.by_place: dict[int, Outlook] = {}
         # Why placement is not known, in words.
         self.why_not: dict[str, None] = {}
@@ -39,8 +40,11 @@ class Outlooks:
         if interval.model.host.processors == 1:
             return Outlook({})
         if place not in self.by_place:
-            if len(self.by_place) >= MOST_TRIED:
-                self.why_not[f"tried for {MOST_TRIED} intervals alone"] = None
+            why = self.of_all or told(each.unknown for each in interval.cells.values())
+            if not why and len(self.by_place) >= MOST_TRIED:
+                why = f"tried for {MOST_TRIED} intervals alone"
+            if why:
+                self.why_not[why] = None
                 return Outlook({})
             model = with_demands(interval.model, interval.cells)
             # The model of placement knows tasks that work in each tenth of a second.

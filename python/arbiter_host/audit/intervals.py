@@ -9,8 +9,9 @@ from fractions import Fraction
 
 from arbiter import Host
 from arbiter_host import demands, units
+from arbiter_host.audit import unknown
 from arbiter_host.faults import HostFault
-from arbiter_host.looks import CAME, MICROSECONDS, Look, Span, between
+from arbiter_host.looks import CAME, Look, Span, between
 from arbiter_host.model import Group, Model
 from arbiter_host.names import shown
 from arbiter_host.plan import Engine, Plan, asking, plan
@@ -72,10 +73,12 @@ class Cell(Off):
     # Its periods, and those in which it was throttled.
     periods: int
     throttled: int
-    # Whether it would have used more, and whether it waited and that is a guess.
+    # Whether it would have used more, and whether it is a guess that it would not.
     hungry: bool
     tasks: int | None
     may_be_hungry: bool = False
+    # Why placement is not known beside it; empty where nothing tells so.
+    unknown: str = ""
 
 
 @dataclass(frozen=True)
@@ -98,6 +101,8 @@ class Audit:
     intervals: list[Interval]
     plan: Plan
     notes: list[str] = field(default_factory=list)
+    # Why placement is known of no interval; empty where it may be.
+    why_not: str = ""
 
 
 def unplanned_cell(engine: Engine, group: Group, span: Span, tasks: int | None, host: Host,
@@ -106,17 +111,16 @@ def unplanned_cell(engine: Engine, group: Group, span: Span, tasks: int | None, 
     the time in which it waited or was throttled, as `top` does. Its tasks bound it. `want` is
     another rule for all."""
     with asking("a reading"):
-        hungry = span.reading(engine.library, host, group.quota is not None).is_hungry
-    risen = span.risen
-    rule = want or ("psi" if hungry else "usage")
+        reading = span.reading(engine.library, host, group)
+    risen, rule = span.risen, want or ("psi" if reading.is_hungry else "usage")
     demand = demands.wanted(rule, group, span.measured(tasks), host, span.seconds)
     if demand is None:
         raise HostFault(f"--want {rule}: nothing was read for it of {shown(group.path)}")
-    # (hungry ones waited for a tenth of the time at least)
-    waits = (risen.pressure or 0) * 10 >= span.seconds * MICROSECONDS
-    return Cell(span.used, Fraction(0), demand, risen.periods or 0, risen.throttled or 0, hungry,
+    return Cell(span.used, Fraction(0), demand, risen.periods or 0, risen.throttled or 0,
+                reading.is_hungry,
                 None if tasks is None else max(tasks, math.ceil(span.used / 1000)),
-                want is None and not hungry and waits and not span.after)
+                want is None and reading.is_guess and not reading.is_hungry,
+                unknown.of_tasks(span))
 
 
 def with_demands(model: Model, cells: Mapping[str, Cell]) -> Model:

@@ -6,7 +6,7 @@ import os
 
 from arbiter import Library
 from arbiter_host import load, looks, options, progress, text
-from arbiter_host.audit import answer, intervals, ranges
+from arbiter_host.audit import answer, intervals, ranges, unknown
 from arbiter_host.audit.answer import Ranked
 from arbiter_host.audit.causes import NOTHING
 from arbiter_host.faults import HostFault, UsageFault
@@ -70,6 +70,8 @@ def audited(asked: argparse.Namespace) -> Ranked:
         notes = [note for each in seen for note in each.model.notes]
     with progress.bar("intervals", len(seen) - 1) as tick:
         audit = intervals.audited(by, seen, asked.want, away, tick)
+    if not asked.used and len(asked.source or [""]) == 1:
+        audit.why_not = unknown.of_kernel(os.uname().release)
     audit.notes = list(dict.fromkeys([*notes, *audit.notes]))
     return answer.ranked(audit)
 

@@ -17,7 +17,7 @@ from fractions import Fraction
 from typing import TYPE_CHECKING
 
 from arbiter import Host, Library
-from arbiter_host import hold, lines, looks, options, output, record, safe_files
+from arbiter_host import ends, hold, lines, looks, options, output, record, safe_files
 from arbiter_host.faults import HostFault, UsageFault
 from arbiter_host.model import MAX_CAPACITY, MAX_DEPTH
 from arbiter_host.plan import engine_of
@@ -75,8 +75,10 @@ class Service:
     """A loop that runs until a signal, and tells systemd that it is alive. Its rounds are shown as
     lines of JSON, and in a file of metrics."""
 
-    def __init__(self, notifier: Notifier, file: File | None = None) -> None:
-        self.notifier, self.file, self.warn = notifier, file, output.Remarks().tell
+    def __init__(self, notifier: Notifier, file: File | None = None,
+                 shadow: ends.Shadow | None = None) -> None:
+        self.notifier, self.file, self.shadow = notifier, file, shadow
+        self.warn = output.Remarks().tell
         # The signals that end it. A hangup that the caller ignores, as nohup does, ends none.
         is_ignored = signal.getsignal(signal.SIGHUP) is signal.SIG_IGN
         self.signals = SIGNALS - {signal.SIGHUP} if is_ignored else SIGNALS
@@ -100,6 +102,7 @@ class Service:
         finally:
             signal.pthread_sigmask(signal.SIG_BLOCK, self.signals)
             self.lines.finish()
+        self.warn(self.shadow.told() if self.shadow else [])
         self.lines.check()
 
     def wait(self, seconds: float) -> bool:
@@ -124,8 +127,11 @@ class Service:
     def show(self, host: Host, line: hold.Line) -> None:
         """Shows a round. A file that cannot be written ends no loop."""
         self.lines.put(json.dumps(line) + "\n")
-        self.notifier.send("WATCHDOG=1", f"STATUS=round {line['round']}: {len(line['groups'])}"
-                           f" groups, {line['unserved']} slices unserved")
+        if self.shadow is not None:
+            self.shadow.take(line)
+        self.notifier.send("WATCHDOG=1", f"STATUS=round {line['round']}: {line['held']} of"
+                           f" {len(line['groups'])} groups held, {line['served']:.0%} of the plan"
+                           f" served, {line['unserved']} slices unserved")
         if self.file is not None:
             from arbiter_host import metrics
             try:
@@ -143,7 +149,7 @@ def times_of(asked: argparse.Namespace, period: int) -> looks.Times:
         raise UsageFault("--read: a round lasts at least the period")
     if times.number == 1:
         raise UsageFault("--read: a round is from one reading to the next: 2 or more")
-    return times
+    return times._replace(number=times.number or 2) if asked.once else times
 
 
 def locked(root: safe_files.Root, asked: argparse.Namespace, stack: ExitStack) -> record.Record:
@@ -200,8 +206,8 @@ def is_scheduled(asked: argparse.Namespace, root: safe_files.Root) -> bool:
     """Whether the kernel's scheduler is given the plan. Without --yes rounds are shown alone."""
     if asked.by != options.SCHEDULER:
         return False
-    if asked.weights:
-        raise UsageFault("--by scheduler: --weights writes files, and it writes none")
+    if asked.weights or asked.once:
+        raise UsageFault("--by scheduler: --weights and --once write files, and it writes none")
     if asked.yes and not is_real(root):
         raise UsageFault("--by scheduler: the kernel has one scheduler, that of the host's tree")
     return bool(asked.yes)
@@ -220,7 +226,8 @@ def run(asked: argparse.Namespace) -> None:
     with ExitStack() as stack:
         kept = locked(root, asked, stack) if asked.yes else None
         stack.callback(root.close)
-        service = Service(Notifier(), metrics_file(asked, stack))
+        shadow = None if asked.yes else ends.Shadow(host.period_us // host.slice_us)
+        service = Service(Notifier(), metrics_file(asked, stack), shadow)
         stack.enter_context(service.begun())
         words = (engine, root, asked.source, host)
         if is_scheduled(asked, root):
@@ -230,4 +237,4 @@ def run(asked: argparse.Namespace) -> None:
         else:
             loop = hold.Loop(*words, kept, ways, service.clock)
         hold.run(loop, times, service.wait, functools.partial(service.show, host),
-                 lambda: service.notifier.send("READY=1"))
+                 lambda: service.notifier.send("READY=1"), asked.once)

@@ -4,10 +4,9 @@ from __future__ import annotations
 import argparse
 from collections.abc import Sequence
 
-from arbiter import Unmet
 from arbiter_host import change, choosing, knobs, options as table, text, tune, units
 from arbiter_host.faults import NothingFound, UsageFault
-from arbiter_host.goals import Way
+from arbiter_host.goals import Clash, Goal, Way
 from arbiter_host.knobs import Knob
 from arbiter_host.model import MAX_PROCESSORS
 from arbiter_host.names import short, shown
@@ -61,7 +60,7 @@ class Told:
         if answer.best is not None:
             lines += self.way(answer.best)
         else:
-            assert isinstance(answer.weights, Unmet)
+            assert isinstance(answer.weights, Clash)
             lines += self.clash(answer.weights)
         if isinstance(answer.owned, str):
             lines.append((answer.owned, "yellow" if answer.best else ""))
@@ -84,7 +83,7 @@ class Told:
         """The lines of settings that meet all goals."""
         lines = [(f"all goals are met at once {self.where}; the proved check accepted the plan",
                   ""), ("", ""),
-                 *self.goals(range(len(self.answer.asked.goals)), way.amounts), ("", "")]
+                 *self.goals(self.answer.asked.goals, way.amounts), ("", "")]
         if way.changes:
             rows = [("setting", "now", "then", "group"),
                     *((each.key, each.now, each.then, name(each.path)) for each in way.changes)]
@@ -93,29 +92,30 @@ class Told:
                       ("", ""), (f"who else pays: {losses}", "")]
         return lines + [(way.told, "")]
 
-    def clash(self, clash: Unmet) -> Lines:
+    def clash(self, clash: Clash) -> Lines:
         """The lines of goals that cannot be met together."""
-        goals = [self.answer.asked.goals[place] for place in clash.together]
-        which = ("weights of their groups cannot meet these goals together" if len(goals) > 1 else
-                 "the weight of its group cannot meet this goal")
-        lines = [(f"{which} {self.where}", "yellow"), ("", ""), *self.goals(clash.together),
-                 ("", ""),
-                 (f"asked for in all: {self.amount(sum(goal.amount for goal in goals))}; served in"
-                  f" all: {self.amount(self.before.root.gets)}", "")]
-        if self.answer.is_climbed:
-            lines.append(("nor were weights of the groups above them found that do", ""))
-        lines.append(("nor were limits of other groups found with which they are met", ""))
+        where, most = name(clash.group.path), self.amount(tune.served(self.answer, clash))
+        is_host, are_many = clash.group.parent is None, len(clash.goals) > 1
+        which = "these goals together" if are_many else "this goal"
+        inside = f" in {where}" if are_many and not is_host else ""
+        asked = self.amount(self.answer.asked.needs[clash.group.row])
+        there = f"served in all: {most}" if is_host else f"{where} can be given {most} at most"
+        lines = [(f"weights that may change cannot meet {which}{inside} {self.where}", "yellow"),
+                 ("", ""), *self.goals(clash.goals), ("", ""),
+                 (f"asked for in all: {asked}; {there}", ""),
+                 ("nor were limits of other groups found with which they are met", "")]
         lines += [(f"{name(goal.group.path)} asks for less: no setting gives it more than it asks"
-                   " for", "yellow") for goal in goals if goal.group.want < goal.amount]
+                   " for", "yellow") for goal in clash.goals if goal.group.want < goal.amount]
         return lines + [(f"the settings of {name(path)} stay as they are (-g)", "")
                         for path in self.answer.kept]
 
-    def goals(self, places: Sequence[int], then: Sequence[int] = ()) -> Lines:
-        """A line for each goal of some places: what its group gets now, and then where it is
-        known."""
+    def goals(self, goals: Sequence[Goal], then: Sequence[int] = ()) -> Lines:
+        """A line for each of some goals: what its group gets now, and then where it is known."""
         rows, styles = [("goal", "now", *(["then"] if then else []), "wants", "group")], ["bold"]
-        for place in places:
-            goal, now = self.answer.asked.goals[place], self.answer.amounts[place]
+        gets = {goal.group.row: now
+                for goal, now in zip(self.answer.asked.goals, self.answer.amounts)}
+        for place, goal in enumerate(goals):
+            now = gets[goal.group.row]
             cells = (goal.amount, now, *([then[place]] if then else []), goal.group.want)
             rows.append((*map(self.amount, cells), name(goal.group.path)))
             styles.append("" if then or now >= goal.amount else "red")

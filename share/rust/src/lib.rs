@@ -388,6 +388,8 @@ pub struct RoundTimes {
     pub tasks: u32,
     /// Whether it was throttled at a limit of its own.
     pub is_throttled: bool,
+    /// Microseconds that this limit allowed it, if it has one.
+    pub allowed_us: Option<u64>,
 }
 
 /// What a group used in a round and asks for, in slices of one period, rounded up.
@@ -399,6 +401,8 @@ pub struct Reading {
     pub asked: u64,
     /// Whether it would have used more.
     pub is_hungry: bool,
+    /// Whether that is a guess, since its tasks that were there at both readings tell too little.
+    pub is_guess: bool,
 }
 
 /// What a group used in a round, whether it would have used more, and what it asks for.
@@ -427,59 +431,31 @@ pub fn written(host: Host, limit: u64, own: Option<u64>, stands_us: u64, tasks: 
     Ok((Some(quota).filter(|quota| *quota != raw::NO_LIMIT), weight))
 }
 
-/// A group, by its row, and the slices of one period that it is to get at least.
-#[derive(Clone, Copy, Debug, PartialEq, Eq)]
-pub struct Goal {
-    /// The row of the group.
-    pub group: u32,
-    /// The slices of one period.
-    pub amount: u64,
-}
-
-/// The answer to several goals.
+/// The answer to goals of rows.
 #[derive(Clone, Debug, PartialEq, Eq)]
 pub enum Tuning {
-    /// The weight of each row under which all goals are met.
+    /// The weight of each row with which each has its goal.
     Met(Vec<u64>),
-    /// Goals that no weights of 1 to 10000 of the goals' groups meet at once.
-    Unmet {
-        /// The place of one of them.
-        goal: usize,
-        /// The places of all of them, in their order.
-        together: Vec<usize>,
-    },
+    /// A row. No weights meet the goals of it and below it together, whatever it is given.
+    Unmet(u32),
 }
 
-/// The weights under which each goal is met at once: by the plan or, where `guaranteed`, as [`guarantee`] has it.
+/// The weights under which each row has its goal: by the plan or, where `guaranteed`, as [`guarantee`] has it.
 ///
-/// Only the weights of the goals' groups change, within 1 to 10000. They are the least that are no less than those of the rows,
-/// or else the least of all.
+/// `goals` has the slices that each row is to get at least, 0 for none. Weights change where `may` says so, within 1 to 10000.
+/// They are the least from the root down that are no less than those of the rows, or else of all.
 ///
 /// # Errors
-/// As of [`plan`], then 20 where a goal's group is no row, 26 where it is the root, and 29 where it is another goal's group, or
-/// above it.
-pub fn tune(host: Host, rows: &[Row], goals: &[Goal], guaranteed: bool) -> Result<Tuning, Fault> {
-    let groups: Vec<u32> = goals.iter().map(|goal| goal.group).collect();
-    let amounts: Vec<u64> = goals.iter().map(|goal| goal.amount).collect();
+/// As of [`plan`], and 50 where there is not one goal and one `may` for each row.
+pub fn tune(host: Host, rows: &[Row], goals: &[u64], may: &[bool], guaranteed: bool) -> Result<Tuning, Fault> {
+    let flags: Vec<u8> = may.iter().map(|each| u8::from(*each)).collect();
     let (columns, mut tuned) = (Columns::of(rows), vec![0; rows.len()]);
-    let (mut together, mut unmet) = (vec![0; goals.len()], raw::NO_GOAL);
-    let number = columns.tune(
-        host,
-        &groups,
-        &amounts,
-        guaranteed,
-        &mut tuned,
-        &mut together,
-        &mut unmet,
-    );
+    let mut unmet = raw::NO_GOAL;
+    let number = columns.tune(host, goals, &flags, guaranteed, &mut tuned, &mut unmet);
     of_rows(number, &columns)?;
-    if unmet == raw::NO_GOAL {
-        return Ok(Tuning::Met(tuned));
-    }
-    let marked = |place: &usize| together[*place] != 0;
-    Ok(Tuning::Unmet {
-        goal: unmet as usize,
-        together: (0..goals.len()).filter(marked).collect(),
+    Ok(match u32::try_from(unmet) {
+        Ok(row) => Tuning::Unmet(row),
+        Err(_) => Tuning::Met(tuned),
     })
 }
 
@@ -607,6 +583,64 @@ pub fn book(
         *stat = found.stat(row);
     }
     Ok(carries)
+}
+
+/// A group over several periods; each but the root stands after its parent.
+#[derive(Clone, Copy, Debug, PartialEq, Eq)]
+pub struct Settings {
+    /// The row of its parent, none at the root, which is row 0.
+    pub parent: Option<u32>,
+    /// Its weight among its siblings, 1 to 10000.
+    pub weight: u64,
+    /// The quota, 1000 to 10^15 microseconds of each own period.
+    pub quota_us: Option<u64>,
+    /// The own period, 1000 to 1000000 microseconds.
+    pub period_us: u64,
+    /// The burst, 0 to 10^15 microseconds.
+    pub burst_us: u64,
+}
+
+/// Sums of a group over the periods of a sample.
+#[derive(Clone, Copy, Debug, Default, PartialEq, Eq)]
+pub struct Sums {
+    /// Slices that it got.
+    pub amount: u64,
+    /// Slices that it wanted.
+    pub want: u64,
+    /// Slices of its limits, none if it has no quota.
+    pub limit: Option<u64>,
+    /// Periods in which it was throttled.
+    pub nr_throttled: u64,
+    /// Microseconds that it wanted more than its limit.
+    pub throttled_usec: u64,
+    /// Periods in which it used more than its quota.
+    pub nr_bursts: u64,
+    /// Microseconds that it used more than its quota.
+    pub burst_usec: u64,
+    /// Periods in which it was throttled and got less than its limit.
+    pub nr_short: u64,
+    /// Periods in which it wanted something and got nothing.
+    pub nr_starved: u64,
+}
+
+/// Samples of so many periods each, one after another: the sums of each group in the first sample, then in the next.
+///
+/// `demands` has the slices of each group in the first sample, then in the next. `carries` has the slices of its limit that each
+/// group left of the period before, and gets those that it leaves of the last one. The check has accepted the plan of each period.
+///
+/// # Errors
+/// 50 where the demands are not some for each group of each sample, or the carries not one for each group. Then as of
+/// [`planned_host`], as of [`period_limit`] (13 to 15), and as of [`plan`].
+pub fn periods(
+    host: Host,
+    groups: &[Settings],
+    demands: &[u64],
+    times: u64,
+    carries: &mut [u64],
+) -> Result<Vec<Sums>, Fault> {
+    let (columns, mut sums) = (raw::SettingColumns::of(groups), raw::SumColumns::room(demands.len()));
+    answered(columns.periods(host, demands, times, carries, &mut sums), None)?;
+    Ok((0..demands.len()).map(|at| sums.sums(at)).collect())
 }
 
 /// The slices of one period that a ratio of processors takes, rounded up: a demand of a row.
@@ -880,28 +914,18 @@ mod tests {
 
     #[test]
     fn tunes() {
-        let (host, rows) = (Host::default(), equal());
-        let goal = |group, amount| Goal { group, amount };
-        let both = |one, other| [goal(1, one), goal(2, other)];
+        let (host, rows, may) = (Host::default(), equal(), [false, true, true]);
         let met = Ok(Tuning::Met(vec![100, 208, 100]));
-        assert_eq!(tune(host, &rows, &both(14, 6), false), met);
-        assert_eq!(tune(host, &rows, &both(14, 6), true), met);
+        assert_eq!(tune(host, &rows, &[0, 14, 6], &may, false), met);
+        assert_eq!(tune(host, &rows, &[0, 14, 6], &may, true), met);
         let same = Ok(Tuning::Met(vec![100; 3]));
-        assert_eq!(tune(host, &rows, &[], true), same);
-        let unmet = Ok(Tuning::Unmet {
-            goal: 1,
-            together: vec![0, 1],
-        });
-        assert_eq!(tune(host, &rows, &both(14, 7), false), unmet);
-        for (goals, number) in [
-            ([goal(0, 1), goal(3, 1)], 20),
-            ([goal(1, 1), goal(0, 1)], 26),
-            ([goal(1, 1), goal(1, 2)], 29),
-        ] {
-            let refused = Err(fault(number, None));
-            assert_eq!(tune(host, &rows, &goals, false), refused);
-        }
-        assert_eq!(fault(29, None).name(), "GoalAbove");
+        assert_eq!(tune(host, &rows, &[0; 3], &may, true), same);
+        let unmet = Ok(Tuning::Unmet(0));
+        assert_eq!(tune(host, &rows, &[0, 14, 7], &may, false), unmet);
+        assert_eq!(tune(host, &rows, &[0, 14, 6], &[false; 3], true), unmet);
+        let refused = Err(fault(50, None));
+        assert_eq!(tune(host, &rows, &[0, 14], &may, false), refused);
+        assert_eq!(tune(host, &rows, &[0, 14, 6], &may[1..], false), refused);
     }
 
     #[test]
@@ -1019,6 +1043,34 @@ mod tests {
         assert_eq!(name(0), None);
         assert_eq!(name(71).as_deref(), Some("OutOfMemory"));
         assert_eq!(name(58).as_deref(), Some("NextMarkNotAbove"));
+    }
+
+    /// A quota of 10 slices of 20 and a burst of 5 for a group that wants 4 and then 20 slices.
+    #[test]
+    fn counts_periods() {
+        let open = Settings { parent: None, weight: 100, quota_us: None, period_us: 100_000, burst_us: 0 };
+        let web = Settings { parent: Some(0), quota_us: Some(50_000), burst_us: 25_000, ..open };
+        let groups = [open, web, Settings { parent: Some(0), ..open }];
+        let mut carries = [0; 3];
+        let sums = periods(Host::default(), &groups, &[0, 4, 2, 0, 20, 2], 1, &mut carries).unwrap();
+        assert_eq!(sums[1], Sums { amount: 4, want: 4, limit: Some(10), ..Sums::default() });
+        let second = Sums {
+            amount: 15,
+            want: 20,
+            limit: Some(15),
+            nr_throttled: 1,
+            throttled_usec: 25_000,
+            nr_bursts: 1,
+            burst_usec: 25_000,
+            ..Sums::default()
+        };
+        assert_eq!((sums[4], sums[5].limit, sums.len()), (second, None, 6));
+        assert_eq!(carries, [0, 0, 0]);
+        let host = Host::default();
+        assert_eq!(periods(host, &groups, &[0; 4], 1, &mut carries), Err(fault(50, None)));
+        assert_eq!(periods(host, &groups, &[0; 3], 1, &mut [0; 2]), Err(fault(50, None)));
+        let small = [open, Settings { quota_us: Some(999), ..web }];
+        assert_eq!(periods(host, &small, &[0; 2], 1, &mut [0; 2]), Err(fault(13, None)));
     }
 
     #[test]

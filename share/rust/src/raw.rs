@@ -1,6 +1,6 @@
 //! The calls of `arbiter.h`, on slices. Each call has what the header asks: lengths that are those of the slices, pointers that
 //! are not null (a slice has none), and no memory that is written and read at once (a `&mut` overlaps nothing).
-use crate::{Certificate, Fault, Group, Host, Level, Reading, Reason, RefusedLine, RoundTimes, Row, Script, Stat};
+use crate::{Certificate, Fault, Group, Host, Level, Reading, Reason, RefusedLine, RoundTimes, Row, Script, Settings, Stat, Sums};
 use std::collections::hash_map::RandomState;
 use std::hash::{BuildHasher, Hasher};
 
@@ -82,9 +82,8 @@ extern "C" {
     fn arbiter_tune(processors: u64, period_us: u64, slice_us: u64,
                     parents: *const u32, parents_length: usize, weights: *const u64, weights_length: usize,
                     limits: *const u64, limits_length: usize, demands: *const u64, demands_length: usize,
-                    goal_groups: *const u32, goal_groups_length: usize, goal_amounts: *const u64, goal_amounts_length: usize,
-                    guaranteed: u32, tuned: *mut u64, tuned_length: usize, together: *mut u8, together_length: usize,
-                    unmet: *mut u64) -> u32;
+                    goals: *const u64, goals_length: usize, may: *const u8, may_length: usize, guaranteed: u32,
+                    tuned: *mut u64, tuned_length: usize, unmet: *mut u64) -> u32;
     fn arbiter_hold(processors: u64, period_us: u64, slice_us: u64,
                     parents: *const u32, parents_length: usize, weights: *const u64, weights_length: usize,
                     limits: *const u64, limits_length: usize, used: *const u64, used_length: usize,
@@ -94,8 +93,8 @@ extern "C" {
                     dens: *mut u64, dens_length: usize, places: *mut u32, places_length: usize) -> u32;
     fn arbiter_reading(processors: u64, period_us: u64, slice_us: u64,
                        passed_ns: u64, used_us: u64, waited_us: u64, tasks: u32, throttled: u32,
-                       ran: *const u64, ran_length: usize, waited: *const u64, waited_length: usize,
-                       used: *mut u64, asked: *mut u64, hungry: *mut u32) -> u32;
+                       allowed_us: u64, ran: *const u64, ran_length: usize, waited: *const u64, waited_length: usize,
+                       used: *mut u64, asked: *mut u64, hungry: *mut u32, guess: *mut u32) -> u32;
     fn arbiter_written(processors: u64, period_us: u64, slice_us: u64,
                        limit: u64, own: u64, stands_us: u64, tasks: u32, quota: *mut u64, weight: *mut u64) -> u32;
     fn arbiter_refused_row(parents: *const u32, parents_length: usize, weights: *const u64, weights_length: usize,
@@ -112,6 +111,16 @@ extern "C" {
                     nr_periods: *mut u64, nr_periods_length: usize, nr_throttled: *mut u64, nr_throttled_length: usize,
                     throttled_usec: *mut u64, throttled_usec_length: usize, nr_bursts: *mut u64, nr_bursts_length: usize,
                     burst_usec: *mut u64, burst_usec_length: usize) -> u32;
+    fn arbiter_periods(processors: u64, period_us: u64, slice_us: u64,
+                       parents: *const u32, parents_length: usize, weights: *const u64, weights_length: usize,
+                       quotas: *const u64, quotas_length: usize, periods: *const u64, periods_length: usize,
+                       bursts: *const u64, bursts_length: usize, demands: *const u64, demands_length: usize,
+                       times: u64, carries: *mut u64, carries_length: usize,
+                       amounts: *mut u64, amounts_length: usize, wants: *mut u64, wants_length: usize,
+                       limits: *mut u64, limits_length: usize, nr_throttled: *mut u64, nr_throttled_length: usize,
+                       throttled_usec: *mut u64, throttled_usec_length: usize, nr_bursts: *mut u64, nr_bursts_length: usize,
+                       burst_usec: *mut u64, burst_usec_length: usize, nr_short: *mut u64, nr_short_length: usize,
+                       nr_starved: *mut u64, nr_starved_length: usize) -> u32;
     fn arbiter_demand(processors: u64, period_us: u64, slice_us: u64, numerator: u64, denominator: u64, slices: *mut u64) -> u32;
     fn arbiter_planned_host(processors: u64, period_us: u64, slice_us: u64, planned_processors: *mut u64,
                             planned_period_us: *mut u64, planned_slice_us: *mut u64) -> u32;
@@ -186,6 +195,90 @@ impl StatColumns {
     }
 }
 
+/// Settings over several periods, by column.
+pub(crate) struct SettingColumns {
+    parents: Vec<u32>,
+    weights: Vec<u64>,
+    quotas: Vec<u64>,
+    periods: Vec<u64>,
+    bursts: Vec<u64>,
+}
+
+/// Sums over the periods of samples, by column.
+pub(crate) struct SumColumns {
+    amounts: Vec<u64>,
+    wants: Vec<u64>,
+    limits: Vec<u64>,
+    nr_throttled: Vec<u64>,
+    throttled_usec: Vec<u64>,
+    nr_bursts: Vec<u64>,
+    burst_usec: Vec<u64>,
+    nr_short: Vec<u64>,
+    nr_starved: Vec<u64>,
+}
+
+impl SettingColumns {
+    pub(crate) fn of(groups: &[Settings]) -> SettingColumns {
+        SettingColumns {
+            parents: groups.iter().map(|group| parent_number(group.parent)).collect(),
+            weights: groups.iter().map(|group| group.weight).collect(),
+            quotas: groups.iter().map(|group| number_of(group.quota_us)).collect(),
+            periods: groups.iter().map(|group| group.period_us).collect(),
+            bursts: groups.iter().map(|group| group.burst_us).collect(),
+        }
+    }
+
+    #[rustfmt::skip]
+    pub(crate) fn periods(&self, host: Host, demands: &[u64], times: u64, carries: &mut [u64], sums: &mut SumColumns) -> u32 {
+        // SAFETY: as above
+        unsafe {
+            arbiter_periods(host.processors, host.period_us, host.slice_us,
+                            self.parents.as_ptr(), self.parents.len(), self.weights.as_ptr(), self.weights.len(),
+                            self.quotas.as_ptr(), self.quotas.len(), self.periods.as_ptr(), self.periods.len(),
+                            self.bursts.as_ptr(), self.bursts.len(), demands.as_ptr(), demands.len(), times,
+                            carries.as_mut_ptr(), carries.len(), sums.amounts.as_mut_ptr(), sums.amounts.len(),
+                            sums.wants.as_mut_ptr(), sums.wants.len(), sums.limits.as_mut_ptr(), sums.limits.len(),
+                            sums.nr_throttled.as_mut_ptr(), sums.nr_throttled.len(),
+                            sums.throttled_usec.as_mut_ptr(), sums.throttled_usec.len(),
+                            sums.nr_bursts.as_mut_ptr(), sums.nr_bursts.len(),
+                            sums.burst_usec.as_mut_ptr(), sums.burst_usec.len(),
+                            sums.nr_short.as_mut_ptr(), sums.nr_short.len(),
+                            sums.nr_starved.as_mut_ptr(), sums.nr_starved.len())
+        }
+    }
+}
+
+impl SumColumns {
+    pub(crate) fn room(count: usize) -> SumColumns {
+        let column = || vec![0; count];
+        SumColumns {
+            amounts: column(),
+            wants: column(),
+            limits: column(),
+            nr_throttled: column(),
+            throttled_usec: column(),
+            nr_bursts: column(),
+            burst_usec: column(),
+            nr_short: column(),
+            nr_starved: column(),
+        }
+    }
+
+    pub(crate) fn sums(&self, at: usize) -> Sums {
+        Sums {
+            amount: self.amounts[at],
+            want: self.wants[at],
+            limit: Some(self.limits[at]).filter(|limit| *limit != NO_LIMIT),
+            nr_throttled: self.nr_throttled[at],
+            throttled_usec: self.throttled_usec[at],
+            nr_bursts: self.nr_bursts[at],
+            burst_usec: self.burst_usec[at],
+            nr_short: self.nr_short[at],
+            nr_starved: self.nr_starved[at],
+        }
+    }
+}
+
 /// A certificate, by column.
 pub(crate) struct Claim {
     flags: Vec<u8>,
@@ -199,17 +292,15 @@ pub(crate) fn number_of(limit: Option<u64>) -> u64 {
     limit.map_or(NO_LIMIT, |limit| limit.min(NO_LIMIT - 1))
 }
 
+/// The number of a parent. The greatest stands for none, and one less is no row's parent.
+fn parent_number(parent: Option<u32>) -> u32 {
+    parent.map_or(NO_PARENT, |parent| parent.min(NO_PARENT - 1))
+}
+
 impl Columns {
     pub(crate) fn of(rows: &[Row]) -> Columns {
-        // the greatest number stands for none; one less is no row's parent and bounds no amount either
         Columns {
-            parents: rows
-                .iter()
-                .map(|row| {
-                    row.parent
-                        .map_or(NO_PARENT, |parent| parent.min(NO_PARENT - 1))
-                })
-                .collect(),
+            parents: rows.iter().map(|row| parent_number(row.parent)).collect(),
             weights: rows.iter().map(|row| row.weight).collect(),
             limits: rows
                 .iter()
@@ -315,15 +406,15 @@ impl Columns {
     }
 
     #[rustfmt::skip]
-    pub(crate) fn tune(&self, host: Host, groups: &[u32], amounts: &[u64], guaranteed: bool,
-                       tuned: &mut [u64], together: &mut [u8], unmet: &mut u64) -> u32 {
+    pub(crate) fn tune(&self, host: Host, goals: &[u64], may: &[u8], guaranteed: bool,
+                       tuned: &mut [u64], unmet: &mut u64) -> u32 {
         // SAFETY: as above
         unsafe {
             arbiter_tune(host.processors, host.period_us, host.slice_us,
                          self.parents.as_ptr(), self.parents.len(), self.weights.as_ptr(), self.weights.len(),
                          self.limits.as_ptr(), self.limits.len(), self.demands.as_ptr(), self.demands.len(),
-                         groups.as_ptr(), groups.len(), amounts.as_ptr(), amounts.len(), u32::from(guaranteed),
-                         tuned.as_mut_ptr(), tuned.len(), together.as_mut_ptr(), together.len(), unmet)
+                         goals.as_ptr(), goals.len(), may.as_ptr(), may.len(), u32::from(guaranteed),
+                         tuned.as_mut_ptr(), tuned.len(), unmet)
         }
     }
 
@@ -578,14 +669,15 @@ pub(crate) fn version(room: &mut [u8]) -> u32 {
 
 #[rustfmt::skip]
 pub(crate) fn reading(host: Host, times: RoundTimes, ran: &[u64], waited: &[u64]) -> (u32, Reading) {
-    let (mut used, mut asked, mut hungry) = (0, 0, 0);
+    let (mut used, mut asked, mut hungry, mut guess) = (0, 0, 0, 0);
     // SAFETY: as above
     let number = unsafe {
         arbiter_reading(host.processors, host.period_us, host.slice_us,
                         times.passed_ns, times.used_us, times.waited_us, times.tasks, u32::from(times.is_throttled),
-                        ran.as_ptr(), ran.len(), waited.as_ptr(), waited.len(), &mut used, &mut asked, &mut hungry)
+                        times.allowed_us.unwrap_or(NO_LIMIT), ran.as_ptr(), ran.len(), waited.as_ptr(), waited.len(),
+                        &mut used, &mut asked, &mut hungry, &mut guess)
     };
-    (number, Reading { used, asked, is_hungry: hungry != 0 })
+    (number, Reading { used, asked, is_hungry: hungry != 0, is_guess: guess != 0 })
 }
 
 #[rustfmt::skip]
