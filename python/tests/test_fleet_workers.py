@@ -5,6 +5,7 @@ import signal
 import subprocess
 import sys
 import time
+from contextlib import contextmanager
 from pathlib import Path
 
 import fleets
@@ -61,6 +62,16 @@ def workers_of(run, count):
         found = [pid for pid in sockets.tree(run.pid)[1:]
                  if b"spawn_main" in Path(f"/proc/{pid}/cmdline").read_bytes()]
     return found
+
+
+@contextmanager
+def halted(run):
+    """Stops a run for a while: a fast machine answers all its hosts before a test has looked."""
+    run.send_signal(signal.SIGSTOP)
+    try:
+        yield
+    finally:
+        run.send_signal(signal.SIGCONT)
 
 
 def is_there(pid):
@@ -134,12 +145,13 @@ def test_nothing_listens_and_nobody_reaches_them(ctl, folder):
     """No process of a run has a socket that anybody could connect to. uid 65534 reaches none."""
     run = begun(ctl, "explain", fleets.make(folder / "hosts", 200, 100), "--workers", 2, *JSON)
     pids = workers_of(run, 2)
-    assert sockets.listening(run.pid) == []
-    if os.getuid() == 0:
-        said = subprocess.run([sys.executable, "-c", STRANGER, *map(str, [run.pid, *pids])],
-                              user=NOBODY, group=NOBODY, extra_groups=[], cwd="/",
-                              capture_output=True, text=True, check=False).stdout
-        assert said == f"{NOBODY} []\n"
+    with halted(run):
+        assert sockets.listening(run.pid) == []
+        if os.getuid() == 0:
+            said = subprocess.run([sys.executable, "-c", STRANGER, *map(str, [run.pid, *pids])],
+                                  user=NOBODY, group=NOBODY, extra_groups=[], cwd="/",
+                                  capture_output=True, text=True, check=False).stdout
+            assert said == f"{NOBODY} []\n"
     assert ended(run)[0] == 0
 
 
@@ -162,7 +174,9 @@ def test_processes_answer_as_one(ctl, folder):
     alone = ctl.run("explain", hosts, "--workers", "0", *JSON)[0]
     assert ctl.run("explain", hosts, "--workers", "3", *JSON)[0] == alone
     run = begun(ctl, "explain", hosts, "--workers", 2, *JSON)
-    os.kill(workers_of(run, 2)[0], signal.SIGKILL)
+    worker, _ = workers_of(run, 2)
+    with halted(run):
+        os.kill(worker, signal.SIGKILL)
     # Python itself may tell on standard error what kept a process from its begin.
     out, err = run.communicate(timeout=300)
     assert (run.returncode, out.decode() == alone) == (0, True), err.decode()
@@ -194,14 +208,12 @@ def test_no_worker_outlives_the_run(ctl, folder, how):
     hosts = fleets.make(folder / "hosts", 400, 300)
     run = begun(ctl, "explain", hosts, "--workers", 2, *JSON, start_new_session=True)
     pids = workers_of(run, 2)
-    # A fast machine answers all hosts within a second. A run that is stopped ends on none.
-    run.send_signal(signal.SIGSTOP)
-    time.sleep(0.5)
-    if how == signal.SIGINT:
-        os.killpg(run.pid, how)
-        run.send_signal(signal.SIGCONT)
-    else:
-        run.kill()
+    with halted(run):
+        time.sleep(0.5)
+        if how == signal.SIGINT:
+            os.killpg(run.pid, how)
+        else:
+            run.kill()
     status, out, err = ended(run)
     assert (status, out) == (-how, "") and (err == "" or how == signal.SIGKILL)
     wait_for_end(pids)
