@@ -13,6 +13,7 @@ mod KeptGoals
 mod LeastAmount
 mod LeastLaw
 mod Leaves
+mod Levels
 mod Lightened
 mod Limits
 mod Meetings

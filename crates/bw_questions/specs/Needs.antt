@@ -1,8 +1,11 @@
 -- Needs of siblings from one amount, and the weights that meet them.
-use Rattle.std.specs.Prelude.{◌≡◌, ℕ, ◌-◌, ◌<◌, ◌≤◌, List, Option, None, Some, length}
-use Rattle.std.specs.Prelude.{slice_index, slice_set}
+use Rattle.std.specs.Prelude.{◌≡◌, ◌⊎◌, ℕ, ◌-◌, ◌*◌, ◌<◌, ◌≤◌, List, Option, None, Some, length}
+use Rattle.std.specs.Prelude.{slice_index, sum, Vec}
+use Rattle.std.specs.declared.alloc.Global.{Global}
 use Rattle.bw_model.specs.declared.limits.TheConstants.{MAX_WEIGHT}
 use Rattle.bw_model.specs.Split.{IsBestSplit}
+use Rattle.bw_split.specs.Levels.{taken}
+use Rattle.bw_split.specs.declared.limits.TheConstants.{STEPS, GREATEST_LEVEL}
 use Rattle.bw_questions.specs.declared.from_root.meeting.Meeting.{Meeting}
 
 -- Floors, tops and needs, one of each for each sibling: no floor is above its top, no top above the
@@ -33,19 +36,39 @@ abbrev pub CanMeet : List ℕ → List ℕ → List ℕ → List ℕ → ℕ →
 CanMeet floors tops most needs amount =
     (weights parts : List ℕ) × MeetsNeeds floors tops most needs amount weights parts
 
--- with another weight a child has less than it needs
-abbrev pub IsShort : ℕ → List ℕ → List ℕ → ℕ → ℕ → ℕ → Type 0
-IsShort amount weights most child need weight = (parts : List ℕ)
-    × IsBestSplit amount (slice_set weights child weight) most parts
-    × (slice_index parts child < need)
+-- At a level of cost the children take or need more than an amount: all parts that hold what they
+-- need, and all slices that cost no more than the level, come to more.
+abbrev pub TakeMore : ℕ → ℕ → List ℕ → List ℕ → List ℕ → Type 0
+TakeMore amount level weights most needs = (parts : List ℕ) → length parts ≡ length weights
+    → ((k : ℕ) → k < length weights → slice_index needs k ≤ slice_index parts k)
+    → ((k : ℕ) → k < length weights
+    → taken level (slice_index weights k) (slice_index most k) ≤ slice_index parts k)
+    → amount < sum parts
 
--- a greater weight of a child that falls short with the one before it, or None where it falls short
--- with the top
-abbrev pub IsRaisedTo : ℕ → List ℕ → List ℕ → ℕ → ℕ → ℕ → Option ℕ → Type 0
-IsRaisedTo amount weights most child need top None = IsShort amount weights most child need top
-IsRaisedTo amount weights most child need top (Some weight) =
-    (slice_index weights child < weight) × (weight ≤ top)
-    × IsShort amount weights most child need (weight - 1)
+-- a level at which the children take or need more than an amount, or the greatest one
+pub record IsLevelOfNeeds (amount : ℕ) (weights most needs : List ℕ) (level : ℕ) : Type 0 where
+  pub some : 1 ≤ level
+  pub in_range : level ≤ GREATEST_LEVEL
+  pub more : (level ≡ GREATEST_LEVEL) ⊎ TakeMore amount level weights most needs
+
+-- a weight that is no less than the one that stands, greater where the child falls short, and with
+-- which the last slice that the child needs costs no more than a level
+pub record IsHeavyEnough (level weight part need other : ℕ) : Type 0 where
+  pub no_less : weight ≤ other
+  pub more : part < need → weight < other
+  pub cheap : (2 * need - 1) * STEPS ≤ level * other
+
+-- the least such weights, or None where one of them is above its top
+abbrev pub AreRaised : ℕ → List ℕ → List ℕ → List ℕ → List ℕ → Option (Vec ℕ Global) → Type 0
+AreRaised level weights tops parts needs None = (k : ℕ) × (k < length weights)
+    × ((other : ℕ) → IsHeavyEnough level (slice_index weights k) (slice_index parts k)
+    (slice_index needs k) other → slice_index tops k < other)
+AreRaised level weights tops parts needs (Some raised) = (length raised.items ≡ length weights)
+    × ((k : ℕ) → k < length weights → (slice_index raised.items k ≤ slice_index tops k)
+    × IsHeavyEnough level (slice_index weights k) (slice_index parts k) (slice_index needs k)
+    (slice_index raised.items k)
+    × ((other : ℕ) → IsHeavyEnough level (slice_index weights k) (slice_index parts k)
+    (slice_index needs k) other → slice_index raised.items k ≤ other))
 
 -- the least weights that give each sibling what it needs of an amount, or None where none do, of
 -- this amount or of a smaller one

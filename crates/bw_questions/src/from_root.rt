@@ -5,6 +5,7 @@ ghost use Rattle.bw_questions.specs.FromRoot.{IsTunedFromRoot};
 mod guaranteed;
 mod laws;
 mod least;
+mod level;
 mod lightened;
 mod measure;
 mod meeting;

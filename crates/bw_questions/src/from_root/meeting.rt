@@ -1,13 +1,11 @@
 //! The least weights of siblings with which each gets what it needs of one amount.
-ghost use Rattle.std.specs.Prelude.{◌≡◌, ℕ, ◌<◌, ◌≤◌, true, false, length, slice_index, slice_set};
+ghost use Rattle.std.specs.Prelude.{◌≡◌, ℕ, ◌<◌, ◌≤◌, true, false, length, slice_index};
 ghost use Rattle.std.specs.Prelude.{List, IfOk, IfSome, IfNone};
-ghost use Rattle.bw_model.specs.Split.{IsBestSplit};
 ghost use Rattle.bw_split.specs.Conditions.{CanSplit};
 ghost use Rattle.bw_questions.specs.Needs.{AreWithin, CanMeet, IsLeastAmount, IsLeastMeeting};
-ghost use Rattle.bw_questions.specs.Needs.{IsRaisedTo, IsShort, MeetsNeeds};
 
+use super::level::{level_of_needs, raised};
 use bw_change_laws::lighter_has_no_more;
-use bw_model::limits::MAX_WEIGHT;
 use bw_split::{fits_in, split};
 use std::alloc::{AllocError, Global};
 
@@ -24,59 +22,6 @@ fn copied(alloc: Global, numbers: &[u64]) -> Result<Vec<u64>, AllocError>
     ensures { IfOk result (λ copy. copy.items ≡ numbers.now) }
 {
     numbers.iter().copied().collect(alloc)
-}
-
-// The parts of an amount with another weight of one child.
-fn split_with(
-    alloc: Global,
-    amount: u64,
-    weights: &[u64],
-    most: &[u64],
-    child: usize,
-    weight: u64,
-) -> Result<Vec<u64>, AllocError>
-    requires can { CanSplit amount weights.now most.now }
-    requires child { child < length weights.now }
-    requires weight { (1 ≤ weight) × (weight ≤ MAX_WEIGHT) }
-    ensures { IfOk result
-        (λ parts. IsBestSplit amount (slice_set weights.now child weight) most.now parts.items) }
-{
-    let mut tried = copied(alloc, weights)?;
-    tried[child] = weight;
-    split(alloc, amount, tried.as_slice(), most)
-}
-
-// A weight for a child that falls short: with the one before it the child falls short too. None: it
-// does with the top.
-fn raised_weight(
-    alloc: Global,
-    amount: u64,
-    weights: &[u64],
-    most: &[u64],
-    child: usize,
-    top: u64,
-    need: u64,
-) -> Result<Option<u64>, AllocError>
-    requires can { CanSplit amount weights.now most.now }
-    requires child { child < length weights.now }
-    requires top { (slice_index weights.now child ≤ top) × (top ≤ MAX_WEIGHT) }
-    requires short { IsShort amount weights.now most.now child need
-        (slice_index weights.now child) }
-    ensures { IfOk result (IsRaisedTo amount weights.now most.now child need top) }
-{
-    // With `low` the child falls short.
-    let mut low = weights[child];
-    let mut high = top + 1;
-    while low + 1 < high {
-        let middle = low + (high - low) / 2;
-        let parts = split_with(alloc, amount, weights, most, child, middle)?;
-        if parts[child] < need {
-            low = middle;
-        } else {
-            high = middle;
-        }
-    }
-    Ok(if high > top { None } else { Some(high) })
 }
 
 // The first child that has less than it needs, by its place.
@@ -98,8 +43,9 @@ fn short(parts: &[u64], needs: &[u64]) -> Option<usize>
 /// The least weights of siblings, from their floors to their tops, with which each gets what it
 /// needs of an amount. None: no such weights do, of this amount or of a smaller one.
 ///
-/// A raise of one weight stops at the last one with which the child fell short, and one more. All
-/// weights that meet the needs are at least as great, so no raise goes too far.
+/// Each round raises all weights that are too small. The weights of a solution are no less than those
+/// that stand, so the last slice that a child needs costs no more there than the level of the needs.
+/// A child that falls short also needs a greater weight. So no raise goes too far.
 ///
 /// # Errors
 /// `AllocError` if memory was refused.
@@ -121,20 +67,20 @@ pub(crate) fn least_raise(
     }
     let mut weights = copied(alloc, floors)?;
     let mut parts = split(alloc, amount, weights.as_slice(), most)?;
-    while let Some(child) = short(parts.as_slice(), needs) {
-        let raised = raised_weight(
+    while let Some(_child) = short(parts.as_slice(), needs) {
+        let level = level_of_needs(amount, weights.as_slice(), most, needs);
+        let found = raised(
             alloc,
-            amount,
+            level,
             weights.as_slice(),
-            most,
-            child,
-            tops[child],
-            needs[child],
+            tops,
+            parts.as_slice(),
+            needs,
         )?;
-        let Some(weight) = raised else {
+        let Some(heavier) = found else {
             return Ok(None);
         };
-        weights[child] = weight;
+        weights = heavier;
         parts = split(alloc, amount, weights.as_slice(), most)?;
     }
     Ok(Some(Meeting { weights, parts }))
