@@ -251,10 +251,13 @@ def test_a_goal_of_a_group_and_of_one_inside(ctl, folder):
 
 def limits(found):
     """The limits that are lowered, and the weights that change, by group."""
-    assert found["met"] and found["weights"] is None and found["limits"]["told"] == (
-        other_limits.LIMITED + goals_.NEEDED)
-    return {(each["group"], each["setting"]): (each["now"], each["then"])
-            for each in found["limits"]["changes"]}
+    assert found["met"] and found["weights"] is None
+    changes_ = {(each["group"], each["setting"]): (each["now"], each["then"])
+                for each in found["limits"]["changes"]}
+    has_weights = "weight" in {key for _, key in changes_}
+    assert found["limits"]["told"] == other_limits.LIMITED + (
+        f"; {tune_weights.LEAST}" if has_weights else "")
+    return changes_
 
 
 def test_a_limit_of_another_group(ctl, folder):
@@ -508,10 +511,18 @@ def test_shares(ctl, folder):
 
 
 def test_quotas_of_units(ctl, folder):
-    """A weight of 100 stays: a has 90 of 100 slices where b has 10, by its quota."""
+    """A weight of 100 stays: a has 90 of 100 slices where b has 10, by its quota.
+
+    Of 1000 slices a has 895 where b has 105. A quota of 10% is 100 slices, and of 11% 110.
+    """
     (folder / "u.show").write_text(unit("a.service", "[not set]") + unit("b.service", 200))
-    found = asked(ctl, folder / "u.show", "a.service=900m", words=["--cpus", "1", "-g", "b.*"])
+    words = ["--cpus", "1", "-g", "b.*"]
+    found = asked(ctl, folder / "u.show", "a.service=900m", words=words)
     assert limits(found) == {("b.service", "CPUQuota"): ("-", "10%")}
+    found = asked(ctl, folder / "u.show", "a.service=895m", words=[*words, "--period", "1s"])
+    way = found["limits"]
+    assert (changes(way), way["then_millicpu"]) == ({"b.service": ("-", "10%")}, [900])
+    assert way["told"] == other_limits.ROUNDED
 
 
 # Against other weights
