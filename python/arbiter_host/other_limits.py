@@ -22,19 +22,18 @@ from arbiter_host.tune_weights import by_weights
 MOST_LOWERED = 64
 LIMITED = (f"proved: of up to {MOST_LOWERED} other groups the greatest limits with which the goals"
            " are met, one level and then each in turn")
-ROUNDED = ("limits of other groups with which the goals are met; not proved to be the greatest, as"
-           " they are written rounded down")
+LESSER = ("limits of other groups with which the goals are met; not proved to be the greatest, as"
+          " settings say less")
 
 
 class Cap(NamedTuple):
-    """A limit that can be lowered, in slices: from its least up to its most, which is what it is
-    now, or cuts nothing. `written` says a number of slices as its setting does."""
+    """A limit that can be lowered, down to its least in slices. `written` says a number of slices
+    as its setting does."""
 
     path: str
     key: str
     now: str
     least: int
-    most: int
     written: Callable[[int], str]
 
 
@@ -70,9 +69,8 @@ def cap_of(before: Plan, group: Planned) -> Cap:
     own = group.group
     now = "-" if own is None or own.quota is None else units.cpu_text(
         Fraction(1000 * own.quota, own.period))
-    most = before.capacity if group.limit is None else min(group.limit, before.capacity)
     least = -(-units.MIN_QUOTA // before.model.host.slice_us)
-    return Cap(group.path, "max", now, least, most, lambda slices: words_of(before, group, slices))
+    return Cap(group.path, "max", now, least, lambda slices: words_of(before, group, slices))
 
 
 def owned_cap_of(before: Plan, source: Owned, group: Planned) -> Cap | None:
@@ -86,21 +84,17 @@ def owned_cap_of(before: Plan, source: Owned, group: Planned) -> Cap | None:
         return units.parse_cpu(of.written(number))
 
     def written(slices: int) -> str:
-        number = search.least(first, last,
-                              lambda each: amount(each) >= before.thousandths(slices))
-        # (rounded down where it is written in steps of more than a slice)
-        return of.written(number - (amount(number) >= before.thousandths(slices + 1)))
+        # (a step of a setting is a thousandth of a CPU, and no slice is less)
+        return of.written(search.least(
+            first, last, lambda each: amount(each) >= before.thousandths(slices)))
 
     least = max(-(-amount(first) // before.thousandths(1)), 1)
-    most = before.capacity if group.limit is None else min(group.limit, before.capacity)
-    cap = Cap(group.path, of.key, of.now, int(least), most, written)
+    cap = Cap(group.path, of.key, of.now, int(least), written)
     return cap if is_lone(before.model, source, cap) else None
 
 
 def is_lone(model: Model, source: Owned, cap: Cap) -> bool:
     """Whether a limit changes no group's weight or class."""
-    if cap.least >= cap.most:
-        return False
     try:
         after = source.changed([Setting(cap.path, cap.key, cap.written(cap.least))]).plain
     except HostFault:
@@ -122,7 +116,8 @@ def caps_of(goals: Goals) -> dict[int, Cap]:
 
     for group in sorted(limitable(goals, can_be), key=order, reverse=True):
         cap = owned_cap_of(before, source, group) if source else cap_of(before, group)
-        if cap is not None and cap.least < cap.most and len(caps) < MOST_LOWERED:
+        most = before.capacity if group.limit is None else min(group.limit, before.capacity)
+        if cap is not None and cap.least < most and len(caps) < MOST_LOWERED:
             caps[group.row] = cap
     return caps
 
@@ -155,11 +150,11 @@ def by_limits(goals: Goals) -> Way | None:
     if found is None:
         return None
     changes = [NewSetting(cap.path, cap.key, cap.now, cap.written(limit))
-               for limit, cap in ((found[row], caps[row]) for row in sorted(caps))
-               if limit is not None and limit < cap.most]
+               for row, cap in sorted(caps.items())
+               if (limit := found[row]) is not None and limit != before.groups[row].limit]
     lower = goals.plan_of(with_settings(before.model, [
         Setting(each.path, each.key, each.then) for each in changes]))
-    told = LIMITED if all(lower.groups[row].limit == found[row] for row in caps) else ROUNDED
+    told = LIMITED if all(lower.groups[row].limit == found[row] for row in caps) else LESSER
     if not is_weighed:
         return goals.way(lower, changes, told)
     way = by_weights(replace(goals, before=lower))
