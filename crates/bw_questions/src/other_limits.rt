@@ -9,7 +9,9 @@ mod limited;
 mod raise;
 
 use crate::from_root::Measure;
+use bw_change_laws::others_room_gives_nothing;
 use bw_model::Instance;
+use bw_plan::there_is_one_plan;
 use cut::full_limit;
 use free::lowest_limits;
 pub use laws::limits_are_one;
@@ -47,6 +49,8 @@ pub fn limit_others(
     ensures { IfOk result (IsLimited measure instance.now goals.now may.now lowest.now) }
 {
     let count = instance.rows().len();
+    there_is_one_plan();
+    others_room_gives_nothing();
     let least = lowest_limits(alloc, instance, goals, lowest)?;
     let start = least.as_slice();
     if !can_be_met(alloc, instance, goals, may, measure, start)? {
