@@ -28,6 +28,13 @@ pub record AreRaisedBefore (measure : Measure) (groups : Groups) (goals : List �
       → ((g : ℕ) → g < h → get_or others g 0 ≡ get_or limits g 0)
       → get_or others h 0 ≤ get_or limits h 0
 
+-- limits from the greatest level on, of which those before a row are raised in turn
+pub record AreLimitedBefore (measure : Measure) (groups : Groups) (goals : List ℕ)
+    (may : List Bool) (lowest limits : List ℕ) (row : ℕ) : Type 0 where
+  pub level : ℕ
+  pub greatest : IsGreatestLevel measure groups goals may lowest level
+  pub before : AreRaisedBefore measure groups goals may lowest level limits row
+
 module _ (measure : Measure) (groups : Groups) (goals : List ℕ) (may : List Bool)
     (lowest : List ℕ) (level : ℕ) where
   -- All limits are at the level.
@@ -201,6 +208,66 @@ module _ (measure : Measure) (groups : Groups) (goals : List ℕ) (may : List Bo
                       (λ e. let clash : ⊥ = omega (arith, early, e, upto) in clash)),
                 )
               ]
+
+-- Limits that are raised to what one of them is do as they did.
+pub met_as_is : (measure : Measure) (groups : Groups) (goals : List ℕ) (may : List Bool)
+    → IsInstance groups → ThereIsOnePlan → OthersRoomGivesNothing → (limits : List ℕ)
+    → AreCuts groups goals limits → (row : ℕ) → CanBeMet measure groups goals may limits
+    → CanBeMet measure groups goals may
+    (raised_limits groups limits (Some row) (get_or limits row 0))
+met_as_is measure groups goals may valid one room limits cuts row can =
+    met_with_lower groups valid goals one room may limits
+    (raised_limits groups limits (Some row) (get_or limits row 0)) cuts
+    (raised_cuts groups goals limits (Some row) cuts (get_or limits row 0)) lower measure can
+  where
+    lower : (h : ℕ) → h < length groups.rows
+        → get_or (raised_limits groups limits (Some row) (get_or limits row 0)) h 0
+        ≤ get_or limits h 0
+    lower h below =
+        rw (raised_at groups goals limits (Some row) (get_or limits row 0) h below)
+        (elim (cases_eq row h) [
+          | inl here ↦ rw (eq-eqb row h here, here) (omega arith)
+          | inr other ↦ rw (ne_eqb row h other) (omega arith)
+        ])
+
+-- A row that has the limit in force stays.
+pub step_full : (measure : Measure) (groups : Groups) (goals : List ℕ) (may : List Bool)
+    (lowest limits : List ℕ) (row limit full : ℕ)
+    → AreLimitedBefore measure groups goals may lowest limits row
+    → limit ≡ get_or limits row 0 → full ≡ full_limit groups row → full ≤ limit
+    → AreLimitedBefore measure groups goals may lowest limits (row + 1)
+step_full measure groups goals may lowest limits row limit full so_far is most past = record {
+  level = so_far.level;
+  greatest = so_far.greatest;
+  before =
+      full_row measure groups goals may lowest so_far.level limits row so_far.before
+      (omega (arith, is, most, past));
+}
+
+-- A row is raised from its limit.
+pub step_raised : (measure : Measure) (groups : Groups) (goals : List ℕ) (may : List Bool)
+    (lowest limits : List ℕ) (row limit full value : ℕ) → IsInstance groups → ThereIsOnePlan
+    → OthersRoomGivesNothing → row < length groups.rows
+    → AreLimitedBefore measure groups goals may lowest limits row
+    → limit ≡ get_or limits row 0 → full ≡ full_limit groups row
+    → IsGreatestRaise measure groups goals may limits (Some row) limit full value
+    → AreLimitedBefore measure groups goals may lowest
+    (raised_limits groups limits (Some row) value) (row + 1)
+step_raised measure groups goals may lowest limits row limit full value valid one room inside
+    so_far is most raise =
+    let raised : IsGreatestRaise measure groups goals may limits (Some row) (get_or limits row 0)
+    (full_limit groups row) value =
+    subst (λ (l : ℕ). IsGreatestRaise measure groups goals may limits (Some row) l
+    (full_limit groups row) value) is
+    (subst (λ (f : ℕ). IsGreatestRaise measure groups goals may limits (Some row) limit f value)
+    most raise) in
+    record {
+      level = so_far.level;
+      greatest = so_far.greatest;
+      before =
+          raised_row measure groups goals may lowest so_far.level limits row so_far.before value
+          inside raised valid one room;
+    }
 
 -- There is one greatest level.
 one_level : (measure : Measure) (groups : Groups) (goals : List ℕ) (may : List Bool)

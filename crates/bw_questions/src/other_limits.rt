@@ -63,11 +63,11 @@ pub fn limit_others(
     let mut limits = raised_limits(alloc, instance, start, None, level)?;
     for h in 0..count {
         let row = h as u32;
-        let limit = limits[h];
+        let low = limits[h];
         let full = full_limit(instance, row);
-        if limit < full {
+        if low < full {
             let tried = limits.as_slice();
-            let most = greatest_raise(
+            let top = greatest_raise(
                 alloc,
                 instance,
                 goals,
@@ -75,10 +75,10 @@ pub fn limit_others(
                 measure,
                 tried,
                 Some(row),
-                limit,
+                low,
                 full,
             )?;
-            limits = raised_limits(alloc, instance, limits.as_slice(), Some(row), most)?;
+            limits = raised_limits(alloc, instance, limits.as_slice(), Some(row), top)?;
         }
     }
     Ok(Limited::Met(limits))
