@@ -6,7 +6,7 @@ use Rattle.bw_model.specs.Groups.{Groups, IsInstance}
 use Rattle.bw_model.proofs.CallerLemmas.{strong}
 use Rattle.bw_plan.specs.Laws.{ThereIsOnePlan}
 use Rattle.bw_change_laws.specs.Room.{OthersRoomGivesNothing}
-use Rattle.bw_questions.specs.OtherLimits.{AreCuts, AreGreatestLimits, AreLimitsFrom, CanBeMet}
+use Rattle.bw_questions.specs.OtherLimits.{AreCuts, AreLimitsFrom, CanBeMet}
 use Rattle.bw_questions.specs.OtherLimits.{IsGreatestLevel, IsGreatestRaise, IsRaisedInTurn}
 use Rattle.bw_questions.specs.OtherLimits.{LimitsAreOne, at_level, full_limit, limit_at}
 use Rattle.bw_questions.specs.OtherLimits.{raised_limit, raised_limits}

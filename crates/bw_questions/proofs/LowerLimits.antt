@@ -3,7 +3,7 @@ use Rattle.std.proofs.Common.{◌≡◌, ℕ, zero, suc, ◌<◌, ◌≤◌, Lis
 use Rattle.std.proofs.Common.{get_or, refl, ap, sym, ◌∙◌, arith, inl, inr, ◌||◌}
 use Rattle.std.proofs.Math.Bool.{or-true}
 use Rattle.std.proofs.lemmas.Bool.{cases_lt, lt-ltb}
-use Rattle.bw_model.specs.Groups.{Groups, IsInstance, weight_of, demand_of, limit_of, is_under}
+use Rattle.bw_model.specs.Groups.{Groups, IsInstance, demand_of, limit_of, is_under}
 use Rattle.bw_model.specs.Host.{Shape, capacity_of}
 use Rattle.bw_plan.specs.Laws.{HasOnePlan, ThereIsOnePlan}
 use Rattle.bw_change_laws.specs.Room.{IsRoomierAround, OthersRoomGivesNothing}
@@ -11,10 +11,10 @@ use Rattle.bw_change_laws.specs.Tree.{IsSameTree}
 use Rattle.bw_change_laws.proofs.CallerLemmas.{leaf_same, limits_same, same_tree, under_same}
 use Rattle.bw_change_laws.proofs.CallerLemmas.{weights_same}
 use Rattle.bw_questions.specs.Busy.{busy_rows}
-use Rattle.bw_questions.specs.FromRoot.{AreMet, AreReached, IsKept, IsReweightedAt}
+use Rattle.bw_questions.specs.FromRoot.{AreMet, IsKept, IsReweightedAt}
 use Rattle.bw_questions.specs.Guarantee.{IsGuaranteed}
 use Rattle.bw_questions.specs.HeldRule.{own_limit}
-use Rattle.bw_questions.specs.OtherLimits.{AreCuts, CanBeMet, cut_to, full_limit}
+use Rattle.bw_questions.specs.OtherLimits.{AreCuts, CanBeMet, cut_to}
 use Rattle.bw_questions.specs.OtherLimits.{is_free}
 use Rattle.bw_questions.specs.declared.from_root.measure.Measure.{Measure}
 use Rattle.bw_questions.specs.declared.from_root.measure.Measure.TheVariants.{Planned, Guaranteed}

@@ -1,8 +1,7 @@
 -- Limits at a level, and limits that are raised to a level.
-use Rattle.std.proofs.Common.{◌≡◌, ◌≢◌, ℕ, ◌<◌, ◌≤◌, List, Bool, true, false, Option, None, Some}
-use Rattle.std.proofs.Common.{length, get_or, refl, sym, ◌∙◌, arith, inl, inr, eqb}
-use Rattle.std.specs.Prelude.{min, max}
-use Rattle.std.proofs.lemmas.Bool.{cases_Bool, cases_eq, eq-eqb, ne_eqb}
+use Rattle.std.proofs.Common.{◌≡◌, ℕ, ◌<◌, ◌≤◌, List, Bool, false, Option, None}
+use Rattle.std.proofs.Common.{length, get_or, refl, arith, inl, inr}
+use Rattle.std.proofs.lemmas.Bool.{cases_Bool}
 use Rattle.std.proofs.lemmas.List.FromFn.{get_or-map-range_with_len, length-map-range_with_len}
 use Rattle.bw_model.specs.Groups.{Groups, IsInstance}
 use Rattle.bw_model.specs.Host.{capacity_of}

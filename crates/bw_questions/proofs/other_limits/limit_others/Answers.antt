@@ -1,5 +1,5 @@
 -- The goals of `limit_others` that are answered by hand.
-use Rattle.std.proofs.Common.{◌≡◌, ℕ, ◌+◌, ◌<◌, ◌≤◌, List, None, Some, length, get_or, ap, subst}
+use Rattle.std.proofs.Common.{◌≡◌, ℕ, ◌+◌, ◌<◌, List, None, Some, length, get_or, ap, subst}
 use Rattle.std.proofs.Common.{sym, ◌∙◌, arith, Vec}
 use Rattle.std.specs.declared.alloc.Global.{Global}
 use Rattle.bw_model.specs.declared.row.Row.{Row}

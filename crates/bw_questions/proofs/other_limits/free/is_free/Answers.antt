@@ -1,5 +1,5 @@
 -- The goals of `is_free` that are answered by hand.
-use Rattle.std.proofs.Common.{◌≡◌, ◌<◌, ◌∙◌, ap, sym, arith, length, true}
+use Rattle.std.proofs.Common.{◌<◌, ◌∙◌, ap, sym, arith, length}
 use Rattle.bw_model.specs.declared.row.Row.{Row}
 use Rattle.bw_questions.proofs.FreeRows.{far_free, near_bound, root_bound}
 use Rattle.bw_questions.proofs.other_limits.free.is_free.Goals as goal

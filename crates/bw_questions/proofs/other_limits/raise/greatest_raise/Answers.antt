@@ -1,6 +1,5 @@
 -- The goals of `greatest_raise` that are answered by hand.
-use Rattle.std.proofs.Common.{◌≡◌, ℕ, ◌+◌, ◌-◌, ◌/◌, ◌<◌, ◌≤◌, List, subst, sym, ◌∙◌, arith}
-use Rattle.std.specs.Prelude.{min}
+use Rattle.std.proofs.Common.{◌≡◌, ℕ, ◌+◌, List, subst, sym, ◌∙◌, arith}
 use Rattle.bw_questions.specs.OtherLimits.{AreCuts, CanBeMet, raised_limits}
 use Rattle.bw_questions.proofs.RaisedLimits.{none_above, raised_cuts}
 use Rattle.bw_questions.proofs.other_limits.raise.greatest_raise.Goals as goal
