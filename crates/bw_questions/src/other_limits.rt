@@ -9,7 +9,9 @@ mod limited;
 mod raise;
 
 use crate::from_root::Measure;
+use bw_change_laws::others_room_gives_nothing;
 use bw_model::Instance;
+use bw_plan::there_is_one_plan;
 use cut::full_limit;
 use free::lowest_limits;
 pub use laws::limits_are_one;
@@ -47,6 +49,8 @@ pub fn limit_others(
     ensures { IfOk result (IsLimited measure instance.now goals.now may.now lowest.now) }
 {
     let count = instance.rows().len();
+    there_is_one_plan();
+    others_room_gives_nothing();
     let least = lowest_limits(alloc, instance, goals, lowest)?;
     let start = least.as_slice();
     if !can_be_met(alloc, instance, goals, may, measure, start)? {
@@ -59,11 +63,11 @@ pub fn limit_others(
     let mut limits = raised_limits(alloc, instance, start, None, level)?;
     for h in 0..count {
         let row = h as u32;
-        let limit = limits[h];
+        let low = limits[h];
         let full = full_limit(instance, row);
-        if limit < full {
+        if low < full {
             let tried = limits.as_slice();
-            let most = greatest_raise(
+            let top = greatest_raise(
                 alloc,
                 instance,
                 goals,
@@ -71,10 +75,10 @@ pub fn limit_others(
                 measure,
                 tried,
                 Some(row),
-                limit,
+                low,
                 full,
             )?;
-            limits = raised_limits(alloc, instance, limits.as_slice(), Some(row), most)?;
+            limits = raised_limits(alloc, instance, limits.as_slice(), Some(row), top)?;
         }
     }
     Ok(Limited::Met(limits))

@@ -1,5 +1,6 @@
 //! Rows that may get a lower limit, and their lowest limits.
-ghost use Rattle.std.specs.Prelude.{◌≡◌, ◌<◌, length, IfOk};
+ghost use Rattle.std.specs.Prelude.{◌≡◌, ◌<◌, ◌==◌, length, IfOk};
+ghost use Rattle.std.specs.List.{list_any};
 ghost use Rattle.bw_model.specs.Groups.{is_under};
 ghost use Rattle.bw_questions.specs.OtherLimits.{at_level, has_goal_near, is_free, limit_at};
 
@@ -7,13 +8,19 @@ use super::cut::full_limit;
 use bw_model::Instance;
 use std::alloc::{AllocError, Global};
 
+fn has_row(path: &[u32], group: u32) -> bool
+    ensures { result ≡ list_any (λ above. above == group) path.now }
+{
+    path.iter().any(|above| *above == group)
+}
+
 // Whether a row is a group or below it.
 fn is_under(instance: &Instance, group: u32, h: u32) -> bool
     requires { h < length instance.now.rows }
     ensures { result ≡ is_under instance.now.rows group h }
 {
     let path = instance.path_up(h);
-    path.as_slice().iter().any(|above| *above == group)
+    has_row(path.as_slice(), group)
 }
 
 // Whether a row has a goal, and is a group, above it or below it.

@@ -6,7 +6,9 @@ ghost use Rattle.bw_questions.specs.OtherLimits.{raised_limit, raised_limits};
 
 use super::cut::{cut_to, full_limit};
 use crate::from_root::{Measure, Tuned, tune};
+use bw_change_laws::others_room_gives_nothing;
 use bw_model::Instance;
+use bw_plan::there_is_one_plan;
 use std::alloc::{AllocError, Global};
 
 /// Whether goals can be met with these limits.
@@ -103,6 +105,9 @@ pub(crate) fn greatest_raise(
     ensures { IfOk result (IsGreatestRaise measure instance.now goals.now may.now limits.now only
         low high) }
 {
+    let _rows = instance.rows();
+    there_is_one_plan();
+    others_room_gives_nothing();
     // `met` will do. `over` and each level above it will not, unless it is past the last one.
     let mut met = low;
     let mut over = high + 1;
