@@ -28,9 +28,9 @@
  *   51 to 58  the amounts are not the plan by this certificate
  *   71        memory was refused (OutOfMemory)
  * The first that applies is answered, in this order:
- *   1. 50, where the columns of the rows differ in length, or a column of an answer, `hungry`, `goals` or `may` from them, or nums,
- *      dens and places of arbiter_check from each other, or ran and waited of arbiter_reading, or columns of arbiter_periods do
- *      not fit
+ *   1. 50, where the columns of the rows differ in length, or a column of an answer, `hungry`, `goals`, `may` or `lowest` from
+ *      them, or nums, dens and places of arbiter_check from each other, or ran and waited of arbiter_reading, or columns of
+ *      arbiter_periods do not fit
  *   2. 1 to 3
  *   3. 4 to 10, of a text 40 to 43 too, of arbiter_periods 13 to 15 before them
  *   4. of a check 50, where amounts, flags or levels are not one for each row, and then 51 to 58; of a question about a group
@@ -199,6 +199,20 @@ uint32_t arbiter_tune(uint64_t processors, uint64_t period_us, uint64_t slice_us
                       const uint64_t *limits, size_t limits_length, const uint64_t *demands, size_t demands_length,
                       const uint64_t *goals, size_t goals_length, const uint8_t *may, size_t may_length, uint32_t guaranteed,
                       uint64_t *tuned, size_t tuned_length, uint64_t *unmet);
+
+/* Limits with which such weights exist, where arbiter_tune has none. Goals, `may` and `guaranteed` are as there. `lowest` has the
+ * lowest limit that each row may get: a number from its limit on, or from the capacity on, keeps the limit. So do row 0 and each
+ * row with a goal at, above or below it.
+ * Where some limits from the lowest on will do, *met is 1, and `limited` has the limits, those that stay as in `limits`. With them
+ * arbiter_tune gives the weights. They are the greatest: one level for all such rows, and then each row in row order from that
+ * level on. So there is one answer.
+ * Where none will do, *met is 0, and `limited` is `limits`. arbiter_tune is asked at most 33 times, and for each lowered row 38. */
+uint32_t arbiter_limit_others(uint64_t processors, uint64_t period_us, uint64_t slice_us,
+                              const uint32_t *parents, size_t parents_length, const uint64_t *weights, size_t weights_length,
+                              const uint64_t *limits, size_t limits_length, const uint64_t *demands, size_t demands_length,
+                              const uint64_t *goals, size_t goals_length, const uint8_t *may, size_t may_length,
+                              const uint64_t *lowest, size_t lowest_length, uint32_t guaranteed,
+                              uint64_t *limited, size_t limited_length, uint32_t *met);
 
 /* The limits of the next round, from what each leaf used in the last one. The rows are as everywhere, with the slices that each
  * leaf used, rounded up, in `used` in the place of demands. `hungry` is not 0 where the leaf would have used more; it is not read

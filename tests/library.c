@@ -37,9 +37,10 @@ int main(void)
     uint64_t wants[7], mosts[7], active_weights[7], withheld[7];
     uint8_t tights[7];
     uint32_t actives[7];
-    const uint64_t goals[3] = {0, 14, 6}, too_much[3] = {0, 14, 7};
-    const uint8_t may[3] = {0, 1, 1};
+    const uint64_t goals[3] = {0, 14, 6}, too_much[3] = {0, 14, 7}, just_one[3] = {0, 14, 0}, lowest[3] = {0};
+    const uint8_t may[3] = {0, 1, 1}, stay[3] = {0};
     uint64_t unmet = 9;
+    uint32_t met = 9;
     const uint64_t half[1] = {500000000};
     uint64_t used_now = 9, asked_now = 9;
     uint32_t is_hungry = 9, is_guess = 9;
@@ -185,6 +186,15 @@ int main(void)
         return 53;
     if (heavy[0] != 100 || heavy[1] != 100 || heavy[2] != 100 || unmet != 0)
         return 54;
+    /* The first has 14 where the second may use 6. */
+    if (arbiter_limit_others(1, 100000, 5000, parents, 3, alike, 3, limits, 3, demands, 3, goals, 3, may, 3, lowest, 2, 0, caps, 3, &met) != 50 || met != 9)
+        return 61;
+    if (arbiter_limit_others(1, 100000, 5000, parents, 3, alike, 3, limits, 3, demands, 3, just_one, 3, stay, 3, lowest, 3, 0, caps, 3, &met) != 0)
+        return 62;
+    if (met != 1 || caps[0] != ARBITER_NO_LIMIT || caps[1] != ARBITER_NO_LIMIT || caps[2] != 6)
+        return 63;
+    if (arbiter_limit_others(1, 100000, 5000, parents, 3, alike, 3, limits, 3, demands, 3, too_much, 3, may, 3, lowest, 3, 1, caps, 3, &met) != 0 || met != 0)
+        return 64;
     /* A starved task used half of the processor and could have used it whole. Its group may use three quarters of it. */
     if (arbiter_reading(1, 100000, 5000, 1000000000, 500000, 500000, 1, 0, ARBITER_NO_LIMIT, half, 1, half, 0, &used_now, &asked_now, &is_hungry, &is_guess) != 50
             || arbiter_reading(1, 100000, 5000, 0, 500000, 500000, 1, 0, ARBITER_NO_LIMIT, half, 1, half, 1, &used_now, &asked_now, &is_hungry, &is_guess) != 15 || used_now != 9)

@@ -45,7 +45,10 @@ static const uint64_t greatest[5] = {100, 10000, 100, 300, 10000};
 static const uint64_t most_for_one[5] = {0, 0, 0, 0, 16};
 static const uint64_t asks_too_much[5] = {0, 7, 0, 0, 14};
 static const uint8_t may[5] = {0, 1, 1, 1, 1};
+static const uint64_t just_one[5] = {0, 0, 0, 0, 15}, lowest[5];
+static const uint8_t none[5];
 static uint64_t tuned[5], unmet;
+static uint32_t met;
 static uint32_t places[5], groups[5], blamed[5], actives[5], count, row;
 /* Each command of a script, a name that takes memory, a period with a carry, and refused lines. */
 static const char script[] = "mkdir pod\nmkdir pod/a-name-of-more-than-24-bytes\nmkdir pod/y\nwrite pod cpu.max 50000\n"
@@ -62,7 +65,7 @@ static uint64_t carried[5], cells[9][10];
 
 #define ROWS 1, 100000, 5000, parents, 5, weights, 5, limits, 5, demands, 5
 /* The calls before the check. */
-#define CALLS 17
+#define CALLS 18
 
 static void mark(void)
 {
@@ -79,7 +82,7 @@ static void mark(void)
         tuned[g] = carried[g] = 7;
     for (int cell = 0; cell < 90; cell++)
         cells[cell / 10][cell % 10] = 7;
-    unmet = 7;
+    unmet = met = 7;
     rest = count = row = 7;
     names_count = refused_count = 7;
 }
@@ -102,7 +105,7 @@ static int is_marked(void)
     for (int cell = 0; cell < 90; cell++)
         if (cells[cell / 10][cell % 10] != 7)
             return 0;
-    if (unmet != 7)
+    if (unmet != 7 || met != 7)
         return 0;
     return rest == 7 && count == 7 && row == 7 && names_count == 7 && refused_count == 7;
 }
@@ -134,6 +137,7 @@ static uint32_t call(int which)
                                    cells[5], 10, cells[6], 10, cells[7], 10, cells[8], 10);
     case 16: return arbiter_tune(1, 100000, 5000, parents, 5, greatest, 5, limits, 5, demands, 5, most_for_one, 5, may, 5, 1,
                                 tuned, 5, &unmet);
+    case 17: return arbiter_limit_others(ROWS, just_one, 5, none, 5, lowest, 5, 0, tuned, 5, &met);
     default: return arbiter_check(ROWS, amounts, 5, flags, 5, nums, 5, dens, 5, places, 5, &row);
     }
 }

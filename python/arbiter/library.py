@@ -236,6 +236,25 @@ class Library:
                  int(bool(guaranteed)), *given(tuned), ctypes.byref(unmet))
         return tuned.tolist() if unmet.value == c.NO_GOAL else unmet.value
 
+    def limit_others(self, host: Host, rows: Rows, goals: Sequence[int], may: Sequence[bool],
+                     lowest: Sequence[int | None], guaranteed: bool = False
+                     ) -> list[int | None] | None:
+        """The limit of each row with which some weights that `tune` gives meet the goals, or None.
+
+        Goals and `may` are those of `tune`. `lowest` has the lowest limit in slices that each row
+        may get, None where its limit stays. That of the root stays, and that of a row with a goal
+        at, above or below it. The limits are the greatest: one level for all, and then each in row
+        order. Refused as `tune` is.
+        """
+        columns, met = Columns.of(rows), c.U32()
+        flags = column(U8, [bool(each) for each in may], "may")
+        least = column(U64, [number_or_none(each, c.NO_LIMIT, "limit") for each in lowest], "limit")
+        limits = zeros(U64, len(columns))
+        self.ask("limit_others", host, columns, *given(column(U64, goals, "goal"), flags, least),
+                 int(bool(guaranteed)), *given(limits), ctypes.byref(met))
+        found = [None if limit == c.NO_LIMIT else limit for limit in limits]
+        return found if met.value else None
+
     def of_group(self, name: str, host: Host, rows: Rows, group: int, *amount: int) -> int:
         """The number that a question about the group of a row is answered with."""
         answer = c.U64()

@@ -1,42 +1,39 @@
 """Limits of groups without a goal, which are lowered until goals are met.
 
-A limit only cuts its group: the lower it is, the more is left for others. So halving finds the
-highest level at which limits meet the goals. Whether goals are met is always asked of accepted
-plans.
+The C library answers them, by a call whose contract is exact: they are the greatest, first at one
+level and then each in row order. Here stand the limits that may be lowered, and their settings.
 """
 from __future__ import annotations
 
-from collections.abc import Callable, Iterator, Mapping
-from dataclasses import dataclass, replace
+from collections.abc import Callable, Iterator, Sequence
+from dataclasses import replace
 from fractions import Fraction
-from typing import NamedTuple, TypeAlias
+from typing import NamedTuple
 
 from arbiter_host import change, owned, search, units
 from arbiter_host.faults import HostFault
-from arbiter_host.goals import NEEDED, Clash, Goals, NewSetting, Way
+from arbiter_host.goals import Goals, NewSetting, Way
 from arbiter_host.model import Model
 from arbiter_host.owned import Owned, Setting
-from arbiter_host.plan import Plan, Planned
-from arbiter_host.tune_weights import LEAST, by_weights, own_weights
+from arbiter_host.plan import Plan, Planned, asking
+from arbiter_host.tune_weights import by_weights
 
 # At most so many limits are lowered.
 MOST_LOWERED = 64
-LIMITED = ("without limits of other groups the goals are not met; not proved to be the fewest"
-           " changes")
-# Limits in slices by the places of their caps, and whether goals are met with such.
-Limits: TypeAlias = Mapping[int, int]
-Meets: TypeAlias = Callable[[Limits], bool]
+LIMITED = (f"proved: of up to {MOST_LOWERED} other groups the greatest limits with which the goals"
+           " are met, one level and then each in turn")
+LESSER = ("limits of other groups with which the goals are met; not proved to be the greatest, as"
+          " settings say less")
 
 
 class Cap(NamedTuple):
-    """A limit that can be lowered, in slices: from its least up to its most, which is what it is
-    now, or cuts nothing. `written` says a number of slices as its setting does."""
+    """A limit that can be lowered, down to its least in slices. `written` says a number of slices
+    as its setting does."""
 
     path: str
     key: str
     now: str
     least: int
-    most: int
     written: Callable[[int], str]
 
 
@@ -72,9 +69,8 @@ def cap_of(before: Plan, group: Planned) -> Cap:
     own = group.group
     now = "-" if own is None or own.quota is None else units.cpu_text(
         Fraction(1000 * own.quota, own.period))
-    most = before.capacity if group.limit is None else min(group.limit, before.capacity)
     least = -(-units.MIN_QUOTA // before.model.host.slice_us)
-    return Cap(group.path, "max", now, least, most, lambda slices: words_of(before, group, slices))
+    return Cap(group.path, "max", now, least, lambda slices: words_of(before, group, slices))
 
 
 def owned_cap_of(before: Plan, source: Owned, group: Planned) -> Cap | None:
@@ -84,20 +80,21 @@ def owned_cap_of(before: Plan, source: Owned, group: Planned) -> Cap | None:
     if first > last:
         return None
 
-    def written(slices: int) -> str:
-        return of.written(search.least(first, last, lambda each: units.parse_cpu(
-            of.written(each)) >= before.thousandths(slices)))
+    def amount(number: int) -> Fraction:
+        return units.parse_cpu(of.written(number))
 
-    least = max(-(-units.parse_cpu(of.written(first)) // before.thousandths(1)), 1)
-    most = before.capacity if group.limit is None else min(group.limit, before.capacity)
-    cap = Cap(group.path, of.key, of.now, int(least), most, written)
+    def written(slices: int) -> str:
+        # (a step of a setting is a thousandth of a CPU, and no slice is less)
+        return of.written(search.least(
+            first, last, lambda each: amount(each) >= before.thousandths(slices)))
+
+    least = max(-(-amount(first) // before.thousandths(1)), 1)
+    cap = Cap(group.path, of.key, of.now, int(least), written)
     return cap if is_lone(before.model, source, cap) else None
 
 
 def is_lone(model: Model, source: Owned, cap: Cap) -> bool:
     """Whether a limit changes no group's weight or class."""
-    if cap.least >= cap.most:
-        return False
     try:
         after = source.changed([Setting(cap.path, cap.key, cap.written(cap.least))]).plain
     except HostFault:
@@ -106,9 +103,9 @@ def is_lone(model: Model, source: Owned, cap: Cap) -> bool:
         (path, each.weight) for path, each in model.groups.items()]
 
 
-def caps_of(goals: Goals) -> tuple[Cap, ...]:
-    """The limits that can be lowered, of those that have most first."""
-    before, source, caps = goals.before, goals.before.model.owned, list[Cap]()
+def caps_of(goals: Goals) -> dict[int, Cap]:
+    """The limits that can be lowered by their rows, of those that have most first."""
+    before, source, caps = goals.before, goals.before.model.owned, dict[int, Cap]()
 
     def can_be(group: Planned) -> bool:
         return source.has(group.path) if source else not (group.group and group.group.burst)
@@ -119,78 +116,47 @@ def caps_of(goals: Goals) -> tuple[Cap, ...]:
 
     for group in sorted(limitable(goals, can_be), key=order, reverse=True):
         cap = owned_cap_of(before, source, group) if source else cap_of(before, group)
-        if cap is not None and cap.least < cap.most and len(caps) < MOST_LOWERED:
-            caps.append(cap)
-    return tuple(caps)
+        most = before.capacity if group.limit is None else min(group.limit, before.capacity)
+        if cap is not None and cap.least < most and len(caps) < MOST_LOWERED:
+            caps[group.row] = cap
+    return caps
 
 
-@dataclass(frozen=True)
-class Lowering:
-    """Goals, and the limits of other groups that can be lowered for them."""
-
-    goals: Goals
-    caps: tuple[Cap, ...]
-
-    def model(self, limits: Limits) -> Model:
-        before = self.goals.before.model
-        settings = [Setting(self.caps[place].path, self.caps[place].key,
-                            self.caps[place].written(value)) for place, value in limits.items()]
-        if before.owned is not None and settings:
-            return owned.remade(before, before.owned, settings)
-        after = before.copy()
-        for each in settings:
-            change.apply(after.groups[each.path], each.key, each.value, False)
-        return after
-
-    def limited(self, limits: Limits) -> Goals:
-        """The goals on the accepted plan with some limits."""
-        return replace(self.goals, before=self.goals.plan_of(self.model(limits)))
-
-    def changes(self, limits: Limits) -> list[NewSetting]:
-        return [NewSetting(cap.path, cap.key, cap.now, cap.written(limits[place]))
-                for place, cap in enumerate(self.caps) if place in limits]
-
-    def lowered(self, meets: Meets) -> Limits | None:
-        """Limits with which goals are met; None where none are found.
-
-        All get the highest level that meets the goals. Then each is raised as far as they allow.
-        None of them can be left out.
-        """
-        least = {place: cap.least for place, cap in enumerate(self.caps)}
-        if not least or not meets(least):
-            return None
-
-        def at_most(level: int) -> Limits:
-            return {place: min(max(level, cap.least), cap.most)
-                    for place, cap in enumerate(self.caps)}
-
-        top = max(cap.most for cap in self.caps)
-        lost = search.least(0, top, lambda lost: meets(at_most(top - lost)))
-        limits = without_needless(at_most(top - lost), meets)
-        most = {place: self.caps[place].most for place in limits}
-        return without_needless(search.raised(limits, most, meets, "limits"), meets)
-
-
-def without_needless(limits: Limits, meets: Meets) -> Limits:
-    """The limits of which none can be left out. The last ones are left out first."""
-    kept = search.needed(sorted(limits, reverse=True), lambda places: meets(
-        {place: limits[place] for place in places}), "limits")
-    return {place: limits[place] for place in sorted(kept)}
+def with_settings(model: Model, settings: Sequence[Setting]) -> Model:
+    """The model with other limits."""
+    if model.owned is not None:
+        return owned.remade(model, model.owned, settings)
+    after = model.copy()
+    for each in settings:
+        change.apply(after.groups[each.path], each.key, each.value, False)
+    return after
 
 
 def by_limits(goals: Goals) -> Way | None:
     """Limits of other groups that meet all goals: with the weights as they are, else with other
-    weights of the goals' groups too. None: none are found."""
-    known = Lowering(goals, caps_of(goals))
-    limits = known.lowered(lambda some: goals.are_met(known.limited(some).before))
-    if limits is not None:
-        return goals.way(known.limited(limits).before, known.changes(limits), LIMITED + NEEDED)
-    if goals.before.model.owned is not None:
+    weights of the goals' groups too. None: none do."""
+    before, caps = goals.before, caps_of(goals)
+
+    def limits(may: Sequence[bool]) -> list[int | None] | None:
+        lowest = [caps[row].least if row in caps else None for row in range(len(may))]
+        with asking("limits of other groups"):
+            return before.engine.library.limit_others(
+                before.planned_host, before.columns, goals.column, may, lowest,
+                goals.is_guaranteed)
+
+    found = limits([False] * len(before.groups))
+    is_weighed = found is None and before.model.owned is None
+    found = limits(goals.may) if is_weighed else found
+    if found is None:
         return None
-    limits = known.lowered(lambda some: not isinstance(own_weights(known.limited(some)), Clash))
-    way = None if limits is None else by_weights(known.limited(limits))
-    if limits is None or not isinstance(way, Way):
-        return None
-    is_needed = way.told == LEAST or way.told.endswith(NEEDED)
-    return goals.way(way.plan, [*known.changes(limits), *way.changes],
-                     LIMITED + (NEEDED if is_needed else ""))
+    changes = [NewSetting(cap.path, cap.key, cap.now, cap.written(limit))
+               for row, cap in sorted(caps.items())
+               if (limit := found[row]) is not None and limit != before.groups[row].limit]
+    lower = goals.plan_of(with_settings(before.model, [
+        Setting(each.path, each.key, each.then) for each in changes]))
+    told = LIMITED if all(lower.groups[row].limit == found[row] for row in caps) else LESSER
+    if not is_weighed:
+        return goals.way(lower, changes, told)
+    way = by_weights(replace(goals, before=lower))
+    assert isinstance(way, Way), "weights meet the goals by the contract of the limits"
+    return goals.way(way.plan, [*changes, *way.changes], f"{told}; {way.told}")

@@ -1,7 +1,7 @@
 """Searches over whole numbers and over changes, whatever it is that is asked of them."""
 from __future__ import annotations
 
-from collections.abc import Callable, Mapping, Sequence
+from collections.abc import Callable, Sequence
 from typing import TypeVar
 
 from arbiter_host import progress
@@ -23,22 +23,6 @@ def least(low: int, high: int, reaches: Callable[[int], bool]) -> int:
 def least_of(parts: Sequence[tuple[int, int]], reaches: Callable[[int], bool]) -> int | None:
     """The least number of some parts that reaches, where in each part a greater one does too."""
     return next((least(low, high, reaches) for low, high in parts if reaches(high)), None)
-
-
-def raised(values: Mapping[T, int], most: Mapping[T, int],
-           meets: Callable[[Mapping[T, int]], bool], what: str) -> Mapping[T, int]:
-    """The values, one after another as near to its most as all meet beside the others.
-
-    `what` names them beside a progress bar.
-    """
-    with progress.bar(what, len(values)) as step:
-        for key, value in values.items():
-            now = values
-            lost = least(0, most[key] - value,
-                         lambda less: meets({**now, key: most[key] - less}))
-            values = {**values, key: most[key] - lost}
-            step()
-    return values
 
 
 def needed(changes: Sequence[T], meets: Callable[[Sequence[T]], bool], what: str) -> list[T]:

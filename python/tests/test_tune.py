@@ -251,10 +251,13 @@ def test_a_goal_of_a_group_and_of_one_inside(ctl, folder):
 
 def limits(found):
     """The limits that are lowered, and the weights that change, by group."""
-    assert found["met"] and found["weights"] is None and found["limits"]["told"] == (
-        other_limits.LIMITED + goals_.NEEDED)
-    return {(each["group"], each["setting"]): (each["now"], each["then"])
-            for each in found["limits"]["changes"]}
+    assert found["met"] and found["weights"] is None
+    changes_ = {(each["group"], each["setting"]): (each["now"], each["then"])
+                for each in found["limits"]["changes"]}
+    has_weights = "weight" in {key for _, key in changes_}
+    assert found["limits"]["told"] == other_limits.LIMITED + (
+        f"; {tune_weights.LEAST}" if has_weights else "")
+    return changes_
 
 
 def test_a_limit_of_another_group(ctl, folder):
@@ -508,10 +511,16 @@ def test_shares(ctl, folder):
 
 
 def test_quotas_of_units(ctl, folder):
-    """A weight of 100 stays: a has 90 of 100 slices where b has 10, by its quota."""
+    """A weight of 100 stays: a has 90 of 100 slices where b has 10, by its quota.
+
+    Of 1000 slices a has 895 where b has 105.
+    """
     (folder / "u.show").write_text(unit("a.service", "[not set]") + unit("b.service", 200))
-    found = asked(ctl, folder / "u.show", "a.service=900m", words=["--cpus", "1", "-g", "b.*"])
+    words = ["--cpus", "1", "-g", "b.*"]
+    found = asked(ctl, folder / "u.show", "a.service=900m", words=words)
     assert limits(found) == {("b.service", "CPUQuota"): ("-", "10%")}
+    found = asked(ctl, folder / "u.show", "a.service=895m", words=[*words, "--period", "1s"])
+    assert limits(found) == {("b.service", "CPUQuota"): ("-", "10.5%")}
 
 
 # Against other weights
@@ -613,6 +622,21 @@ def test_an_answer_that_does_not_meet_is_none(engine, monkeypatch):
     monkeypatch.setattr(engine.library, "tune", lambda *_: [100, 100, 100], raising=False)
     with pytest.raises(HostFault, match="a: the accepted plan does not meet its goal"):
         tune.tune(before, ["a=900m"])
+
+
+def test_a_limit_that_is_written_lower(engine, monkeypatch):
+    """Limits are told as proved only where settings say those of the answer: b's of 2 slices."""
+    model = Model(Host(1, 100000, 5000))
+    for path in ("a", "b"):
+        model.add(Group(path, demand=Fraction(1000)))
+    before = plan(engine, model)
+    way = tune.tune(before, ["a=900m"], chosen=["b"]).limits
+    assert (way.words, way.amounts, way.told) == (["b.max=100m"], (18,), other_limits.LIMITED)
+    cap = other_limits.cap_of(before, before.groups[2])
+    monkeypatch.setattr(other_limits, "cap_of", lambda *_: cap._replace(
+        written=lambda slices: cap.written(slices - 1)))
+    way = tune.tune(before, ["a=900m"], chosen=["b"]).limits
+    assert (way.words, way.amounts, way.told) == (["b.max=50m"], (19,), other_limits.LESSER)
 
 
 def test_an_interrupt_waits_for_no_long_call():

@@ -98,7 +98,7 @@ static uint64_t told(const uint32_t *parents, const uint64_t *weights, const uin
     uint64_t *carries = guard_block(n * 8, 0), *sums[6];
     uint8_t *hungry = copied(weights, n);
     uint64_t *held = guard_block(n * 8, 0), *round = guard_block(n * 8, 1), *tuned = guard_block(n * 8, 0), unmet = 7;
-    uint32_t answers[15];
+    uint32_t answers[16], met = 7;
 
     answers[0] = arbiter_plan(HOST, ALL(n), amounts, n);
     answers[1] = arbiter_certify(HOST, ALL(n), amounts, n, flags, n, nums, n, dens, n, places, n);
@@ -123,6 +123,7 @@ static uint64_t told(const uint32_t *parents, const uint64_t *weights, const uin
     for (size_t g = 0; g < n; g++)
         sum = sum * 31 + held[g] + 3 * round[g] + 5 * tuned[g] + 7 * (g ? 0 : unmet);
     answers[13] = arbiter_tune(HOST, ALL(n), goals, n, hungry, n, 1, tuned, n, &unmet);
+    answers[15] = arbiter_limit_others(HOST, ALL(n), goals, n, hungry, n, goals, n, 1, held, n, &met);
     guard_drop(goals);
     /* as many periods as there can be, of quotas that are none */
     uint64_t *quotas = guard_block(n * 8, 0), *own = guard_block(n * 8, 1), *bursts = guard_block(n * 8, 0), *left = guard_block(n * 8, 1), *cells[9];
@@ -138,10 +139,10 @@ static uint64_t told(const uint32_t *parents, const uint64_t *weights, const uin
         guard_drop(cells[each]);
     }
     guard_drop(quotas), guard_drop(own), guard_drop(bursts), guard_drop(left);
-    for (int each = 0; each < 15; each++)
+    for (int each = 0; each < 16; each++)
         sum = sum * 31 + answers[each];
     for (size_t g = 0; g < n; g++)
-        sum = sum * 31 + tuned[g] + 7 * (g ? 0 : unmet);
+        sum = sum * 31 + tuned[g] + 3 * held[g] + 7 * (g ? met : unmet);
     for (size_t g = 0; g < n; g++)
         sum = sum * 31 + carries[g] + 3 * sums[0][g] + 5 * sums[1][g] + 7 * sums[2][g] + 11 * sums[3][g] + 13 * sums[4][g] + 17 * sums[5][g];
     for (size_t g = 0; g < n; g++)
@@ -217,6 +218,7 @@ static void nothing(void)
     IS(5, arbiter_refused_row(ALL(0), &row));
     IS(5, arbiter_hold(HOST, ALL(0), flags, 0, amounts, 0, amounts, 0, amounts, 0, flags, 0, amounts, 0, amounts, 0, places, 0));
     IS(5, arbiter_tune(HOST, ALL(0), amounts, 0, flags, 0, 1, amounts, 0, &number));
+    IS(5, arbiter_limit_others(HOST, ALL(0), amounts, 0, flags, 0, amounts, 0, 1, weights, 0, &count));
     IS(50, arbiter_periods(HOST, parents, 0, weights, 0, limits, 0, weights, 0, demands, 0, demands, 0, UINT64_MAX, amounts, 0, amounts, 0, amounts, 0,
                            amounts, 0, amounts, 0, amounts, 0, amounts, 0, amounts, 0, amounts, 0, amounts, 0));
     IS(50, arbiter_plan(0, 0, 0, parents, 0, weights, 0, limits, 0, demands, 0, &number, 1));
@@ -258,6 +260,7 @@ static void millions(void)
     uint8_t *hungry = mapped(n);
     IS(4, arbiter_hold(HOST, ALL(n), hungry, n, held, n, round, n, amounts, n, flags, n, nums, n, dens, n, places, n));
     IS(4, arbiter_tune(HOST, ALL(n), weights, n, hungry, n, 1, held, n, &number));
+    IS(4, arbiter_limit_others(HOST, ALL(n), weights, n, hungry, n, limits, n, 1, held, n, &count));
     munmap(held, n * 8), munmap(round, n * 8), munmap(hungry, n);
     IS(50, arbiter_plan(HOST, parents, n, weights, 3, limits, n, demands, n, amounts, n));
     IS(50, arbiter_plan(HOST, ALL(n), amounts, n - 1));

@@ -407,6 +407,28 @@ static void hold_tune(struct host host, struct rows rows)
     guard_drop(goals), guard_drop(tuned), guard_drop(may);
 }
 
+/* With limits of some rows weights of rows that may change meet the goals, or with none from the lowest on. */
+static void hold_limit_others(struct host host, struct rows rows)
+{
+    size_t n = rows.parents_length;
+    uint64_t *goals = column(n, 8), *lowest = column(n, 8), *limited = marked(n, 8), *tuned = marked(n, 8), unmet = 77;
+    uint8_t *may = column(n, 1);
+    uint32_t guaranteed = (uint32_t)(taken(1) % 2), met = 77;
+
+    for (size_t row = 0; row < n; row++) {
+        may[row] = (uint8_t)(taken(1) % 3);
+        goals[row] = taken(1) % 4 ? 0 : number(12);
+        lowest[row] = taken(1) % 3 ? number(12) : NONE;
+    }
+    demand(counted(arbiter_limit_others(HOST(host), ROWS(rows), goals, n, may, n, lowest, n, guaranteed, limited, n, &met)) == 0 && met < 2, "no limits");
+    for (size_t row = 0; row < n; row++)
+        demand(limited[row] == rows.limits[row] || (row && met && limited[row] >= lowest[row] && limited[row] < rows.limits[row]), "another limit");
+    rows.limits = limited;
+    demand(counted(arbiter_tune(HOST(host), ROWS(rows), goals, n, may, n, guaranteed, tuned, n, &unmet)) == 0, "no weights for limits");
+    demand(met ? unmet == ARBITER_NO_GOAL : unmet != ARBITER_NO_GOAL, "no weights for limits");
+    guard_drop(goals), guard_drop(lowest), guard_drop(limited), guard_drop(tuned), guard_drop(may);
+}
+
 /* One period of one sample gives the plan, as limits of whole slices do. */
 static void hold_periods(struct host host, struct rows rows, const uint64_t *amounts)
 {
@@ -484,6 +506,8 @@ static void hold_refusal(struct host host, struct rows rows, struct answer *foun
     demand(counted(arbiter_hold(HOST(host), ROWS(rows), hungry, n, held, n, demands, n, found->amounts, n, found->flags, n, found->nums, n,
                                 found->dens, n, found->places, n)) == answer, "hold answers another number");
     demand(counted(arbiter_tune(HOST(host), ROWS(rows), demands, n, hungry, n, 0, held, n, &number_)) == answer, "tune answers another number");
+    demand(counted(arbiter_limit_others(HOST(host), ROWS(rows), demands, n, hungry, n, demands, n, 0, held, n, &count)) == answer,
+           "limit_others answers another number");
     demand(is_marked(held, n * 8) && is_marked(demands, n * 8), "a refused call wrote");
     guard_drop(held), guard_drop(demands), guard_drop(hungry);
     demand(is_marked(found->amounts, n * 8) && is_marked(found->nums, n * 8) && is_marked(found->dens, n * 8), "a refused call wrote");
@@ -523,6 +547,7 @@ static void hold_answer(struct host host, struct rows rows, struct answer *found
     hold_least(host, rows, group, number(64));
     hold_round(host, rows);
     hold_tune(host, rows);
+    hold_limit_others(host, rows);
     hold_periods(host, rows, amounts);
     hold_check(host, rows, found);
     seen[answer * 16 + amounts[0] % 16] = 1;

@@ -12,6 +12,7 @@ pub mod Held
 pub mod Limited
 pub mod Logarithm
 pub mod Numbers
+pub mod OtherLimits
 pub mod PeriodLaws
 pub mod PeriodLimits
 pub mod Periods

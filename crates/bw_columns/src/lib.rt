@@ -2,8 +2,9 @@
 //! the instance that they stand for, and the groups of a hierarchy.
 //!
 //! Over them are the planner's answers: plan, certificate, verdict, limiting groups, figures,
-//! reasons, limits of a round, weights for goals of rows, questions about a group, refused row. And
-//! a booked period, and conversions of what operators write to slices and weights.
+//! reasons, limits of a round, weights for goals of rows and limits of others, questions about a
+//! group, refused row. And a booked period, and conversions of what operators write to slices and
+//! weights.
 #![tactic(auto)]
 
 mod asked_group;
@@ -25,6 +26,7 @@ mod laws;
 mod limited;
 mod logarithm;
 mod one_period;
+mod other_limits;
 mod period_limits;
 mod periods;
 mod planned;
@@ -56,6 +58,7 @@ pub use groups::{GroupColumns, group_columns};
 pub use held::{HeldColumns, held_of};
 pub use laws::{column_numbers, limits_of_periods, share_numbers};
 pub use limited::limiting_of;
+pub use other_limits::{OtherLimitColumns, other_limits_of};
 pub use period_limits::limit_of_period;
 pub use periods::{PeriodColumns, periods_of};
 pub use planned::plan_of;

@@ -15,6 +15,7 @@ mod hold_call;
 mod least_limit_call;
 mod least_processors_call;
 mod least_weight_call;
+mod limit_others_call;
 mod limiting_call;
 mod name_call;
 mod period_limit_call;

@@ -19,6 +19,8 @@ mod instances;
 #[cfg(test)]
 mod least_cases;
 #[cfg(test)]
+mod limits_cases;
+#[cfg(test)]
 mod name_cases;
 #[cfg(test)]
 mod reason_cases;

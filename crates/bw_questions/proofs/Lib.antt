@@ -6,9 +6,12 @@ mod Blame
 mod BusyRows
 mod ByAll
 mod Counts
+mod CutRows
 mod ExactReadings
+mod FreeRows
 mod Halving
 mod Help
+mod InTurn
 mod KeptGoals
 mod LeastAmount
 mod LeastLaw
@@ -16,10 +19,12 @@ mod Leaves
 mod Levels
 mod Lightened
 mod Limits
+mod LowerLimits
 mod Meetings
 mod OneFromRoot
 mod OneReason
 mod Paths
+mod RaisedLimits
 mod Reaching
 mod Rising
 mod RoundFloors

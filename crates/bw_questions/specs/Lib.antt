@@ -11,6 +11,7 @@ pub mod Hunger
 pub mod Laws
 pub mod Least
 pub mod Needs
+pub mod OtherLimits
 pub mod Passes
 pub mod Plans
 pub mod Reading

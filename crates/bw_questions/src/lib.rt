@@ -1,12 +1,14 @@
 //! Questions about the plan of an instance: the least that a group gets whatever the others ask
 //! for, the least value of a setting that gives a group so much, weights that meet several goals at
-//! once, why each group gets what it gets, and which limits hold the plan on a host.
+//! once, limits of others with which such weights exist, why each group gets what it gets, and
+//! which limits hold the plan on a host.
 #![tactic(auto)]
 
 mod from_root;
 mod guaranteed;
 mod held;
 mod least;
+mod other_limits;
 mod why;
 
 pub use from_root::{Measure, Tuned, there_is_one_from_root, tune};
@@ -18,6 +20,7 @@ pub use held::{
     plan_stays, reading_of, wants_give_the_plan, weight_of_limit, written_quota,
 };
 pub use least::{least_limit, least_processors, least_weight};
+pub use other_limits::{Limited, limit_others, limits_are_one};
 pub use why::{
     Reason, blamed_gains_or_is_clear, blamed_has_its_limit, only_the_blamed_limit_helps, reasons,
     there_is_one_reason,

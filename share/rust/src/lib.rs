@@ -459,6 +459,31 @@ pub fn tune(host: Host, rows: &[Row], goals: &[u64], may: &[bool], guaranteed: b
     })
 }
 
+/// The limit of each row with which weights that [`tune`] gives meet the goals, or none where no limits do.
+///
+/// `goals`, `may` and `guaranteed` are those of [`tune`]. `lowest` has the lowest limit in slices that each row may get, none where
+/// its limit stays. That of the root stays, and that of a row with a goal at, above or below it. The limits are the greatest: one
+/// level for all, and then each in row order.
+///
+/// # Errors
+/// As of [`tune`], and 50 where there is not one `lowest` for each row.
+pub fn limit_others(
+    host: Host,
+    rows: &[Row],
+    goals: &[u64],
+    may: &[bool],
+    lowest: &[Option<u64>],
+    guaranteed: bool,
+) -> Result<Option<Vec<Option<u64>>>, Fault> {
+    let flags: Vec<u8> = may.iter().map(|each| u8::from(*each)).collect();
+    let least: Vec<u64> = lowest.iter().map(|each| each.unwrap_or(raw::NO_LIMIT)).collect();
+    let (columns, mut limited, mut met) = (Columns::of(rows), vec![0; rows.len()], 0);
+    let number = columns.limit_others(host, goals, &flags, &least, guaranteed, &mut limited, &mut met);
+    of_rows(number, &columns)?;
+    let limits = limited.iter().map(|limit| Some(*limit).filter(|limit| *limit != raw::NO_LIMIT));
+    Ok((met != 0).then(|| limits.collect()))
+}
+
 /// The slices of one period that a group gets whatever the groups not under it ask for.
 ///
 /// They give it no less, and for some demands of theirs no more. `group` is its row.
@@ -926,6 +951,20 @@ mod tests {
         let refused = Err(fault(50, None));
         assert_eq!(tune(host, &rows, &[0, 14], &may, false), refused);
         assert_eq!(tune(host, &rows, &[0, 14, 6], &may[1..], false), refused);
+    }
+
+    #[test]
+    fn limits_others() {
+        let (host, rows, may) = (Host::default(), equal(), [false; 3]);
+        let goals = [0, 14, 0];
+        let limited = Ok(Some(vec![None, None, Some(6)]));
+        assert_eq!(limit_others(host, &rows, &goals, &may, &[None, None, Some(0)], false), limited);
+        assert_eq!(limit_others(host, &rows, &goals, &may, &[Some(0); 3], true), limited);
+        assert_eq!(limit_others(host, &rows, &goals, &may, &[Some(7); 3], true), Ok(None));
+        let same = Ok(Some(vec![None; 3]));
+        assert_eq!(limit_others(host, &rows, &goals, &[true; 3], &[Some(0); 3], true), same);
+        let refused = Err(fault(50, None));
+        assert_eq!(limit_others(host, &rows, &goals, &may, &[Some(0); 2], true), refused);
     }
 
     #[test]

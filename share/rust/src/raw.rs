@@ -84,6 +84,12 @@ extern "C" {
                     limits: *const u64, limits_length: usize, demands: *const u64, demands_length: usize,
                     goals: *const u64, goals_length: usize, may: *const u8, may_length: usize, guaranteed: u32,
                     tuned: *mut u64, tuned_length: usize, unmet: *mut u64) -> u32;
+    fn arbiter_limit_others(processors: u64, period_us: u64, slice_us: u64,
+                            parents: *const u32, parents_length: usize, weights: *const u64, weights_length: usize,
+                            limits: *const u64, limits_length: usize, demands: *const u64, demands_length: usize,
+                            goals: *const u64, goals_length: usize, may: *const u8, may_length: usize,
+                            lowest: *const u64, lowest_length: usize, guaranteed: u32,
+                            limited: *mut u64, limited_length: usize, met: *mut u32) -> u32;
     fn arbiter_hold(processors: u64, period_us: u64, slice_us: u64,
                     parents: *const u32, parents_length: usize, weights: *const u64, weights_length: usize,
                     limits: *const u64, limits_length: usize, used: *const u64, used_length: usize,
@@ -415,6 +421,19 @@ impl Columns {
                          self.limits.as_ptr(), self.limits.len(), self.demands.as_ptr(), self.demands.len(),
                          goals.as_ptr(), goals.len(), may.as_ptr(), may.len(), u32::from(guaranteed),
                          tuned.as_mut_ptr(), tuned.len(), unmet)
+        }
+    }
+
+    #[rustfmt::skip]
+    pub(crate) fn limit_others(&self, host: Host, goals: &[u64], may: &[u8], lowest: &[u64], guaranteed: bool,
+                               limited: &mut [u64], met: &mut u32) -> u32 {
+        // SAFETY: as above
+        unsafe {
+            arbiter_limit_others(host.processors, host.period_us, host.slice_us,
+                                 self.parents.as_ptr(), self.parents.len(), self.weights.as_ptr(), self.weights.len(),
+                                 self.limits.as_ptr(), self.limits.len(), self.demands.as_ptr(), self.demands.len(),
+                                 goals.as_ptr(), goals.len(), may.as_ptr(), may.len(), lowest.as_ptr(), lowest.len(),
+                                 u32::from(guaranteed), limited.as_mut_ptr(), limited.len(), met)
         }
     }
 

@@ -1,0 +1,15 @@
+-- The goal of `raised_limits` that is answered by hand.
+use Rattle.std.proofs.Common.{◌∙◌, ◌++◌, ◌∷◌, [], ap, sym, arith}
+use Rattle.std.proofs.lemmas.List.FromFn.{map-range_with_len_more}
+use Rattle.bw_questions.specs.OtherLimits.{raised_limit}
+use Rattle.bw_questions.proofs.other_limits.raise.raised_limits.Goals as goal
+
+pub loop-h-preserved : goal.loop-h-preserved
+loop-h-preserved c =
+    let limit = raised_limit c.args.instance.now c.args.limits.now c.args.only c.args.level in
+    record {
+      done = c.in_ok-push.ensures.items
+          ∙ ap (λ l. c.loop-h.raised.items ++ l ∷ []) c.raised_limit.ensures
+          ∙ ap (λ xs. xs ++ limit c.loop-h.h ∷ []) c.loop-h.invariant.done
+          ∙ sym (map-range_with_len_more limit 0 c.loop-h.h c.loop-h.h (omega arith));
+    }
