@@ -1,5 +1,5 @@
--- Levels of cost that siblings' needs leave: at a level at which the children take or need more than
--- an amount, each need costs no more, in every solution.
+-- Levels of cost that siblings' needs leave. Where the children take or need more than an amount at
+-- a level, each need costs no more than the level in every solution.
 use Rattle.std.proofs.Common.{◌≡◌, ℕ, zero, suc, ◌+◌, ◌-◌, ◌*◌, ◌/◌, ◌<◌, ◌≤◌, ◌⊎◌, List, length}
 use Rattle.std.proofs.Common.{get_or, set, take, refl, sym, ◌∙◌, arith, inl, inr}
 use Rattle.std.specs.Prelude.{sum}
@@ -97,7 +97,8 @@ module _ (amount : ℕ) (floors tops most needs weights : List ℕ) (level : ℕ
       omega (arith, lacks, taken_within level (get_or weights k 0) (get_or most k 0)) in
       elim (cases_eq k child) [
         | inl here ↦
-            let own : get_or parts child 0 < taken level (get_or weights child 0) (get_or most child 0) =
+            let own : get_or parts child 0
+            < taken level (get_or weights child 0) (get_or most child 0) =
             rw here at lacks in
             across (2 * get_or needs child 0 - 1)
             (2 * taken level (get_or weights child 0) (get_or most child 0) - 1)

@@ -43,9 +43,9 @@ fn short(parts: &[u64], needs: &[u64]) -> Option<usize>
 /// The least weights of siblings, from their floors to their tops, with which each gets what it
 /// needs of an amount. None: no such weights do, of this amount or of a smaller one.
 ///
-/// Each round raises all weights that are too small. The weights of a solution are no less than those
-/// that stand, so the last slice that a child needs costs no more there than the level of the needs.
-/// A child that falls short also needs a greater weight. So no raise goes too far.
+/// Each round raises all weights that are too small. The weights of a solution are no less than
+/// those that stand. So the last slice that a child needs costs no more there than the level of the
+/// needs, and a child that falls short needs a greater weight. No raise goes too far.
 ///
 /// # Errors
 /// `AllocError` if memory was refused.

@@ -16,6 +16,6 @@ loop-low-preserved-then-take_more c =
       below = λ less first before. none_at middle c.args.floors.now c.args.tops.now
           c.args.most.now c.args.needs.now c.in-Some.level c.requires.within
           (can_less c.args.limit c.args.floors.now c.args.most.now c.requires.can middle within)
-          c.in-Some.ensures.1.0 c.in-Some.ensures.1.1 c.in-Some.ensures.1.2 (c.take_more.ensures c.if-take_more.true) less
-          (omega (arith, before));
+          c.in-Some.ensures.1.0 c.in-Some.ensures.1.1 c.in-Some.ensures.1.2
+          (c.take_more.ensures c.if-take_more.true) less (omega (arith, before));
     }

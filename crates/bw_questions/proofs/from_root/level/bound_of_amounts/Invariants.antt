@@ -1,4 +1,4 @@
--- What stands at each turn of the loop in `bound_of_amounts`: no amount below the lower end will do.
+-- What stands at each turn of the loop in `bound_of_amounts`: no amount below `low` will do.
 use Rattle.std.proofs.Common.{ℕ, ◌+◌, ◌-◌, ◌<◌, ◌≤◌}
 use Rattle.bw_questions.specs.Needs.{CanMeet}
 use Rattle.bw_questions.proofs.from_root.level.bound_of_amounts.Given as goal
