@@ -8,11 +8,11 @@ use Rattle.std.proofs.lemmas.Bool.{cases_eq, cases_lt}
 use Rattle.std.proofs.lemmas.List.Sums.{sum_by_more, sum_by_more_le}
 use Rattle.bw_model.specs.declared.limits.TheConstants.{MAX_CAPACITY}
 use Rattle.bw_model.specs.Marks.{last_mark, next_mark, IsBelow}
-use Rattle.bw_model.proofs.CallerLemmas.{move-marks-apart, moved-IsSplit, sum_below, sum-is}
+use Rattle.bw_model.proofs.CallerLemmas.{move-marks-apart, moved-IsSplit, sum-is}
 use Rattle.bw_model.proofs.CallerLemmas.{sum_below-term}
 use Rattle.bw_split.specs.Conditions.{CanSplit}
 use Rattle.bw_split.specs.Levels.{taken}
-use Rattle.bw_split.specs.declared.limits.TheConstants.{STEPS, GREATEST_LEVEL}
+use Rattle.bw_split.specs.declared.limits.TheConstants.{STEPS}
 use Rattle.bw_questions.specs.Needs.{AreWithin, AreBetween, CanMeet, IsLevelOfNeeds}
 use Rattle.bw_questions.specs.Needs.{MeetsNeeds, TakeMore}
 
