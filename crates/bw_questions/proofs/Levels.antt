@@ -1,19 +1,20 @@
--- Levels of cost that siblings' needs leave: at a level at which the children take or need more than
--- an amount, each need costs no more, in every solution.
+-- Levels of cost that siblings' needs leave. Where the children take or need more than an amount at
+-- a level, each need costs no more than the level in every solution.
 use Rattle.std.proofs.Common.{◌≡◌, ℕ, zero, suc, ◌+◌, ◌-◌, ◌*◌, ◌/◌, ◌<◌, ◌≤◌, ◌⊎◌, List, length}
-use Rattle.std.proofs.Common.{get_or, set, take, sym, ◌∙◌, arith, inl, inr}
+use Rattle.std.proofs.Common.{get_or, set, take, refl, sym, ◌∙◌, arith, inl, inr}
 use Rattle.std.specs.Prelude.{sum}
 use Rattle.std.proofs.Math.Nat.{mul-le-mul_left, le_of_mul-le-mul_left, mul-div-le}
 use Rattle.std.proofs.lemmas.Bool.{cases_eq, cases_lt}
 use Rattle.std.proofs.lemmas.List.Sums.{sum_by_more, sum_by_more_le}
 use Rattle.bw_model.specs.declared.limits.TheConstants.{MAX_CAPACITY}
 use Rattle.bw_model.specs.Marks.{last_mark, next_mark, IsBelow}
-use Rattle.bw_model.proofs.CallerLemmas.{move-marks-apart, moved-IsSplit, sum_below, sum-is}
+use Rattle.bw_model.proofs.CallerLemmas.{move-marks-apart, moved-IsSplit, sum-is}
 use Rattle.bw_model.proofs.CallerLemmas.{sum_below-term}
 use Rattle.bw_split.specs.Conditions.{CanSplit}
 use Rattle.bw_split.specs.Levels.{taken}
-use Rattle.bw_split.specs.declared.limits.TheConstants.{STEPS, GREATEST_LEVEL}
-use Rattle.bw_questions.specs.Needs.{AreWithin, AreBetween, IsLevelOfNeeds, MeetsNeeds, TakeMore}
+use Rattle.bw_split.specs.declared.limits.TheConstants.{STEPS}
+use Rattle.bw_questions.specs.Needs.{AreWithin, AreBetween, CanMeet, IsLevelOfNeeds}
+use Rattle.bw_questions.specs.Needs.{MeetsNeeds, TakeMore}
 
 -- The last slice that a child takes at a level costs no more.
 pub taken_costs : (level weight most : ℕ)
@@ -96,7 +97,8 @@ module _ (amount : ℕ) (floors tops most needs weights : List ℕ) (level : ℕ
       omega (arith, lacks, taken_within level (get_or weights k 0) (get_or most k 0)) in
       elim (cases_eq k child) [
         | inl here ↦
-            let own : get_or parts child 0 < taken level (get_or weights child 0) (get_or most child 0) =
+            let own : get_or parts child 0
+            < taken level (get_or weights child 0) (get_or most child 0) =
             rw here at lacks in
             across (2 * get_or needs child 0 - 1)
             (2 * taken level (get_or weights child 0) (get_or most child 0) - 1)
@@ -147,6 +149,17 @@ module _ (amount : ℕ) (floors tops most needs weights : List ℕ) (level : ℕ
         ]
   ]
 
+  -- Nor is there a solution where a child is past that level with its top.
+  pub none_past : TakeMore amount level weights most needs
+      → level * get_or tops child 0 < (2 * get_or needs child 0 - 1) * STEPS → ⊥
+  none_past more past =
+      omega (
+        arith,
+        at_level more,
+        mul-le-mul_left level (meets.between.no_more child below),
+        past,
+      )
+
   pub cheap_at : IsLevelOfNeeds amount weights most needs level
       → (2 * get_or needs child 0 - 1) * STEPS ≤ level * get_or others child 0
   cheap_at found = elim found.more [
@@ -191,3 +204,16 @@ rounded_up cost level other some reached = elim (cases_lt other ((cost + level -
     some,
   ))
 ]
+
+-- Where the children take or need more than an amount at a level that some child is past with its
+-- top, no weights meet the needs of the amount, or of less.
+pub none_at : (amount : ℕ) (floors tops most needs : List ℕ) (level : ℕ)
+    → AreWithin floors tops most needs → CanSplit amount floors most
+    → (k : ℕ) → k < length tops → level * get_or tops k 0 < (2 * get_or needs k 0 - 1) * STEPS
+    → TakeMore amount level floors most needs
+    → (less : ℕ) → less ≤ amount → CanMeet floors tops most needs less → ⊥
+none_at amount floors tops most needs level within can k below past more less fewer some =
+    none_past amount floors tops most needs floors level within can
+    (record { one_each = refl; no_less = λ k _. omega arith; no_more = within.rising })
+    less some.0 some.1 fewer some.2 some.2.between.no_less k
+    (omega (arith, below, within.tops_each)) more past

@@ -1,10 +1,11 @@
 //! The level of cost that siblings' needs leave, and the least weights for which the needs cost no
 //! more.
 ghost use Rattle.std.specs.Prelude.{◌≡◌, ℕ, ◌≤◌, ◌<◌, true, length, slice_index, IfOk};
-ghost use Rattle.std.specs.Prelude.{EachIndex};
-ghost use Rattle.bw_split.specs.Conditions.{AreWeights};
+ghost use Rattle.std.specs.Prelude.{EachIndex, IfSome, ◌+◌, ◌-◌, ◌*◌};
+ghost use Rattle.bw_split.specs.Conditions.{AreWeights, CanSplit};
 ghost use Rattle.bw_split.specs.Levels.{taken};
-ghost use Rattle.bw_questions.specs.Needs.{AreRaised, IsHeavyEnough, IsLevelOfNeeds, TakeMore};
+ghost use Rattle.bw_questions.specs.Needs.{AreRaised, AreWithin, CanMeet, IsHeavyEnough};
+ghost use Rattle.bw_questions.specs.Needs.{IsLevelOfNeeds, TakeMore};
 
 use bw_model::limits::{MAX_CAPACITY, MAX_WEIGHT};
 use bw_split::limits::{GREATEST_LEVEL, STEPS};
@@ -36,6 +37,67 @@ fn take_more(amount: u64, level: u64, weights: &[u64], most: &[u64], needs: &[u6
         left -= part;
     }
     false
+}
+
+// The greatest level at which some child needs slices that cost more even with its top. None: no
+// child needs any.
+fn level_past_tops(tops: &[u64], needs: &[u64]) -> Option<u64>
+    requires tops { AreWeights tops.now }
+    requires needs { length needs.now ≡ length tops.now }
+    requires small { EachIndex needs.now (λ k. slice_index needs.now k ≤ MAX_CAPACITY) }
+    ensures { IfSome result (λ level. (level ≤ GREATEST_LEVEL)
+        × ((k : ℕ) × (k < length tops.now)
+        × (level * slice_index tops.now k < (2 * slice_index needs.now k - 1) * STEPS))) }
+{
+    let mut past = None;
+    let mut greatest = 0;
+    for k in 0..tops.len() {
+        if needs[k] > 0 {
+            let level = ((2 * needs[k] - 1) * STEPS - 1) / tops[k];
+            if greatest <= level {
+                greatest = level;
+                past = Some(level);
+            }
+        }
+    }
+    past
+}
+
+/// An amount from `first` on, at most one past `limit`: no weights meet the needs of a lesser one
+/// from `first` on.
+///
+/// At a level that some child is past with its top, all other slices that cost no more are given
+/// before its need is met.
+pub(crate) fn bound_of_amounts(
+    first: u64,
+    limit: u64,
+    floors: &[u64],
+    tops: &[u64],
+    most: &[u64],
+    needs: &[u64],
+) -> u64
+    requires in_order { first ≤ limit }
+    requires can { CanSplit limit floors.now most.now }
+    requires within { AreWithin floors.now tops.now most.now needs.now }
+    requires small { EachIndex needs.now (λ k. slice_index needs.now k ≤ MAX_CAPACITY) }
+    ensures in_range { (first ≤ result) × (result ≤ limit + 1) }
+    ensures below { (less : ℕ) → first ≤ less → less < result
+        → CanMeet floors.now tops.now most.now needs.now less → ⊥ }
+{
+    let Some(level) = level_past_tops(tops, needs) else {
+        return first;
+    };
+    let mut low = first;
+    let mut high = limit + 1;
+    while low < high {
+        let middle = low + (high - low) / 2;
+        if take_more(middle, level, floors, most, needs) {
+            low = middle + 1;
+        } else {
+            high = middle;
+        }
+    }
+    low
 }
 
 /// A level at which children take or need more than an amount: the least one, if there is one below

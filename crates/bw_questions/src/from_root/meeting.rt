@@ -4,7 +4,7 @@ ghost use Rattle.std.specs.Prelude.{List, IfOk, IfSome, IfNone};
 ghost use Rattle.bw_split.specs.Conditions.{CanSplit};
 ghost use Rattle.bw_questions.specs.Needs.{AreWithin, CanMeet, IsLeastAmount, IsLeastMeeting};
 
-use super::level::{level_of_needs, raised};
+use super::level::{bound_of_amounts, level_of_needs, raised};
 use bw_change_laws::lighter_has_no_more;
 use bw_split::{fits_in, split};
 use std::alloc::{AllocError, Global};
@@ -43,9 +43,9 @@ fn short(parts: &[u64], needs: &[u64]) -> Option<usize>
 /// The least weights of siblings, from their floors to their tops, with which each gets what it
 /// needs of an amount. None: no such weights do, of this amount or of a smaller one.
 ///
-/// Each round raises all weights that are too small. The weights of a solution are no less than those
-/// that stand, so the last slice that a child needs costs no more there than the level of the needs.
-/// A child that falls short also needs a greater weight. So no raise goes too far.
+/// Each round raises all weights that are too small. The weights of a solution are no less than
+/// those that stand. So the last slice that a child needs costs no more there than the level of the
+/// needs, and a child that falls short needs a greater weight. No raise goes too far.
 ///
 /// # Errors
 /// `AllocError` if memory was refused.
@@ -129,19 +129,24 @@ pub(crate) fn least_amount(
     if first > limit {
         return Ok(None);
     }
+    if !fits_in(needs, limit) {
+        return Ok(None);
+    }
     if can_meet(alloc, first, floors, tops, most, needs)? {
         return Ok(Some(first));
     }
     // No amount from the first one to below `low` will do. `high` does, unless it is past the
-    // limit.
-    let mut low = first + 1;
+    // limit. The least one is mostly near the bound.
+    let mut low = bound_of_amounts(first, limit, floors, tops, most, needs).max(first + 1);
     let mut high = limit + 1;
+    let mut reach = 0;
     while low < high {
-        let middle = low + (high - low) / 2;
+        let middle = (low + reach).min(low + (high - low) / 2);
         if can_meet(alloc, middle, floors, tops, most, needs)? {
             high = middle;
         } else {
             low = middle + 1;
+            reach = (2 * reach + 1).min(limit);
         }
     }
     Ok(if low > limit { None } else { Some(low) })

@@ -9,6 +9,7 @@ invariant-loop-low l = record {
   after : l.first < l.low;
   in_order : l.low ≤ l.high;
   most : l.high ≤ l.limit + 1;
+  near : l.reach ≤ l.limit;
   below : (less : ℕ) → l.first ≤ less → less < l.low
       → CanMeet l.floors l.tops l.most l.needs less → ⊥;
   above : l.high ≤ l.limit → CanMeet l.floors l.tops l.most l.needs l.high;

@@ -1,5 +1,5 @@
 -- The goals of `least_raise` that are answered by hand.
-use Rattle.std.proofs.Common.{◌≡◌, ◌<◌, None, Some, length, get_or, arith, sym, ◌∙◌, true≢false}
+use Rattle.std.proofs.Common.{◌<◌, None, Some, length, get_or, arith, sym, ◌∙◌, true≢false}
 use Rattle.bw_split.specs.Conditions.{CanSplit}
 use Rattle.bw_questions.specs.Needs.{AreRaised, IsLevelOfNeeds}
 use Rattle.bw_questions.proofs.Levels.{part_le_sum}
