@@ -1,4 +1,4 @@
-"""The greatest limits of rows away from all goals with which each row has its goal, by the C library.
+"""The greatest limits of rows away from goals with which each row has its goal, by the C library.
 
 They are compared with limits worked by hand, and on tiny trees with levels and limits in turn, each
 with all weights of one row, by the slow model's plans.
@@ -41,8 +41,8 @@ def module(library):
     # Its limit stays at 12, and at 20 it has none.
     (CAPPED, [0, 0, 0, 8, 0], NONE, [0, 12, 0, 0, 0], False, [None, 12, None, None, 2]),
     (EVEN, [0, 0, 0, 8, 0], NONE, [0, 20, 0, 0, 0], False, [None, None, None, None, 2]),
-    # The limit of row 4 stays, and the pod needs 16 for 8 of row 3.
-    (CAPPED, [0, 0, 0, 8, 0], NONE, [0, 0, 0, 0, None], False, [None, 4, None, None, None]),
+    # The limit of row 4 stays, and of 15 row 3 has 8, as it comes first.
+    (CAPPED, [0, 0, 0, 8, 0], NONE, [0, 0, 0, 0, None], False, [None, 5, None, None, None]),
     # Row 3 has no more than 10 where row 4 has as many.
     (EVEN, [0, 0, 0, 11, 0], NONE, [0, 0, 0, 0, None], False, None),
     # Goals of both: nobody is left to be limited.
@@ -173,7 +173,8 @@ class Asked(NamedTuple):
     def choices(self, level: int) -> Iterator[Sequence[int]]:
         """Limits from a level on, those with the greatest first numbers first: all, if they are
         few, and else some."""
-        ranges = [range(self.full(row), low - 1, -1) for row, low in enumerate(self.at_level(level))]
+        ranges = [range(self.full(row), low - 1, -1)
+                  for row, low in enumerate(self.at_level(level))]
         if math.prod(map(len, ranges)) <= MOST_CHOICES:
             return itertools.product(*ranges)
         chance = random.Random(level)

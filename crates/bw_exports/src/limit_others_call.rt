@@ -1,4 +1,4 @@
-//! `arbiter_limit_others`: the greatest limits of others with which goals can be met, called from C.
+//! `arbiter_limit_others`: the greatest limits of others that leave goals met, called from C.
 ghost use Rattle.std.specs.Prelude.{◌≡◌, ◌<◌, ◌∷◌, [], length};
 ghost use Rattle.bw_columns.specs.Asked.{Answers, are_of_length, asked_host, asked_table};
 ghost use Rattle.bw_columns.specs.Asked.{groups_in, asked_number_where};
@@ -20,8 +20,8 @@ fn are_fit(count: usize, goals: &[u64], may: &[u8], lowest: &[u64], limited: &[u
 /// The greatest limits of rows away from all goals with which weights meet the goals, of the rows
 /// that [`crate::plan_call::arbiter_plan`] has.
 ///
-/// `goals`, `may` and `guaranteed` are those of [`crate::tune_call::arbiter_tune`]. `lowest` has the
-/// lowest limit in slices that each row may get. A number from the row's limit on, or from the
+/// `goals`, `may` and `guaranteed` are those of [`crate::tune_call::arbiter_tune`]. `lowest` has
+/// the lowest limit in slices that each row may get. A number from the row's limit on, or from the
 /// capacity on, keeps the row's limit. The root keeps its limit, and so does a row with a goal at,
 /// above or below it.
 ///
