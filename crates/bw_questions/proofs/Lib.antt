@@ -18,6 +18,7 @@ mod Limits
 mod Meetings
 mod OneFromRoot
 mod OneReason
+mod Parts
 mod Paths
 mod Reaching
 mod Rising
@@ -25,6 +26,7 @@ mod RoundFloors
 mod Rounds
 mod Rows
 mod Runs
+mod ServedRounds
 mod StillInstance
 mod TimeSlices
 mod Weighed
