@@ -1,5 +1,5 @@
--- What a scheduler is given for a round, in columns of numbers.
-use Rattle.std.specs.Prelude.{◌≡◌, ℕ, List, Bool, Option, length, map}
+-- Amounts and limits of a round for a scheduler, in columns of numbers.
+use Rattle.std.specs.Prelude.{◌≡◌, ℕ, List, Bool, Option, map}
 use Rattle.bw_model.specs.Groups.{Groups}
 use Rattle.bw_questions.specs.Served.{IsServedRound}
 use Rattle.bw_columns.specs.Asked.{limit_number}

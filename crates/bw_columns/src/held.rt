@@ -32,10 +32,7 @@ pub struct HeldColumns {
 ///
 /// # Errors
 /// `AllocError` if memory was refused.
-pub(crate) fn limit_numbers(
-    alloc: Global,
-    limits: &[Option<u64>],
-) -> Result<Vec<u64>, AllocError>
+pub(crate) fn limit_numbers(alloc: Global, limits: &[Option<u64>]) -> Result<Vec<u64>, AllocError>
     ensures { IfOk result (λ numbers. numbers.items ≡ map limit_number limits.now) }
 {
     limits

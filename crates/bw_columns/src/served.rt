@@ -1,4 +1,4 @@
-//! What a scheduler is given for a round of a host and its rows.
+//! Amounts and limits of a round for a scheduler, of a host and its rows.
 ghost use Rattle.std.specs.Prelude.{◌≡◌, true, length, IfOk, IfErr, OnOk};
 ghost use Rattle.bw_columns.specs.Asked.{groups_asked, refusal_where, Answers};
 ghost use Rattle.bw_columns.specs.Certificates.{flags_in};
@@ -13,7 +13,7 @@ use crate::refusal::Refusal;
 use bw_questions::serve;
 use std::alloc::Global;
 
-/// What a scheduler is given for a round, one entry in each column for each row.
+/// Amounts and limits of a round for a scheduler, one entry in each column for each row.
 #[derive(Drop)]
 pub struct ServedColumns {
     /// Amounts in slices of one period.
@@ -22,8 +22,8 @@ pub struct ServedColumns {
     pub limits: Vec<u64>,
 }
 
-/// The amounts and limits of a host, its rows and their flags: 0 for a leaf that would not have used
-/// more.
+/// The amounts and limits of a host, its rows and their flags: 0 for a leaf that would not have
+/// used more.
 ///
 /// `fit` is whether the caller's columns for the answer have the rows' length.
 ///

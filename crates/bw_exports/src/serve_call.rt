@@ -1,4 +1,4 @@
-//! `arbiter_serve`: what a scheduler is given for a round, called from C.
+//! `arbiter_serve`: amounts and limits of a round for a scheduler, called from C.
 ghost use Rattle.std.specs.Prelude.{◌≡◌, ◌<◌, ◌∷◌, [], length};
 ghost use Rattle.bw_columns.specs.Asked.{Answers, are_of_length, asked_host, asked_table};
 ghost use Rattle.bw_columns.specs.Asked.{groups_in, asked_number_where};
@@ -8,13 +8,13 @@ ghost use Rattle.bw_columns.specs.Served.{IsServedColumns};
 use bw_columns::{Columns, Host, served_of};
 use std::alloc::Global;
 
-/// What a scheduler is given for a round, from what each leaf used in the last one.
+/// Amounts and limits of the next round for a scheduler, from what each leaf used in the last one.
 ///
 /// The rows and `hungry` are those of [`crate::hold_call::arbiter_hold`]. The answer is 0 if the
-/// columns are written. `amounts` are the plan of the round, or what each row gets if each leaf asks
-/// for everything where that is more. So they may be above the capacity together. `most` has limits,
-/// the greatest number for none: of a leaf, its least part of the limits at or above it, and of
-/// another group its own. All are in slices. A refusal leaves each column unchanged.
+/// columns are written. `amounts` are the plan of the round, or what each row gets if each leaf
+/// asks for everything where that is more. So they may be above the capacity together. `most` has
+/// limits, the greatest number for none: of a leaf, its least part of the limits at or above it,
+/// and of another group its own. All are in slices. A refusal leaves each column unchanged.
 ///
 /// # Errors
 /// The numbers of `arbiter_plan`, with 50 also if a column does not have the rows' length.

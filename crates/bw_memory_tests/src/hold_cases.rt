@@ -8,6 +8,7 @@ use std::alloc::{AllocError, Global};
 use std::test::Fail;
 
 const ROOT: u32 = 0;
+
 const POD: u32 = 2;
 
 // Two leaves that used 4 and 10 slices.
@@ -36,7 +37,7 @@ fn held(alloc: Global, instance: &Instance, hungry: &[bool]) -> Result<Held, All
     }
 }
 
-// What a scheduler is given, asked for again if an allocation failed.
+// Amounts and limits for a scheduler, asked for again if an allocation failed.
 fn served(alloc: Global, instance: &Instance, hungry: &[bool]) -> Result<Served, AllocError>
     requires { length hungry.now ≡ length instance.now.rows }
 {

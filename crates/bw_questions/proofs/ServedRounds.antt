@@ -1,16 +1,14 @@
 -- What a scheduler is given for a round, beside limits and guarantees.
-use Rattle.std.proofs.Common.{◌≡◌, ℕ, ◌<◌, ◌≤◌, List, Bool, true, false, Option, Some, length}
-use Rattle.std.proofs.Common.{get_or, refl, ap, ◌∙◌, arith, inl, inr}
-use Rattle.std.specs.Prelude.{min, max, ◌*◌, ◌/◌, ◌==◌, ◌||◌}
-use Rattle.std.specs.List.{range_with_len}
+use Rattle.std.proofs.Common.{◌≡◌, ℕ, ◌<◌, ◌≤◌, List, Bool, Some, length, get_or, ap, ◌∙◌, arith}
+use Rattle.std.proofs.Common.{inl, inr}
+use Rattle.std.specs.Prelude.{max, ◌==◌, ◌||◌}
 use Rattle.std.proofs.lemmas.Bool.{cases_Bool}
 use Rattle.std.proofs.lemmas.List.FromFn.{get_or-map-range_with_len}
-use Rattle.bw_model.specs.Groups.{Groups, IsInstance, row_of}
+use Rattle.bw_model.specs.Groups.{row_of}
 use Rattle.bw_plan.specs.Laws.{ThereIsOnePlan}
 use Rattle.bw_questions.specs.HeldRule.{is_hungry, leaf_limit}
 use Rattle.bw_questions.specs.Reading.{limit_at}
-use Rattle.bw_questions.specs.Served.{part_of, part_at, served_amount, IsServedRound, IsServedLimit}
-use Rattle.bw_questions.specs.Served.{IsLeastPart, NoneServedAboveALimit}
+use Rattle.bw_questions.specs.Served.{part_of, served_amount, NoneServedAboveALimit}
 use Rattle.bw_questions.specs.Served.{NoneServedBelowItsGuarantee}
 use Rattle.bw_questions.proofs.RoundFloors.{floor_enough}
 

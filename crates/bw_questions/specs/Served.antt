@@ -1,4 +1,4 @@
--- What a scheduler is given for a round: an amount and a limit of each row.
+-- Amounts and limits of a round for a scheduler: one of each for each row.
 use Rattle.std.specs.Prelude.{◌≡◌, ℕ, ◌*◌, ◌/◌, ◌<◌, ◌≤◌, ◌==◌, ◌||◌, List, Bool, true, false}
 use Rattle.std.specs.Prelude.{Option, None, Some, length, map, min, max, slice_index, IsTrue}
 use Rattle.std.specs.Prelude.{if◌then◌else◌}
@@ -15,8 +15,8 @@ abbrev pub served_amount : List ℕ → List ℕ → ℕ → ℕ
 served_amount floors planned g = max (slice_index floors g) (slice_index planned g)
 
 -- The part that a leaf has of a limit at or above it, and never more than the limit. In a calm
--- round, and where the plan gives the row of the limit nothing, it is all of it. Else it is the part
--- that the leaf has of that row's plan, or its limit of the round if that is more.
+-- round, and where the plan gives the row of the limit nothing, it is all of it. Else it is the
+-- part that the leaf has of that row's plan, or its limit of the round if that is more.
 abbrev pub part_of : Bool → ℕ → ℕ → ℕ → ℕ → ℕ
 part_of calm limit above amount held =
     if calm || above == 0 then limit else min limit (max (limit * amount / above) held)

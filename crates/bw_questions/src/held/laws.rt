@@ -94,8 +94,8 @@ pub fn none_served_above_a_limit()
     ensures { NoneServedAboveALimit }
 {}
 
-/// Law: whatever was read, each leaf is given an amount of at least its plan of the round, and of at
-/// least its guarantee.
+/// Law: whatever was read, each leaf is given an amount of at least its plan of the round, and of
+/// at least its guarantee.
 pub fn none_served_below_its_guarantee()
     ensures { NoneServedBelowItsGuarantee }
 {

@@ -1,8 +1,7 @@
-//! What a scheduler is given for a round: an amount and a limit of each row.
+//! Amounts and limits of a round for a scheduler: one of each for each row.
 ghost use Rattle.std.specs.Prelude.{◌≡◌, ℕ, ◌<◌, length, map, IfOk, slice_index};
 ghost use Rattle.std.specs.List.{range_with_len};
 ghost use Rattle.std.specs.Option.{option_map};
-ghost use Rattle.bw_model.specs.declared.limits.TheConstants.{MAX_DEMAND};
 ghost use Rattle.bw_questions.specs.HeldRule.{own_limit};
 ghost use Rattle.bw_questions.specs.Reading.{limit_at};
 ghost use Rattle.bw_questions.specs.Served.{IsServedRound, IsServedLimit, IsLeastPart};
@@ -16,7 +15,7 @@ use bw_model::Instance;
 use bw_plan::plan;
 use std::alloc::{AllocError, Global};
 
-/// What a scheduler is given for a round.
+/// Amounts and limits of a round for a scheduler.
 #[derive(Debug, Drop)]
 pub struct Served {
     /// One amount per row, in slices: the plan, or what it gets if each leaf asks for everything.
@@ -25,8 +24,8 @@ pub struct Served {
     pub limits: Vec<Option<u64>>,
 }
 
-// The part that a leaf has of a limit. The plan gives the limit's row `above` and the leaf `amount`,
-// and the round limits the leaf to `held`.
+// The part that a leaf has of a limit. The plan gives the limit's row `above` and the leaf
+// `amount`, and the round limits the leaf to `held`.
 fn part_of(calm: bool, limit: u64, above: u64, amount: u64, held: u64) -> u64
     ensures { result ≡ part_of calm limit above amount held }
 {
@@ -70,13 +69,7 @@ fn lesser(one: Option<u64>, other: Option<u64>) -> Option<u64>
 }
 
 // The least part of a leaf over the limits at or above it.
-fn least_part(
-    reading: &Instance,
-    calm: bool,
-    planned: &[u64],
-    leaf: u32,
-    held: u64,
-) -> Option<u64>
+fn least_part(reading: &Instance, calm: bool, planned: &[u64], leaf: u32, held: u64) -> Option<u64>
     requires row { leaf < length reading.now.rows }
     requires each { length planned.now ≡ length reading.now.rows }
     ensures { IsLeastPart reading.now.rows (λ a limit.
@@ -160,7 +153,7 @@ fn served_amounts(alloc: Global, floors: &[u64], planned: &[u64]) -> Result<Vec<
     Ok(amounts)
 }
 
-/// What a scheduler is given for a round, from what each leaf used in the last one.
+/// Amounts and limits of the next round for a scheduler, from what each leaf used in the last one.
 ///
 /// The reading and the flags are those of [`super::hold`], as are the plan and the limits of the
 /// round. A row's amount is its plan, or that where each leaf asks for everything if it is more: a

@@ -1,5 +1,5 @@
 -- What stands at each turn of the loop in `least_part`: the least part of the groups so far.
-use Rattle.std.proofs.Common.{ℕ, get_or}
+use Rattle.std.proofs.Common.{get_or}
 use Rattle.std.specs.Option.{option_map}
 use Rattle.bw_questions.specs.HeldRule.{own_limit}
 use Rattle.bw_questions.specs.Served.{part_of}
