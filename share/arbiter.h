@@ -229,6 +229,19 @@ uint32_t arbiter_hold(uint64_t processors, uint64_t period_us, uint64_t slice_us
                       uint8_t *flags, size_t flags_length, uint64_t *nums, size_t nums_length,
                       uint64_t *dens, size_t dens_length, uint32_t *places, size_t places_length);
 
+/* What a scheduler is given for a round in the place of limits. The rows and `hungry` are those of arbiter_hold.
+ * Writes to `amounts` the plan of the round, or where it is more the plan where each leaf asks for everything, so that a leaf that
+ * sleeps can catch up. They may be above the capacity together. Writes to `most` limits, or ARBITER_NO_LIMIT. That of a leaf is its
+ * least part of the limits at or above it. A part is the whole limit where arbiter_hold limits nobody, or plans nothing for the
+ * group with the limit. Else it is as much of it as the leaf has of that group's plan, rounded down, or the leaf's limit of the
+ * round if that is more, and never more than the limit. Other rows have their own limit. No amount of a leaf is below its guarantee.
+ * Two plans. */
+uint32_t arbiter_serve(uint64_t processors, uint64_t period_us, uint64_t slice_us,
+                       const uint32_t *parents, size_t parents_length, const uint64_t *weights, size_t weights_length,
+                       const uint64_t *limits, size_t limits_length, const uint64_t *used, size_t used_length,
+                       const uint8_t *hungry, size_t hungry_length, uint64_t *amounts, size_t amounts_length,
+                       uint64_t *most, size_t most_length);
+
 /* What a group used in a round, and what it asks for in the next one. A round is the time between two readings. In one of
  * `passed_ns` nanoseconds the group used `used_us` microseconds, and some task of it waited for a processor for `waited_us`. It
  * has `tasks` at the end. `throttled` is not 0 where it was throttled at a limit of its own, which allowed it `allowed_us`, or

@@ -262,7 +262,8 @@ def test_refused(calls, number, row, host, tuples):
     nothing = arbiter.Certificate.of([False] * len(rows), [None] * len(rows))
     for call in (calls.plan, calls.certify, calls.limiting):
         same(number_of(call, host, rows), (number, row), call.__name__)
-    same(number_of(calls.hold, host, rows, [True] * len(rows)), (number, row), "hold")
+    for call in (calls.hold, calls.serve):
+        same(number_of(call, host, rows, [True] * len(rows)), (number, row), call.__name__)
     same(number_of(calls.check, host, rows, [0] * len(rows), nothing), (number, row), "check")
     found = c.U32(7)
     words = with_lengths(raw_columns(rows), [len(rows)] * 4)
@@ -425,6 +426,7 @@ KINDS = {
     "certify": (CERTIFIED, [], 9),
     "reasons": ([c.U8, c.U32], [], 6),
     "hold": ([c.U8, c.U64, c.U64, *CERTIFIED], [], 12),
+    "serve": ([c.U8, c.U64, c.U64], [], 7),
     "check": (CERTIFIED, [c.U32], 4),
 }
 

@@ -1,9 +1,10 @@
-"""The limits that the C library gives for a round.
+"""The limits that the C library gives for a round, and what it gives a scheduler.
 
 They are compared with limits worked by hand, and on random trees with the slow model's plans.
 """
 import random
-from typing import List, Optional, Sequence, Tuple
+from fractions import Fraction
+from typing import List, NamedTuple, Optional, Sequence, Tuple
 
 import pytest
 
@@ -14,6 +15,8 @@ from test_library import number_of, random_tree
 
 SEED = 20261127
 TREES = 60
+# Random trees that a scheduler is given, in tests of so many.
+SERVED, OF_ONE = 2000, 250
 # One processor of 20 slices.
 HOST = arbiter.Host(1, 100000, 5000)
 EVERYTHING = 1000000
@@ -66,11 +69,27 @@ def test_worked(module, rows, used, hungry, limits, demands, amounts):
     module.check(HOST, asked, round_of.amounts, round_of.certificate)
 
 
-def by_model(rows: List[Row], capacity: int, hungry: Sequence[bool]
-             ) -> Tuple[Limits, List[int], List[int], Instance]:
-    """The limits, the demands, their plan and its instance, from the slow model's plans."""
+class Round(NamedTuple):
+    """A round: its demands, their instance and plan, and the limits. The floors are the plan where
+    each leaf asks for everything."""
+
+    limits: Limits
+    demands: List[int]
+    amounts: List[int]
+    asked: Instance
+    floors: List[int]
+    calm: bool
+
+
+def leaves_of(rows: List[Row]) -> List[bool]:
+    """Whether each row is a leaf."""
     inner = {row.parent for row in rows}
-    leaves = [number not in inner for number in range(len(rows))]
+    return [number not in inner for number in range(len(rows))]
+
+
+def by_model(rows: List[Row], capacity: int, hungry: Sequence[bool]) -> Round:
+    """A round, from the slow model's plans."""
+    leaves = leaves_of(rows)
     demands = [EVERYTHING if leaf and flag else row.demand
                for leaf, flag, row in zip(leaves, hungry, rows)]
     asked = Instance(using(rows, demands), capacity)
@@ -88,7 +107,26 @@ def by_model(rows: List[Row], capacity: int, hungry: Sequence[bool]
         else:
             room = row.demand + max(1, (row.demand + 7) // 8)
             limits.append(max(floor, room if row.limit is None else min(row.limit, room)))
-    return limits, demands, amounts, asked
+    return Round(limits, demands, amounts, asked, floors, calm)
+
+
+def given_by_model(rows: List[Row], capacity: int, hungry: Sequence[bool]
+                   ) -> Tuple[List[int], Limits]:
+    """The amounts and limits that a scheduler is given, with parts as fractions."""
+    found = by_model(rows, capacity, hungry)
+    most: Limits = []
+    for number, leaf in enumerate(leaves_of(rows)):
+        parts, at = [], number
+        while leaf and at is not None:
+            own, above = rows[at].limit, found.amounts[at]
+            if own is not None and (found.calm or not above):
+                parts.append(own)
+            elif own is not None:
+                part = int(Fraction(found.amounts[number], above) * own)
+                parts.append(min(max(part, found.limits[number] or 0), own))
+            at = rows[at].parent
+        most.append(min(parts, default=None) if leaf else rows[number].limit)
+    return list(map(max, found.amounts, found.floors)), most
 
 
 @pytest.mark.parametrize("number", range(TREES))
@@ -100,16 +138,56 @@ def test_random_tree(module, number):
     rows = [Row(row.parent, row.weight, row.limit, min(row.demand, most)) for row in asked]
     hungry = [chance.random() < 0.2 * (number % 3) for _ in rows]
     capacity = host.processors * (host.period_us // host.slice_us)
-    limits, demands, amounts, instance = by_model(rows, capacity, hungry)
+    wanted = by_model(rows, capacity, hungry)
     round_of = module.hold(host, rows, hungry)
-    same((round_of.limits, round_of.demands, round_of.amounts), (limits, demands, amounts))
+    same((round_of.limits, round_of.demands, round_of.amounts), wanted[:3])
     evidence = round_of.certificate
-    same(([bool(flag) for flag in evidence.flags], evidence.levels), instance.certificate(amounts))
+    same(([bool(flag) for flag in evidence.flags], evidence.levels),
+         wanted.asked.certificate(wanted.amounts))
+
+
+@pytest.mark.parametrize("rows, used, hungry, amounts, most", [
+    # The first used 4 of its 7, and may use 7 at once. No limit is set.
+    (TWO, [0, 4, 10], [0, 0, 1], [20, 7, 16], [None, None, None]),
+    # Nobody lacks anything, so the limits are whole.
+    (POD, [0, 9, 0, 5, 2], [0, 1, 1, 0, 0], [20, 9, 11, 6, 5], [None, 9, 12, 12, 12]),
+    # Of the plan of `pod`, 12, its leaves have 10 and 2, and of its limit 10 and 2. The second may
+    # use 5 in the round.
+    (POD, [0, 8, 0, 5, 2], [0, 0, 0, 1, 0], [20, 9, 12, 10, 5], [None, 9, 12, 10, 5]),
+    # `pod` is so light that nothing is planned for it, so its leaves have its limit whole.
+    ([Row(None), Row(0, weight=10000), Row(0, weight=1, limit=3), Row(2), Row(2)],
+     [0, 20, 0, 0, 0], [0, 1, 0, 0, 1], [20, 20, 0, 0, 0], [None, None, 3, 3, 3]),
+    # Limits above one another: the least part counts. Of 20 slices the leaves have 4 and 8, and of
+    # 12 of a plan of 12 as many.
+    ([Row(None), Row(0, limit=15), Row(1, limit=12), Row(2, weight=100), Row(2, weight=200)],
+     [0, 0, 0, 4, 8], [0, 0, 0, 1, 1], [12, 12, 12, 4, 8], [None, 15, 12, 4, 8]),
+])
+def test_served(module, rows, used, hungry, amounts, most):
+    same(module.serve(HOST, using(rows, used), hungry), (amounts, most))
+
+
+def serves_as_modelled(module, number: int) -> None:
+    """What a scheduler is given for a random tree is as the model has it."""
+    chance = random.Random(SEED + number)
+    host, asked = random_tree(chance)
+    most = EVERYTHING if number % 3 else host.processors
+    rows = [Row(row.parent, row.weight, row.limit, min(row.demand, most)) for row in asked]
+    hungry = [chance.random() < 0.2 * (number % 3) for _ in rows]
+    same(module.serve(host, rows, hungry),
+         given_by_model(rows, host.processors * (host.period_us // host.slice_us), hungry),
+         f"tree {number}")
+
+
+@pytest.mark.parametrize("first", range(0, SERVED, OF_ONE))
+def test_served_tree(module, first):
+    for number in range(first, first + OF_ONE):
+        serves_as_modelled(module, number)
 
 
 @pytest.mark.parametrize("flags", [0, 2, 4])
 def test_flag_for_each_row(module, flags):
-    same(number_of(module.hold, HOST, using(TWO, [0, 4, 10]), [True] * flags), (50, None))
+    for call in (module.hold, module.serve):
+        same(number_of(call, HOST, using(TWO, [0, 4, 10]), [True] * flags), (50, None))
 
 
 def test_rounds_reach_the_plan(module):

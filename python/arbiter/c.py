@@ -40,6 +40,7 @@ WORDS: dict[str, list[Any]] = {
     "tune": TREE + COLUMN * 2 + [U32] + ROOM + [WRITTEN],
     "limit_others": TREE + COLUMN * 3 + [U32] + ROOM + [WRITTEN],
     "hold": TREE + COLUMN + ROOM * 7,
+    "serve": TREE + COLUMN + ROOM * 2,
     "reading": HOST + [U64] * 3 + [U32] * 2 + [U64] + COLUMN * 2 + [WRITTEN] * 4,
     "written": HOST + [U64] * 3 + [U32] + [WRITTEN] * 2,
     "guarantee": TREE + [U32, WRITTEN],

@@ -181,6 +181,17 @@ class Library:
         limits = [None if limit == c.NO_LIMIT else limit for limit in held]
         return Round(limits, demands.tolist(), amounts.tolist(), evidence)
 
+    def serve(self, host: Host, rows: Rows, hungry: Sequence[bool]
+              ) -> tuple[list[int], list[int | None]]:
+        """The amount and the limit of each row that a scheduler is given for a round: of a leaf its
+        plan, or what it gets where each asks for everything if that is more, and its least part of
+        the limits at or above it. Asked and refused as `hold` is."""
+        columns = Columns.of(rows)
+        flags = column(U8, [bool(flag) for flag in hungry], "flag")
+        amounts, most = zeros(U64, len(columns)), zeros(U64, len(columns))
+        self.ask("serve", host, columns, *given(flags, amounts, most))
+        return amounts.tolist(), [None if limit == c.NO_LIMIT else limit for limit in most]
+
     def reading(self, host: Host, times: RoundTimes, tasks: Sequence[tuple[int, int]]) -> Reading:
         """What a group used in a round, whether it would have used more, and what it asks for.
 

@@ -263,6 +263,8 @@ class Loop:
             engine.library.written, self.small))
         # The number of tasks of each leaf at the last reading.
         self.tasks: dict[str, int] = {}
+        # The row of each leaf that the last round planned.
+        self.places: dict[str, int] = {}
         self.tell = output.Remarks().tell
         # The folder of each group with what stood in it, is written and may stand, as the undo
         # file has it.
@@ -485,15 +487,20 @@ class Loop:
             for_all[row] = each.asked == units.MAX_DEMAND
             asks[row] = each.used if for_all[row] else each.asked
         with asking("no limits"):
-            held = library.hold(host, rows.asking(asks), for_all)
+            held = self.ask(host, rows.asking(asks), for_all)
         with asking("the check refused the plan"):
             library.check(host, rows.asking(held.demands), held.amounts, held.certificate)
         return held
 
+    def ask(self, host: Host, rows: Columns, hungry: list[bool]) -> Round:
+        """The limits of the next round."""
+        return self.engine.library.hold(host, rows, hungry)
+
     def planned(self, model: Model, used: dict[str, Reading]) -> Written:
         """The limits and weights of the next round."""
         rows, weights = self.rows(model), dict[str, int]()
-        places = {path: row for row, path in enumerate(model.groups, 1) if path in used}
+        self.places = places = {path: row for row, path in enumerate(model.groups, 1)
+                                if path in used}
         held = self.held(Columns.of(rows), {row: used[path] for path, row in places.items()})
         found = Written({}, {}, {}, sum(held.limits[row] != rows[row].limit
                                         for row in places.values()))

@@ -11,13 +11,13 @@ import select
 import shutil
 import subprocess
 import time
-from collections.abc import Iterator, Mapping
+from collections.abc import Iterator
 from typing import Any, NamedTuple
 
-from arbiter import Columns, Reading, Round
+from arbiter import Columns, Host, Reading, Round
 from arbiter_host import hold
 from arbiter_host.faults import HostFault
-from arbiter_host.hold import Kept, Line, WriteFault, Written
+from arbiter_host.hold import Kept, WriteFault, Written
 from arbiter_host.model import Group, Model
 from arbiter_host.units import MAX_DEMAND
 
@@ -28,8 +28,6 @@ FOLDERS = "/usr/sbin:/usr/local/sbin"
 LONGEST = 60
 # The period of limits in nanoseconds.
 LIMIT_PERIOD = 10**8
-# A leaf that asks for everything.
-EVERYTHING = Reading(0, MAX_DEMAND, True)
 
 
 class UsedTime(NamedTuple):
@@ -126,10 +124,8 @@ class ScheduledLoop(hold.Loop):
     def __init__(self, scheduler: Scheduler, *words: Any, **more: Any) -> None:
         super().__init__(*words, **more)
         self.scheduler, self.used, self.passed = scheduler, dict[int, UsedTime](), 0
-        # The limits of groups that have one of their own, in slices.
-        self.limits = dict[str, int]()
-        # The row of each group, the plan, and that where all leaves ask for everything.
-        self.places, self.amounts, self.most = dict[str, int](), list[int](), list[int]()
+        # The amount and the limit of each row, in slices.
+        self.served = list[int](), list[int | None]()
         # kubelet's groups are served too, since nothing in them is written
         self.is_checked = True
 
@@ -159,50 +155,24 @@ class ScheduledLoop(hold.Loop):
         """Nanoseconds of a round as slices of a period, rounded up."""
         return -(-ns * self.host.period_us // (self.passed * self.host.slice_us))
 
-    def held(self, rows: Columns, used: Mapping[int, Reading]) -> Round:
-        """The limits of the next round. And the plan where all leaves ask for everything."""
-        self.most = super().held(rows, dict.fromkeys(used, EVERYTHING)).amounts
-        found = super().held(rows, used)
-        self.amounts = found.amounts
-        return found
+    def ask(self, host: Host, rows: Columns, hungry: list[bool]) -> Round:
+        """The limits of the next round. And what the scheduler is given for it."""
+        self.served = self.engine.library.serve(host, rows, hungry)
+        return super().ask(host, rows, hungry)
 
     def write(self, found: Written) -> int:
-        """Gives the scheduler the amounts, and the limits of leaves at or below a limit. A leaf
-        that asks for less than it may have comes and goes: its amount is what it may have, so that
-        it catches up."""
-        slices = self.host.processors * self.host.period_us // self.host.slice_us
+        """Gives the scheduler the amount and the limit of each leaf."""
+        slices, (amounts, limits) = self.host.capacity, self.served
         self.scheduler.plan(slices, [
-            (self.groups[path].identity[1], max(line["plan"], self.most[self.places[path]]),
-             self.limit(path, line))
-            for path, line in found.told.items()])
+            (self.groups[path].identity[1], amounts[row], self.limit(limits[row]))
+            for path, row in self.places.items()])
         return len(found.told)
 
-    def limit(self, path: str, line: Line) -> int:
-        """The limit of a leaf in nanoseconds of its period; 0 where no group sets one. Of the limit
-        of a group it has the part that it has of the plan, or the limit of the round if that is
-        more. Where the round holds nobody it has it whole."""
-        names = path.split("/")
-        paths = ("/".join(names[:length]) for length in range(1, len(names) + 1))
-        above = [self.part(each, line) for each in paths if each in self.limits]
-        if not above:
+    def limit(self, slices: int | None) -> int:
+        """A limit in nanoseconds of its period; 0 for none."""
+        if slices is None:
             return 0
-        return max(min(above) * self.host.slice_us * LIMIT_PERIOD // self.host.period_us, 1)
-
-    def part(self, group: str, line: Line) -> int:
-        """What a leaf below a group with a limit, or that group, has of it, in slices."""
-        limit, planned = self.limits[group], self.amounts[self.places[group]]
-        if line["limit"] is None or not planned:
-            return limit
-        part: int = max(limit * line["plan"] // planned, line["limit"])
-        return min(part, limit)
-
-    def rows(self, model: Model) -> list[Any]:
-        """The rows of the operator's own settings; the groups with a limit are kept."""
-        found = super().rows(model)
-        self.places = {path: row for row, path in enumerate(model.groups, 1)}
-        self.limits = {path: row.limit for path, row in zip(model.groups, found[1:])
-                       if row.limit is not None}
-        return found
+        return max(slices * self.host.slice_us * LIMIT_PERIOD // self.host.period_us, 1)
 
     def set(self, kept: Kept) -> None:
         """Writes nothing."""

@@ -98,7 +98,7 @@ static uint64_t told(const uint32_t *parents, const uint64_t *weights, const uin
     uint64_t *carries = guard_block(n * 8, 0), *sums[6];
     uint8_t *hungry = copied(weights, n);
     uint64_t *held = guard_block(n * 8, 0), *round = guard_block(n * 8, 1), *tuned = guard_block(n * 8, 0), unmet = 7;
-    uint32_t answers[16], met = 7;
+    uint32_t answers[17], met = 7;
 
     answers[0] = arbiter_plan(HOST, ALL(n), amounts, n);
     answers[1] = arbiter_certify(HOST, ALL(n), amounts, n, flags, n, nums, n, dens, n, places, n);
@@ -122,8 +122,11 @@ static uint64_t told(const uint32_t *parents, const uint64_t *weights, const uin
     answers[12] = arbiter_book(HOST, ALL(n), limits, n, demands, n, carries, n, sums[0], n, sums[1], n, sums[2], n, sums[3], n, sums[4], n, sums[5], n);
     for (size_t g = 0; g < n; g++)
         sum = sum * 31 + held[g] + 3 * round[g] + 5 * tuned[g] + 7 * (g ? 0 : unmet);
+    answers[15] = arbiter_serve(HOST, ALL(n), hungry, n, round, n, held, n);
+    for (size_t g = 0; g < n; g++)
+        sum = sum * 31 + held[g] + 3 * round[g];
     answers[13] = arbiter_tune(HOST, ALL(n), goals, n, hungry, n, 1, tuned, n, &unmet);
-    answers[15] = arbiter_limit_others(HOST, ALL(n), goals, n, hungry, n, goals, n, 1, held, n, &met);
+    answers[16] = arbiter_limit_others(HOST, ALL(n), goals, n, hungry, n, goals, n, 1, held, n, &met);
     guard_drop(goals);
     /* as many periods as there can be, of quotas that are none */
     uint64_t *quotas = guard_block(n * 8, 0), *own = guard_block(n * 8, 1), *bursts = guard_block(n * 8, 0), *left = guard_block(n * 8, 1), *cells[9];
@@ -139,7 +142,7 @@ static uint64_t told(const uint32_t *parents, const uint64_t *weights, const uin
         guard_drop(cells[each]);
     }
     guard_drop(quotas), guard_drop(own), guard_drop(bursts), guard_drop(left);
-    for (int each = 0; each < 16; each++)
+    for (int each = 0; each < 17; each++)
         sum = sum * 31 + answers[each];
     for (size_t g = 0; g < n; g++)
         sum = sum * 31 + tuned[g] + 3 * held[g] + 7 * (g ? met : unmet);
@@ -151,7 +154,7 @@ static uint64_t told(const uint32_t *parents, const uint64_t *weights, const uin
         sum = sum * 31 + amounts[g] + 3 * nums[g] + 5 * dens[g] + 7 * flags[g] + 11 * places[g] + 13 * groups[g] + 17 * reasons[g];
     for (int each = 0; each < 4; each++)
         sum = sum * 31 + least[each];
-    calls += 15;
+    calls += 17;
     demand(1, __LINE__);
     for (int each = 0; each < 6; each++)
         guard_drop(sums[each]);
@@ -217,6 +220,7 @@ static void nothing(void)
     IS(5, arbiter_least_weight(HOST, ALL(0), UINT32_MAX, UINT64_MAX, &number));
     IS(5, arbiter_refused_row(ALL(0), &row));
     IS(5, arbiter_hold(HOST, ALL(0), flags, 0, amounts, 0, amounts, 0, amounts, 0, flags, 0, amounts, 0, amounts, 0, places, 0));
+    IS(5, arbiter_serve(HOST, ALL(0), flags, 0, amounts, 0, amounts, 0));
     IS(5, arbiter_tune(HOST, ALL(0), amounts, 0, flags, 0, 1, amounts, 0, &number));
     IS(5, arbiter_limit_others(HOST, ALL(0), amounts, 0, flags, 0, amounts, 0, 1, weights, 0, &count));
     IS(50, arbiter_periods(HOST, parents, 0, weights, 0, limits, 0, weights, 0, demands, 0, demands, 0, UINT64_MAX, amounts, 0, amounts, 0, amounts, 0,
@@ -259,6 +263,7 @@ static void millions(void)
     uint64_t *held = mapped(n * 8), *round = mapped(n * 8);
     uint8_t *hungry = mapped(n);
     IS(4, arbiter_hold(HOST, ALL(n), hungry, n, held, n, round, n, amounts, n, flags, n, nums, n, dens, n, places, n));
+    IS(4, arbiter_serve(HOST, ALL(n), hungry, n, round, n, held, n));
     IS(4, arbiter_tune(HOST, ALL(n), weights, n, hungry, n, 1, held, n, &number));
     IS(4, arbiter_limit_others(HOST, ALL(n), weights, n, hungry, n, limits, n, 1, held, n, &count));
     munmap(held, n * 8), munmap(round, n * 8), munmap(hungry, n);

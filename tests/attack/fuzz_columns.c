@@ -343,6 +343,22 @@ static void hold_book(struct host host, struct rows rows, const uint64_t *amount
     guard_drop(wants), guard_drop(quotas), guard_drop(carries), guard_drop(tights), guard_drop(actives);
 }
 
+/* What a scheduler is given: no amount is below the plan, no limit above an own one, and none of a leaf below its plan. */
+static void hold_served(struct host host, struct rows rows, const uint8_t *hungry, const uint8_t *is_inner, const uint64_t *plan)
+{
+    size_t n = rows.parents_length;
+    uint64_t *amounts = marked(n, 8), *most = marked(n, 8);
+
+    demand(counted(arbiter_serve(HOST(host), ROWS(rows), hungry, n, amounts, n, most, n)) == 0, "nothing served");
+    for (size_t each = 0; each < n; each++) {
+        demand(amounts[each] >= plan[each], "an amount below its plan");
+        demand(is_inner[each] ? most[each] == rows.limits[each] : most[each] >= plan[each], "another limit");
+        for (size_t above = each; !is_inner[each] && above != ARBITER_NO_PARENT; above = rows.parents[above])
+            demand(most[each] <= rows.limits[above], "a limit above one");
+    }
+    guard_drop(amounts), guard_drop(most);
+}
+
 /* The limits of a round: a leaf's is no less than its guarantee, and no more than its own. The certificate is that of the plan. */
 static void hold_round(struct host host, struct rows rows)
 {
@@ -366,6 +382,7 @@ static void hold_round(struct host host, struct rows rows)
         demand(demands[each] == (is_inner[each] || !hungry[each] ? rows.demands[each] : 1000000), "another demand");
         demand(is_inner[each] ? held[each] == rows.limits[each] : held[each] <= rows.limits[each], "a limit above its own");
     }
+    hold_served(host, rows, hungry, is_inner, found.amounts);
     if (!is_inner[group]) {
         demands[group] = 1000000;
         demand(counted(arbiter_guarantee(HOST(host), ROWS(asked), group, &least)) == 0 && least <= held[group], "a limit below a guarantee");
@@ -505,6 +522,7 @@ static void hold_refusal(struct host host, struct rows rows, struct answer *foun
     uint8_t *hungry = column(n, 1);
     demand(counted(arbiter_hold(HOST(host), ROWS(rows), hungry, n, held, n, demands, n, found->amounts, n, found->flags, n, found->nums, n,
                                 found->dens, n, found->places, n)) == answer, "hold answers another number");
+    demand(counted(arbiter_serve(HOST(host), ROWS(rows), hungry, n, demands, n, held, n)) == answer, "serve answers another number");
     demand(counted(arbiter_tune(HOST(host), ROWS(rows), demands, n, hungry, n, 0, held, n, &number_)) == answer, "tune answers another number");
     demand(counted(arbiter_limit_others(HOST(host), ROWS(rows), demands, n, hungry, n, demands, n, 0, held, n, &count)) == answer,
            "limit_others answers another number");

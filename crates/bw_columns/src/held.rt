@@ -28,8 +28,11 @@ pub struct HeldColumns {
     pub certificate: CertificateColumns,
 }
 
-// Each limit as a number, the greatest for none.
-fn limit_numbers(alloc: Global, limits: &[Option<u64>]) -> Result<Vec<u64>, AllocError>
+/// Each limit as a number, the greatest for none.
+///
+/// # Errors
+/// `AllocError` if memory was refused.
+pub(crate) fn limit_numbers(alloc: Global, limits: &[Option<u64>]) -> Result<Vec<u64>, AllocError>
     ensures { IfOk result (λ numbers. numbers.items ≡ map limit_number limits.now) }
 {
     limits

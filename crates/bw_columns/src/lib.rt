@@ -2,9 +2,9 @@
 //! the instance that they stand for, and the groups of a hierarchy.
 //!
 //! Over them are the planner's answers: plan, certificate, verdict, limiting groups, figures,
-//! reasons, limits of a round, weights for goals of rows and limits of others, questions about a
-//! group, refused row. And a booked period, and conversions of what operators write to slices and
-//! weights.
+//! reasons, limits of a round, what a scheduler is given for one, weights for goals of rows and
+//! limits of others, questions about a group, refused row. And a booked period, and conversions of
+//! what operators write to slices and weights.
 #![tactic(auto)]
 
 mod asked_group;
@@ -35,6 +35,7 @@ mod question;
 mod reason_columns;
 mod reasoned;
 mod refusal;
+mod served;
 mod set_rows;
 mod shares;
 mod sum_columns;
@@ -66,6 +67,7 @@ pub use planned_hosts::planned_host;
 pub use question::{Question, answer_of};
 pub use reasoned::{ReasonColumns, reasons_of};
 pub use refusal::Refusal;
+pub use served::{ServedColumns, served_of};
 pub use set_rows::SettingColumns;
 pub use shares::{linear_weight, logarithmic_weight};
 pub use sum_columns::SumColumns;

@@ -27,6 +27,7 @@ mod reasons_call;
 mod refused_row_call;
 mod room;
 mod script_call;
+mod serve_call;
 mod shares_call;
 mod slices_call;
 mod told;

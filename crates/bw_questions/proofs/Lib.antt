@@ -23,6 +23,7 @@ mod LowerLimits
 mod Meetings
 mod OneFromRoot
 mod OneReason
+mod Parts
 mod Paths
 mod RaisedLimits
 mod Reaching
@@ -31,6 +32,7 @@ mod RoundFloors
 mod Rounds
 mod Rows
 mod Runs
+mod ServedRounds
 mod StillInstance
 mod TimeSlices
 mod Weighed

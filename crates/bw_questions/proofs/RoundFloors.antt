@@ -13,7 +13,7 @@ use Rattle.bw_model.specs.Plan.{IsPlan}
 use Rattle.bw_plan.specs.Laws.{HasOnePlan, ThereIsOnePlan}
 use Rattle.bw_change_laws.specs.Asked.{IsBusierAt}
 use Rattle.bw_change_laws.proofs.CallerLemmas.{leaf_same, only_cuts}
-use Rattle.bw_questions.specs.Guarantee.{IsAskedOtherwise}
+use Rattle.bw_questions.specs.Guarantee.{IsAskedOtherwise, IsGuaranteed}
 use Rattle.bw_questions.specs.HeldRule.{asking, demand_where, everyone}
 use Rattle.bw_questions.specs.HeldRule.{is_hungry, leaf_limit}
 use Rattle.bw_questions.specs.Reading.{IsSameButDemands, IsNoneOrAtLeast, limit_at}
@@ -141,17 +141,27 @@ module _ (used wants : Groups) (leaf : ℕ) (vu : IsInstance used) (vw : IsInsta
   one_planned : ThereIsOnePlan → HasOnePlan one
   one_planned plans = plans one v_one
 
-pub none_below : ThereIsOnePlan → NoneBelowItsGuarantee
-none_below plans used wants hungry demands amounts limits leaf guaranteed vu round vw same below is
-    is_guaranteed =
+-- The floor of a leaf is no less than its guarantee.
+pub floor_enough : ThereIsOnePlan → (used wants : Groups) (leaf : ℕ) → IsInstance used
+    → IsInstance wants → IsSameButDemands wants used → leaf < length wants.rows
+    → is_leaf wants.rows leaf ≡ true → (guaranteed : ℕ) → IsGuaranteed wants leaf guaranteed
+    → (floors : List ℕ) → IsPlan (everyone used) floors → guaranteed ≤ get_or floors leaf 0
+floor_enough plans used wants leaf vu vw same below is guaranteed is_guaranteed floors floors_are =
     let planned : HasOnePlan (one used wants leaf vu vw same below is) =
     one_planned used wants leaf vu vw same below is plans in
     let least : guaranteed ≤ get_or planned.amounts leaf 0 =
     is_guaranteed.none_less (one used wants leaf vu vw same below is) planned.amounts
     (asked_otherwise used wants leaf vu vw same below is) planned.plan in
-    let floor : get_or planned.amounts leaf 0 ≤ get_or round.floors leaf 0 =
-    least_is used wants leaf vu vw same below is round.floors planned.amounts round.floors_are
-    planned.plan in
+    let floor : get_or planned.amounts leaf 0 ≤ get_or floors leaf 0 =
+    least_is used wants leaf vu vw same below is floors planned.amounts floors_are planned.plan in
+    omega (arith, least, floor)
+
+pub none_below : ThereIsOnePlan → NoneBelowItsGuarantee
+none_below plans used wants hungry demands amounts limits leaf guaranteed vu round vw same below is
+    is_guaranteed =
+    let floor : guaranteed ≤ get_or round.floors leaf 0 =
+    floor_enough plans used wants leaf vu vw same below is guaranteed is_guaranteed round.floors
+    round.floors_are in
     let leaf_used : is_leaf used.rows leaf ≡ true =
     leaf_same wants.rows used.rows same.tree leaf ∙ is in
     let here : leaf < length used.rows = omega (arith, below, same.tree.as_many) in
@@ -159,7 +169,6 @@ none_below plans used wants hungry demands amounts limits leaf guaranteed vu rou
       | inl calm ↦
           omega (
             arith,
-            least,
             floor,
             floor_own used hungry demands amounts limits vu round leaf limit here
                 (sym (limit_own used hungry demands amounts limits round leaf here leaf_used calm)
@@ -172,7 +181,6 @@ none_below plans used wants hungry demands amounts limits leaf guaranteed vu rou
           busy) ∙ found) in
           omega (
             arith,
-            least,
             floor,
             held,
             floor_le (row_of used.rows leaf) (is_hungry hungry leaf) (get_or round.floors leaf 0)

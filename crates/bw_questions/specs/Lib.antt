@@ -17,4 +17,5 @@ pub mod Plans
 pub mod Reading
 pub mod Reasons
 pub mod Rounds
+pub mod Served
 pub mod Written

@@ -13,6 +13,7 @@ mod calm;
 mod laws;
 mod limits;
 mod reading;
+mod served;
 mod tasks;
 mod written;
 
@@ -26,10 +27,12 @@ use calm::is_calm;
 pub use laws::{
     asked_is_admitted_as_planned, calm_holds_nobody, exact_readings_are_true,
     guarantee_is_admitted, limits_admit_the_plan, none_above_its_limit, none_below_its_guarantee,
-    nothing_else_stays, plan_is_reached, plan_stays, wants_give_the_plan,
+    none_served_above_a_limit, none_served_below_its_guarantee, nothing_else_stays,
+    plan_is_reached, plan_stays, wants_give_the_plan,
 };
 use limits::limits_of;
 pub use reading::{Reading, RoundTimes, reading_of};
+pub use served::{Served, serve};
 use std::alloc::{AllocError, Global};
 pub use written::{can_be_written, weight_of_limit, written_quota};
 

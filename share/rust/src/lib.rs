@@ -351,8 +351,7 @@ pub struct Round {
 /// # Errors
 /// 50 where there is not one flag for each row; and as of [`plan`].
 pub fn hold(host: Host, rows: &[Row], hungry: &[bool]) -> Result<Round, Fault> {
-    let columns = Columns::of(rows);
-    let flags: Vec<u8> = hungry.iter().map(|flag| u8::from(*flag)).collect();
+    let (columns, flags) = (Columns::of(rows), flags(hungry));
     let (mut held, mut demands) = (vec![0; rows.len()], vec![0; rows.len()]);
     let (mut amounts, mut claim) = (vec![0; rows.len()], raw::Claim::zeros(rows.len()));
     let number = columns.hold(
@@ -364,14 +363,46 @@ pub fn hold(host: Host, rows: &[Row], hungry: &[bool]) -> Result<Round, Fault> {
         &mut claim,
     );
     of_rows(number, &columns)?;
-    let limits = held
-        .into_iter()
-        .map(|limit| Some(limit).filter(|limit| *limit != raw::NO_LIMIT));
     Ok(Round {
-        limits: limits.collect(),
+        limits: limits(held),
         demands,
         amounts,
         certificate: claim.certificate(),
+    })
+}
+
+fn flags(hungry: &[bool]) -> Vec<u8> {
+    hungry.iter().map(|flag| u8::from(*flag)).collect()
+}
+
+fn limits(numbers: Vec<u64>) -> Vec<Option<u64>> {
+    let limits = numbers.into_iter();
+    limits
+        .map(|limit| Some(limit).filter(|limit| *limit != raw::NO_LIMIT))
+        .collect()
+}
+
+/// What a scheduler is given for a round in the place of limits.
+#[derive(Clone, Debug, PartialEq, Eq)]
+pub struct Served {
+    /// One amount per row in slices: its plan, or what it gets where each leaf asks for everything if that is more.
+    pub amounts: Vec<u64>,
+    /// One limit per row in slices: of a leaf its least part of the limits at or above it, of another row its own.
+    pub limits: Vec<Option<u64>>,
+}
+
+/// What a scheduler is given for a round, whose rows and flags are those of [`hold`].
+///
+/// # Errors
+/// As of [`hold`].
+pub fn serve(host: Host, rows: &[Row], hungry: &[bool]) -> Result<Served, Fault> {
+    let columns = Columns::of(rows);
+    let (mut amounts, mut most) = (vec![0; rows.len()], vec![0; rows.len()]);
+    let number = columns.serve(host, &flags(hungry), &mut amounts, &mut most);
+    of_rows(number, &columns)?;
+    Ok(Served {
+        amounts,
+        limits: limits(most),
     })
 }
 
@@ -742,6 +773,17 @@ mod tests {
         used[2].demand = 1_000_000;
         check(Host::default(), &used, &round.amounts, &round.certificate).unwrap();
         assert_eq!(hold(Host::default(), &used, &[true]), Err(fault(50, None)));
+    }
+
+    /// The first used 4, and may have the 11 that the limit of the second leaves it.
+    #[test]
+    fn serves() {
+        let mut used = two();
+        (used[1].demand, used[2].demand, used[2].limit) = (4, 9, Some(9));
+        let served = serve(Host::default(), &used, &[false, false, true]).unwrap();
+        assert_eq!(served.amounts, [20, 11, 9]);
+        assert_eq!(served.limits, [None, None, Some(9)]);
+        assert_eq!(serve(Host::default(), &used, &[true]), Err(fault(50, None)));
     }
 
     #[test]

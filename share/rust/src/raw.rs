@@ -97,6 +97,11 @@ extern "C" {
                     demands: *mut u64, demands_length: usize, amounts: *mut u64, amounts_length: usize,
                     flags: *mut u8, flags_length: usize, nums: *mut u64, nums_length: usize,
                     dens: *mut u64, dens_length: usize, places: *mut u32, places_length: usize) -> u32;
+    fn arbiter_serve(processors: u64, period_us: u64, slice_us: u64,
+                     parents: *const u32, parents_length: usize, weights: *const u64, weights_length: usize,
+                     limits: *const u64, limits_length: usize, used: *const u64, used_length: usize,
+                     hungry: *const u8, hungry_length: usize, amounts: *mut u64, amounts_length: usize,
+                     most: *mut u64, most_length: usize) -> u32;
     fn arbiter_reading(processors: u64, period_us: u64, slice_us: u64,
                        passed_ns: u64, used_us: u64, waited_us: u64, tasks: u32, throttled: u32,
                        allowed_us: u64, ran: *const u64, ran_length: usize, waited: *const u64, waited_length: usize,
@@ -449,6 +454,18 @@ impl Columns {
                          demands.as_mut_ptr(), demands.len(), amounts.as_mut_ptr(), amounts.len(),
                          claim.flags.as_mut_ptr(), claim.flags.len(), claim.nums.as_mut_ptr(), claim.nums.len(),
                          claim.dens.as_mut_ptr(), claim.dens.len(), claim.places.as_mut_ptr(), claim.places.len())
+        }
+    }
+
+    #[rustfmt::skip]
+    pub(crate) fn serve(&self, host: Host, hungry: &[u8], amounts: &mut [u64], most: &mut [u64]) -> u32 {
+        // SAFETY: as above
+        unsafe {
+            arbiter_serve(host.processors, host.period_us, host.slice_us,
+                          self.parents.as_ptr(), self.parents.len(), self.weights.as_ptr(), self.weights.len(),
+                          self.limits.as_ptr(), self.limits.len(), self.demands.as_ptr(), self.demands.len(),
+                          hungry.as_ptr(), hungry.len(), amounts.as_mut_ptr(), amounts.len(),
+                          most.as_mut_ptr(), most.len())
         }
     }
 

@@ -6,6 +6,7 @@ ghost use Rattle.bw_questions.specs.HeldLaws.{CalmHoldsNobody, LesserIsAdmitted}
 ghost use Rattle.bw_questions.specs.HeldLaws.{LimitsAdmitThePlan};
 ghost use Rattle.bw_questions.specs.Rounds.{WantsGiveThePlan, PlanStays, NothingElseStays};
 ghost use Rattle.bw_questions.specs.Rounds.{PlanIsReached};
+ghost use Rattle.bw_questions.specs.Served.{NoneServedAboveALimit, NoneServedBelowItsGuarantee};
 
 use bw_plan::there_is_one_plan;
 
@@ -83,6 +84,20 @@ pub fn nothing_else_stays()
 /// the plan of the wants. K is the number of leaves that this plan serves whole.
 pub fn plan_is_reached()
     ensures { PlanIsReached }
+{
+    there_is_one_plan();
+}
+
+/// Law: whatever was read, no leaf is given a limit above its own or above that of a group above
+/// it.
+pub fn none_served_above_a_limit()
+    ensures { NoneServedAboveALimit }
+{}
+
+/// Law: whatever was read, each leaf is given an amount of at least its plan of the round, and of
+/// at least its guarantee.
+pub fn none_served_below_its_guarantee()
+    ensures { NoneServedBelowItsGuarantee }
 {
     there_is_one_plan();
 }

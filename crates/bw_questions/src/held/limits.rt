@@ -22,8 +22,8 @@ fn headroom(row: &Row) -> u64
     }
 }
 
-// The limit of a leaf, in slices.
-fn leaf_limit(row: &Row, is_hungry: bool, floor: u64, amount: u64) -> u64
+/// The limit of a leaf in a round that is not calm, in slices.
+pub(crate) fn leaf_limit(row: &Row, is_hungry: bool, floor: u64, amount: u64) -> u64
     requires { row.now.demand ≤ MAX_DEMAND }
     ensures { result ≡ leaf_limit row.now is_hungry floor amount }
 {

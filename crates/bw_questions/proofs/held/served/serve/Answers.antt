@@ -1,0 +1,54 @@
+-- The goals of `serve` that are answered by hand.
+use Rattle.std.proofs.Common.{◌≡◌, ◌∙◌, ℕ, List, length, map, refl, ap, subst}
+use Rattle.std.specs.Prelude.{IsTrue, ◌↔◌}
+use Rattle.std.specs.List.{range_with_len}
+use Rattle.bw_model.specs.declared.row.Row.{Row}
+use Rattle.bw_model.specs.Groups.{Groups}
+use Rattle.bw_model.specs.Plan.{IsPlan}
+use Rattle.bw_questions.specs.HeldRule.{IsCalm, demand_where, is_hungry, round_limit, round_of}
+use Rattle.bw_questions.specs.Served.{served_amount}
+use Rattle.bw_questions.proofs.AskingRows.{amount_each, as_many}
+use Rattle.bw_questions.proofs.held.served.serve.Goals as goal
+
+pub is_calm-calm-requires : goal.is_calm-calm-requires
+is_calm-calm-requires c =
+    ap (length {A = ℕ}) c.as_slice.ensures.value
+    ∙ amount_each c.in_ok-round.round c.in_ok-round.ensures.valid
+    c.in_ok-planned.field-0.amounts.items c.in_ok-planned.ensures
+
+pub returns : goal.returns
+returns c =
+    let used = c.args.reading.now in
+    let hungry = c.args.hungry.now in
+    let planned = c.in_ok-planned.field-0.amounts.items in
+    let floors = c.in_ok-floors.floors.items in
+    let calm = c.is_calm-calm.result in
+    let long : length planned ≡ length used.rows =
+    amount_each c.in_ok-round.round c.in_ok-round.ensures.valid planned c.in_ok-planned.ensures
+    ∙ rw c.in_ok-round.ensures.round
+    (as_many used (λ g. demand_where used.rows (is_hungry hungry g) g)) in
+    record {
+      demands = map (λ (r : Row). r.demand) (round_of used hungry).rows;
+      planned = planned;
+      held = map (round_limit used calm hungry floors planned)
+          (range_with_len 0 (length used.rows));
+      round = record {
+        floors = floors;
+        floors_are = c.in_ok-floors.ensures.plan;
+        demands_are = refl;
+        amounts_are = subst (λ (g : Groups). IsPlan g planned) c.in_ok-round.ensures.round
+            c.in_ok-planned.ensures;
+        calm = calm;
+        calm_is = subst (λ (g : Groups). IsTrue calm ↔ IsCalm g planned)
+            c.in_ok-round.ensures.round
+            (subst (λ (xs : List ℕ). IsTrue calm ↔ IsCalm c.in_ok-round.round xs)
+            c.as_slice.ensures.value c.is_calm-calm.ensures);
+        limits_are = refl;
+      };
+      amounts_are = (rw (c.as_slice-4.ensures.value, c.as_slice-5.ensures.value)
+          at c.in_ok-amounts.ensures)
+          ∙ ap (λ n. map (served_amount floors planned) (range_with_len 0 n)) long;
+      one_each = c.in_ok-limits.ensures.long;
+      limits_are = rw (c.as_slice-2.ensures.value, c.as_slice-3.ensures.value)
+          at c.in_ok-limits.ensures.limits;
+    }
