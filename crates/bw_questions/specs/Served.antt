@@ -1,7 +1,14 @@
+<<<<<<< HEAD
 -- Amounts and limits of a round for a scheduler: one of each for each row.
 use Rattle.std.specs.Prelude.{◌≡◌, ℕ, ◌*◌, ◌/◌, ◌<◌, ◌≤◌, ◌==◌, ◌||◌, List, Bool, true, false}
 use Rattle.std.specs.Prelude.{Option, None, Some, length, map, min, max, slice_index, IsTrue}
 use Rattle.std.specs.Prelude.{if◌then◌else◌}
+=======
+-- What a scheduler is given for a round: an amount and a limit of each row.
+use Rattle.std.specs.Prelude.{◌≡◌, ℕ, ◌*◌, ◌/◌, ◌<◌, ◌≤◌, ◌==◌, ◌||◌, ◌&&◌, not, List, Bool, true}
+use Rattle.std.specs.Prelude.{false, Option, None, Some, length, map, min, max, slice_index, IsTrue}
+use Rattle.std.specs.Prelude.{nat_lt, sum, if◌then◌else◌}
+>>>>>>> 752dbfebe5b11372ce810552002cd3decd32f67c
 use Rattle.std.specs.List.{range_with_len}
 use Rattle.bw_model.specs.declared.row.Row.{Row}
 use Rattle.bw_model.specs.Groups.{Groups, IsInstance, row_of, is_leaf, is_under}
@@ -9,10 +16,34 @@ use Rattle.bw_questions.specs.Guarantee.{IsGuaranteed}
 use Rattle.bw_questions.specs.HeldRule.{IsRound, is_hungry, own_limit, leaf_limit}
 use Rattle.bw_questions.specs.Reading.{IsSameButDemands, limit_at}
 
--- the amount of a row: that of the round's plan, or that where each leaf asks for everything if it
--- is more
-abbrev pub served_amount : List ℕ → List ℕ → ℕ → ℕ
-served_amount floors planned g = max (slice_index floors g) (slice_index planned g)
+-- The floors of a round are what the rows get where each leaf asks for everything.
+
+-- the amount of a leaf that the plan gives no less than its floor, 0 of any other row
+abbrev pub full_amount : List Row → List ℕ → List ℕ → List ℕ → ℕ → ℕ
+full_amount rows floors planned amounts g =
+    if is_leaf rows g && not (nat_lt (slice_index planned g) (slice_index floors g))
+    then slice_index amounts g else 0
+
+-- the amounts of such leaves, added up
+abbrev pub sum_of_full : List Row → List ℕ → List ℕ → List ℕ → ℕ
+sum_of_full rows floors planned amounts =
+    sum (map (full_amount rows floors planned amounts) (range_with_len 0 (length rows)))
+
+-- A floor beside leaves that are planned more than theirs in all: it is as many times as much.
+abbrev pub beside : ℕ → ℕ → ℕ → ℕ
+beside theirs given floor = if theirs == 0 then floor else floor * max theirs given / theirs
+
+-- The amount of a row: its plan, or if its floor is more, its floor beside the leaves that are
+-- planned no less than theirs.
+abbrev pub served_amount : ℕ → ℕ → ℕ → ℕ → ℕ
+served_amount theirs given floor amount =
+    if nat_lt amount floor then beside theirs given floor else amount
+
+-- the amount of a row among some rows
+abbrev pub amount_in : List Row → List ℕ → List ℕ → ℕ → ℕ
+amount_in rows floors planned g =
+    served_amount (sum_of_full rows floors planned floors) (sum_of_full rows floors planned planned)
+    (slice_index floors g) (slice_index planned g)
 
 -- The part that a leaf has of a limit at or above it, and never more than the limit. In a calm
 -- round, and where the plan gives the row of the limit nothing, it is all of it. Else it is the
@@ -59,7 +90,7 @@ pub record IsServedRound (used : Groups) (hungry : List Bool) (amounts : List �
   pub held : List (Option ℕ)
   pub round : IsRound used hungry demands planned held
   pub amounts_are : amounts
-      ≡ map (served_amount round.floors planned) (range_with_len 0 (length used.rows))
+      ≡ map (amount_in used.rows round.floors planned) (range_with_len 0 (length used.rows))
   pub one_each : length limits ≡ length used.rows
   pub limits_are : (g : ℕ) → g < length used.rows
       → IsServedLimit used hungry round.calm round.floors planned g (limit_at limits g)

@@ -1,24 +1,32 @@
+<<<<<<< HEAD
 //! Amounts and limits of a round for a scheduler: one of each for each row.
 ghost use Rattle.std.specs.Prelude.{◌≡◌, ℕ, ◌<◌, length, map, IfOk, slice_index};
+=======
+//! What a scheduler is given for a round: an amount and a limit of each row.
+ghost use Rattle.std.specs.Prelude.{◌≡◌, ℕ, ◌<◌, ◌≤◌, ◌*◌, length, map, IfOk, slice_index};
+ghost use Rattle.std.specs.Prelude.{EachIndex};
+>>>>>>> 752dbfebe5b11372ce810552002cd3decd32f67c
 ghost use Rattle.std.specs.List.{range_with_len};
 ghost use Rattle.std.specs.Option.{option_map};
 ghost use Rattle.bw_questions.specs.HeldRule.{own_limit};
 ghost use Rattle.bw_questions.specs.Reading.{limit_at};
 ghost use Rattle.bw_questions.specs.Served.{IsServedRound, IsServedLimit, IsLeastPart};
-ghost use Rattle.bw_questions.specs.Served.{part_of, lesser, served_amount};
+ghost use Rattle.bw_questions.specs.Served.{amount_in, beside, full_amount, lesser, part_of};
+ghost use Rattle.bw_questions.specs.Served.{served_amount, sum_of_full};
 
 use super::asking::round_of;
 use super::calm::is_calm;
 use super::floors;
 use super::limits::leaf_limit;
 use bw_model::Instance;
+use bw_model::limits::{MAX_CAPACITY, MAX_GROUPS};
 use bw_plan::plan;
 use std::alloc::{AllocError, Global};
 
 /// Amounts and limits of a round for a scheduler.
 #[derive(Debug, Drop)]
 pub struct Served {
-    /// One amount per row, in slices: the plan, or what it gets if each leaf asks for everything.
+    /// One amount per row, in slices: the plan, or its part beside others' plans if that is more.
     pub amounts: Vec<u64>,
     /// One limit per row, in slices: a leaf's part of limits, another group's own limit.
     pub limits: Vec<Option<u64>>,
@@ -140,15 +148,89 @@ fn served_limits(
     Ok(limits)
 }
 
-// The amounts that the rows are given.
-fn served_amounts(alloc: Global, floors: &[u64], planned: &[u64]) -> Result<Vec<u64>, AllocError>
-    requires { length floors.now ≡ length planned.now }
-    ensures { IfOk result (λ amounts. amounts.items ≡ map (served_amount floors.now planned.now)
-        (range_with_len 0 (length planned.now))) }
+// The amount of a leaf that the plan gives no less than its floor, 0 of any other row.
+fn full_amount(reading: &Instance, floors: &[u64], planned: &[u64], amounts: &[u64], g: u32) -> u64
+    requires row { g < length reading.now.rows }
+    requires floors { length floors.now ≡ length reading.now.rows }
+    requires planned { length planned.now ≡ length reading.now.rows }
+    requires amounts { length amounts.now ≡ length reading.now.rows }
+    requires small { EachIndex amounts.now (λ k. slice_index amounts.now k ≤ MAX_CAPACITY) }
+    ensures amount { result ≡ full_amount reading.now.rows floors.now planned.now amounts.now g }
+    ensures small { result ≤ MAX_CAPACITY }
 {
-    let mut amounts: Vec<u64> = Vec::with_capacity(alloc, planned.len())?;
-    for g in 0..planned.len() {
-        amounts.push(floors[g].max(planned[g]))?;
+    let at = g as usize;
+    if reading.is_leaf(g) && !(planned[at] < floors[at]) {
+        amounts[at]
+    } else {
+        0
+    }
+}
+
+// The amounts of such leaves, added up.
+fn sum_of_full(reading: &Instance, floors: &[u64], planned: &[u64], amounts: &[u64]) -> u64
+    requires floors { length floors.now ≡ length reading.now.rows }
+    requires planned { length planned.now ≡ length reading.now.rows }
+    requires amounts { length amounts.now ≡ length reading.now.rows }
+    requires small { EachIndex amounts.now (λ g. slice_index amounts.now g ≤ MAX_CAPACITY) }
+    ensures sum { result ≡ sum_of_full reading.now.rows floors.now planned.now amounts.now }
+    ensures small { result ≤ MAX_GROUPS * MAX_CAPACITY }
+{
+    let mut sum = 0;
+    for g in 0..reading.rows().len() {
+        sum += full_amount(reading, floors, planned, amounts, g as u32);
+    }
+    sum
+}
+
+// A floor beside leaves that are planned more than theirs in all.
+fn beside(theirs: u64, given: u64, floor: u64) -> u64
+    requires theirs { theirs ≤ MAX_GROUPS * MAX_CAPACITY }
+    requires given { given ≤ MAX_GROUPS * MAX_CAPACITY }
+    requires floor { floor ≤ MAX_CAPACITY }
+    ensures { result ≡ beside theirs given floor }
+{
+    if theirs == 0 {
+        floor
+    } else {
+        floor * given.max(theirs) / theirs
+    }
+}
+
+// The amount of a row that is planned `amount`.
+fn served_amount(theirs: u64, given: u64, floor: u64, amount: u64) -> u64
+    requires theirs { theirs ≤ MAX_GROUPS * MAX_CAPACITY }
+    requires given { given ≤ MAX_GROUPS * MAX_CAPACITY }
+    requires floor { floor ≤ MAX_CAPACITY }
+    ensures { result ≡ served_amount theirs given floor amount }
+{
+    if amount < floor {
+        beside(theirs, given, floor)
+    } else {
+        amount
+    }
+}
+
+// The amounts that the rows are given.
+fn served_amounts(
+    alloc: Global,
+    reading: &Instance,
+    floors: &[u64],
+    planned: &[u64],
+) -> Result<Vec<u64>, AllocError>
+    requires floors { length floors.now ≡ length reading.now.rows }
+    requires planned { length planned.now ≡ length reading.now.rows }
+    requires low { EachIndex floors.now (λ g. slice_index floors.now g ≤ MAX_CAPACITY) }
+    requires small { EachIndex planned.now (λ g. slice_index planned.now g ≤ MAX_CAPACITY) }
+    ensures { IfOk result (λ amounts. amounts.items
+        ≡ map (amount_in reading.now.rows floors.now planned.now)
+        (range_with_len 0 (length reading.now.rows))) }
+{
+    let theirs = sum_of_full(reading, floors, planned, floors);
+    let given = sum_of_full(reading, floors, planned, planned);
+    let count = reading.rows().len();
+    let mut amounts: Vec<u64> = Vec::with_capacity(alloc, count)?;
+    for g in 0..count {
+        amounts.push(served_amount(theirs, given, floors[g], planned[g]))?;
     }
     Ok(amounts)
 }
@@ -156,9 +238,10 @@ fn served_amounts(alloc: Global, floors: &[u64], planned: &[u64]) -> Result<Vec<
 /// Amounts and limits of the next round for a scheduler, from what each leaf used in the last one.
 ///
 /// The reading and the flags are those of [`super::hold`], as are the plan and the limits of the
-/// round. A row's amount is its plan, or that where each leaf asks for everything if it is more: a
-/// leaf that asks for less comes and goes, and catches up. So the amounts may be above the capacity
-/// together.
+/// round. A row's floor is what it gets where each leaf asks for everything. Its amount is its plan,
+/// if that is no less. Else it is its floor times what the leaves of which that is so are planned,
+/// over their floors: a leaf that comes has its part beside them at once. So the amounts may be above
+/// the capacity together.
 ///
 /// A leaf's limit is its least part of the limits at or above it. In a calm round, and where the
 /// plan gives the group with the limit nothing, the part is the limit. Else it is as much of it as
@@ -171,6 +254,8 @@ pub fn serve(alloc: Global, reading: &Instance, hungry: &[bool]) -> Result<Serve
     ensures { IfOk result
         (λ s. IsServedRound reading.now hungry.now s.amounts.items s.limits.items) }
 {
+    // its contract says that the reading is valid
+    let _rows = reading.rows();
     let round = round_of(alloc, reading, hungry)?;
     let planned = plan(alloc, &round)?.amounts;
     let calm = is_calm(&round, planned.as_slice());
@@ -183,6 +268,6 @@ pub fn serve(alloc: Global, reading: &Instance, hungry: &[bool]) -> Result<Serve
         floors.as_slice(),
         planned.as_slice(),
     )?;
-    let amounts = served_amounts(alloc, floors.as_slice(), planned.as_slice())?;
+    let amounts = served_amounts(alloc, reading, floors.as_slice(), planned.as_slice())?;
     Ok(Served { amounts, limits })
 }
