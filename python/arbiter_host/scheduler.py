@@ -17,7 +17,7 @@ from typing import Any, NamedTuple
 from arbiter import Columns, Reading, Round
 from arbiter_host import hold
 from arbiter_host.faults import HostFault
-from arbiter_host.hold import Kept, Line, WriteFault, Written
+from arbiter_host.hold import Line, WriteFault, Written
 from arbiter_host.model import Group, Model
 from arbiter_host.units import MAX_DEMAND
 
@@ -28,15 +28,25 @@ FOLDERS = "/usr/sbin:/usr/local/sbin"
 LONGEST = 60
 # The period of limits in nanoseconds.
 LIMIT_PERIOD = 10**8
-# A leaf that asks for everything.
+# A leaf was idle for a while if it was for one of so many parts of a round: the slices that run are
+# not told yet.
+PARTS = 20
 EVERYTHING = Reading(0, MAX_DEMAND, True)
 
 
 class UsedTime(NamedTuple):
-    """What a group did in a round, in nanoseconds: it used, and its tasks waited in sum."""
+    """What a group did in a round, in nanoseconds: it used, its tasks waited in sum, and how long
+    one or more waited."""
 
     used: int
     waited: int
+    some: int
+
+    def asked(self, passed: int) -> int:
+        """What it would have used had no task waited, or more. One that was idle for a part of the
+        time had all that it asked for."""
+        was_idle = PARTS * (self.used + self.some) < (PARTS - 1) * passed
+        return self.used if was_idle else self.used + self.waited
 
 
 class Scheduler:
@@ -99,7 +109,7 @@ class Scheduler:
         self.say("read")
         *leaves, last = self.answer("read")
         try:
-            found = {int(words[1]): UsedTime(*map(int, words[2:4])) for words in leaves}
+            found = {int(words[1]): UsedTime(*map(int, words[2:5])) for words in leaves}
             return found, int(last[1])
         except (ValueError, TypeError, IndexError) as error:
             raise self.fault("it answers what is no reading") from error
@@ -143,8 +153,8 @@ class ScheduledLoop(hold.Loop):
         return super().read()
 
     def read_group(self, path: str, has_look: bool) -> Reading:
-        """What a group used, and what it would have used had no task waited: the kernel counts
-        both, so no hunger is guessed. One that was in no plan yet is read as by limits."""
+        """What a group used and asked for: the kernel counts what tasks wait, so no hunger is
+        guessed. One that was in no plan yet is read as by limits."""
         kept = self.groups[path]
         each = self.used.get(kept.identity[1])
         if each is None or not self.passed:
@@ -152,7 +162,7 @@ class ScheduledLoop(hold.Loop):
         if has_look:
             self.look(kept, path)
         used = self.slices(each.used)
-        asked = min(self.slices(each.used + each.waited), MAX_DEMAND)
+        asked = min(self.slices(each.asked(self.passed)), MAX_DEMAND)
         return Reading(used, asked, asked > used)
 
     def slices(self, ns: int) -> int:
@@ -203,9 +213,6 @@ class ScheduledLoop(hold.Loop):
         self.limits = {path: row.limit for path, row in zip(model.groups, found[1:])
                        if row.limit is not None}
         return found
-
-    def set(self, kept: Kept) -> None:
-        """Writes nothing."""
 
     def end(self) -> None:
         """Ends the scheduler."""
