@@ -26,8 +26,8 @@ PROGRAM = "arbiter-scheduler"
 FOLDERS = "/usr/sbin:/usr/local/sbin"
 # Seconds within which it answers: a slow machine loads it for a while.
 LONGEST = 60
-# The period of limits in nanoseconds.
-LIMIT_PERIOD = 10**8
+# The period of limits in nanoseconds; the greatest amount that it takes.
+LIMIT_PERIOD, MOST_AMOUNT = 10**8, 10**9
 # A leaf was idle for a while if it was for one of so many parts of a round: the slices that run are
 # not told yet.
 PARTS = 20
@@ -178,11 +178,17 @@ class ScheduledLoop(hold.Loop):
 
     def write(self, found: Written) -> int:
         """Gives the scheduler the amounts, and the limits of leaves at or below a limit. A leaf
-        that asks for less than it may have comes and goes: its amount is what it may have, so that
-        it catches up."""
+        that asks for less than it may have comes and goes. Its amount is as much more than that as
+        the others are planned more than they may have: so it has its part when it comes."""
         slices = self.host.processors * self.host.period_us // self.host.slice_us
+        may = {path: self.most[self.places[path]] for path in found.told}
+        full = [(line["plan"], may[path]) for path, line in found.told.items()
+                if line["plan"] >= may[path]]
+        planned, theirs = map(sum, zip((0, 0), *full))
         self.scheduler.plan(slices, [
-            (self.groups[path].identity[1], max(line["plan"], self.most[self.places[path]]),
+            (self.groups[path].identity[1],
+             max(line["plan"], min(may[path] * max(planned, theirs) // max(theirs, 1), MOST_AMOUNT)
+                 if line["plan"] < may[path] else 0),
              self.limit(path, line))
             for path, line in found.told.items()])
         return len(found.told)

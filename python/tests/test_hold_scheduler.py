@@ -86,11 +86,12 @@ def test_a_plan_is_given_and_nothing_is_written(folder, begun):
     assert (one["written"], two["written"]) == (3, 3)
     told = commands(folder)
     a, b, c = (number(world, path) for path in "abc")
-    # b is below a limit: 80 slices of a period are 80 ms of 100
+    # b is below a limit: 80 slices of a period are 80 ms of 100. c may have as much as both others,
+    # and asks for less.
     assert told == [
         f"top {world.tree}", "read", "read", "plan 200", f"leaf {a} 60 0",
-        f"leaf {b} 60 {one['groups']['b']['limit'] * 1000000}", f"leaf {c} 100 0", "end", "read",
-        "plan 200", f"leaf {a} 80 0", f"leaf {b} 80 80000000", f"leaf {c} 100 0", "end", "ended"]
+        f"leaf {b} 60 {one['groups']['b']['limit'] * 1000000}", f"leaf {c} 120 0", "end", "read",
+        "plan 200", f"leaf {a} 80 0", f"leaf {b} 80 80000000", f"leaf {c} 160 0", "end", "ended"]
     assert [world.maximum(path) for path in "abc"] == [FREE, "80000 100000", FREE]
     assert stood == then and [each.name for each in folder.glob("undo*")] == []
 
