@@ -70,8 +70,8 @@ def loop_rows() -> Iterator[str]:
         took = [each["ns"] / 1e6 for each in ends
                 if (each["signal"], each["whose"]) == (number, whose)]
         if took:
-            yield (f"| {Signals(number).name} to the {whose} | {min(took):.0f} to {max(took):.0f} |"
-                   f" {len(took)} |")
+            times = dict.fromkeys(f"{each:.0f}" for each in (min(took), max(took)))
+            yield f"| {Signals(number).name} to the {whose} | {' to '.join(times)} | {len(took)} |"
 
 
 def tables() -> list[str]:
