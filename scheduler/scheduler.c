@@ -249,12 +249,20 @@ static bool drop_old(void)
     return has_dropped;
 }
 
+/* What the rest has beside a plan of all slices, so that its part is that of its weights. */
+static u64 rest_of(u64 slices)
+{
+    double part = planned_part(), rest = slices * (1 - part) / part;
+    return rest < MOST_SLICES ? rest : MOST_SLICES;
+}
+
 /* Amounts above the most that the scheduler takes are all made less, in proportion. */
-static void scale(u64 slices)
+static void scale(void)
 {
     u32 shift = 0;
-    while (slices >> shift > MOST_AMOUNT)
-        shift++;
+    for (u32 row = 0; row < rows; row++)
+        while (program->bss->given[row].amount >> shift > MOST_AMOUNT)
+            shift++;
     for (u32 row = 0; row < rows && shift; row++)
         program->bss->given[row].amount >>= shift;
 }
@@ -262,9 +270,9 @@ static void scale(u64 slices)
 static void take_plan(u64 slices, u64 given, bool is_new)
 {
     LIBBPF_OPTS(bpf_test_run_opts, options);
-    u64 least = slices * (1 - planned_part()), left = slices > given ? slices - given : 0;
+    u64 least = rest_of(slices), left = slices > given ? slices - given : 0;
     program->bss->given[0].amount = left > least ? left : least;
-    scale(slices > given ? slices : given);
+    scale();
     is_new |= drop_old();
     program->data->rows = rows;
     /* the scheduler begins with the first plan */

@@ -21,14 +21,16 @@ make_checker() {
 
 # The scheduler of `hold --by scheduler`, where clang, bpftool and libbpf were there to make it.
 scheduler=out/scheduler/arbiter-scheduler
+libbpf=/usr/include/bpf/libbpf_version.h
 scheduler_packages='clang bpftool libbpf-dev libelf-dev zlib1g-dev make gcc'
 
 # Makes the scheduler, if what compiles it is there. Otherwise it names what is missing.
 make_scheduler() {
   [ -f scheduler/Makefile ] || return 0
-  local tool missing=''
+  # (Debian has bpftool in a folder of root's PATH, and 1.4 in backports)
+  local PATH=$PATH:/usr/sbin tool missing='' older='MINOR_VERSION [0-3]$'
   for tool in clang bpftool make gcc; do command -v "$tool" >/dev/null || missing=yes; done
-  if [ -n "$missing" ] || [ ! -e /usr/include/bpf/libbpf.h ]; then
+  if [ -n "$missing" ] || [ ! -e "$libbpf" ] || grep -q "$older" "$libbpf"; then
     echo "build: no arbiter-scheduler without libbpf 1.4: apt-get install $scheduler_packages" >&2
     return 0
   fi

@@ -21,10 +21,11 @@ from support import ROOT, same
 
 SECONDS = 1800
 SUITE, ARCHIVE = "bookworm", "http://deb.debian.org/debian"
-NAMES = ("arbiter", "arbiter-check", "arbiter-host", "libarbiter-dev", "libarbiter1")
+NAMES = ("arbiter", "arbiter-check", "arbiter-host", "arbiter-scheduler", "libarbiter-dev",
+         "libarbiter1")
 # What the packages depend on, and what a program over the library is made with.
 NEEDED = ("python3", "python3-jinja2", "python3-rich", "python3-yaml", "gcc", "libc6-dev",
-          "pkgconf", "systemd")
+          "pkgconf", "systemd", f"libbpf1/{SUITE}-backports")
 # Where dpkg and apt keep their books.
 BOOKS = ("proc", "sys", "dev", "tmp", "debs", "var/log", "var/cache", "var/lib/apt", "var/lib/dpkg",
          "etc/ld.so.cache")
@@ -65,6 +66,8 @@ def root(debs, tmp_path_factory):
         ended("cp", "-a", base, folder)
     else:
         ended("debootstrap", "--variant=minbase", SUITE, folder, ARCHIVE)
+    with open(folder / "etc/apt/sources.list", "a", encoding="ascii") as sources:
+        sources.write(f"deb {ARCHIVE} {SUITE}-backports main\n")
     apt(folder, "update")
     apt(folder, "install", "--no-install-recommends", *NEEDED)
     (folder / "debs").mkdir()
@@ -97,7 +100,7 @@ def files_of(folder):
     return found - set(BOOKS)
 
 
-def test_four_packages(debs):
+def test_all_packages(debs):
     same(len(debs), len(NAMES), "packages")
 
 
@@ -125,6 +128,7 @@ def test_contents(debs):
                for path in debs}
     assert "libc6 (>= " in depends["arbiter"] and "libc6 (>= " in depends["libarbiter1"]
     assert f"libarbiter1 (= {version()})" in depends["libarbiter-dev"]
+    assert "libbpf1 (>= 1:1.4" in depends["arbiter-scheduler"]
     for needed in ("python3:any (>= 3.11", "python3-jinja2", "python3-rich", "python3-yaml",
                    "libarbiter1"):
         assert needed in depends["arbiter-host"], needed
@@ -180,6 +184,13 @@ def test_arbiterctl_runs(installed):
     same(within(installed, "python3", "-c", "import arbiter_host as a; print(a.__version__)"),
          f"{version()}\n", "the package")
     shutil.rmtree(group.parent)
+
+
+def test_scheduler_runs(installed):
+    """Its loader finds its libraries, and loads nothing for a user."""
+    said = within(installed, "sh", "-c", "PATH=/usr/sbin:$PATH; arbiter-scheduler /tmp 2>&1 || :",
+                  user="65534:65534")
+    same(said, "arbiter-scheduler: only root may load a scheduler\n", "the loader")
 
 
 def test_library_is_linked_with(installed):

@@ -11,16 +11,20 @@ from pathlib import Path
 
 import pytest
 
-from kernel import layout, machine, packages, scenario
+from kernel import interpreter, layout, machine, packages, scenario
 from kernel.faults import KernelFault
+from kernel.held import WAYS
 from kernel.planned import use
-from laboratory import compare, endured, readings, scheduled_page, traced
+from laboratory import compare, endured, held, held_page, readings, scheduled_page, traced
 from laboratory.__main__ import SCENARIOS
 
 SPAN = layout.Span(seconds=3, settle=1, has_grid=False)
 NAMES = ("two-three", "two-pinned")
 # Hundredths of a CPU that a group may be off in three seconds, and the least part that is served.
 MOST_OFF, LEAST_SERVED = 3.0, 0.98
+# What `arbiterctl hold` itself holds; each run ends in its own way (`ENDS`). In the second one the
+# plan changes each second.
+LOOPS = ("two-eight", "two-flip")
 # What it endured in a long run, and the seconds after which the watchdog sees a task that waits.
 RUN = Path(__file__).with_name("runs") / "endured.json"
 WATCHDOG = 20
@@ -71,6 +75,51 @@ def test_each_pick_is_one_that_the_rule_allows(traced_runs):
     assert trace.count("pick ") > 500
 
 
+@pytest.fixture(scope="module", name="loops")
+def runs_of_hold(program, newest):
+    """The runs of `arbiterctl hold --by scheduler` in one guest: of a minute, one alone."""
+    if not interpreter.LIBRARY.exists():
+        pytest.skip(f"no {interpreter.LIBRARY}: ./build --install makes it")
+    use(program.path)
+    span = layout.Span(SPAN.seconds, 3, has_grid=False)
+    jobs = [held.Job(scenario.read(SCENARIOS / f"{name}.script"), WAYS["hold"], number, span)
+            for number, name in enumerate(LOOPS if machine.ALL in os.environ else LOOPS[:1])]
+    return {each["scenario"]: each
+            for each in held.ran(newest, jobs, machine.Setting(jobs[0].shift))}
+
+
+@pytest.mark.parametrize("name", LOOPS)
+def test_hold_serves_the_plan(loops, name):
+    """What the loop itself uses is not the groups'. Nothing is written. Plans change."""
+    if name not in loops:
+        pytest.skip(f"it takes minutes: {machine.ALL}")
+    check_hold(loops[name])
+    plans = [each["flip"] for each in loops[name]["ended"]["plans"] if "flip" in each][-4:]
+    assert not plans or min(plans) < 600 < max(plans)
+
+
+def test_kept_runs_of_hold():
+    """The loop was ended and killed."""
+    found = held_page.read([str(scheduled_page.LOOPS)])
+    for each in found:
+        check_hold(each)
+    assert {(15, "loop"), (9, "loop")} <= {(each["ended"]["signal"], each["ended"]["whose"])
+                                           for each in found}
+
+
+def check_hold(found):
+    """The groups were near the plan. It ended at once by SIGTERM, by SIGKILL, and with the loader;
+    no file of a group was written but the one that shows that a write is seen."""
+    ended, (root, *_) = found["ended"], found["lines"]
+    offs = [line["had"] - line["share"] for line in held_page.leaves(found)]
+    assert (found["refusal"], ended["state"]) == ("", "enabled arbiter_plan")
+    assert max(map(abs, offs)) <= MOST_OFF and root["had"] >= LEAST_SERVED * root["share"]
+    assert set(ended["wrote"]) == {layout.place(".", "cpu.max.burst")}
+    assert ended["ns"] is not None and ended["ns"] < 10**9
+    assert ended["status"] == {15: 0, 9: 137 if ended["whose"] == "loop" else 1}[ended["signal"]]
+    assert ended["whose"] == "loop" or "arbiter-scheduler" in ended["said"][-1]
+
+
 def test_what_it_endures(newest):
     """It is attached five times, killed and ended; one that picks nobody ends by the watchdog."""
     if machine.ALL not in os.environ:
@@ -86,7 +135,8 @@ def test_what_it_endured():
 
 def test_page_has_the_tables():
     """docs/kernel/scheduler.txt has what the runs give."""
-    assert scheduled_page.tables() in scheduled_page.PAGE.read_text(encoding="utf-8")
+    page = scheduled_page.PAGE.read_text(encoding="utf-8")
+    assert [table for table in scheduled_page.tables() if table not in page] == []
 
 
 def check_endured(found, cycles, loads):

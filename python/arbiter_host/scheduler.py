@@ -17,7 +17,7 @@ from typing import Any, NamedTuple
 from arbiter import Columns, Host, Reading, Round
 from arbiter_host import hold
 from arbiter_host.faults import HostFault
-from arbiter_host.hold import Kept, WriteFault, Written
+from arbiter_host.hold import WriteFault, Written
 from arbiter_host.model import Group, Model
 from arbiter_host.units import MAX_DEMAND
 
@@ -26,15 +26,26 @@ PROGRAM = "arbiter-scheduler"
 FOLDERS = "/usr/sbin:/usr/local/sbin"
 # Seconds within which it answers: a slow machine loads it for a while.
 LONGEST = 60
-# The period of limits in nanoseconds.
-LIMIT_PERIOD = 10**8
+# The period of limits in nanoseconds; the greatest amount that it takes.
+LIMIT_PERIOD, MOST_AMOUNT = 10**8, 10**9
+# A leaf was idle for a while if it was for one of so many parts of a round: the slices that run are
+# not told yet.
+PARTS = 20
 
 
 class UsedTime(NamedTuple):
-    """What a group did in a round, in nanoseconds: it used, and its tasks waited in sum."""
+    """What a group did in a round, in nanoseconds: it used, its tasks waited in sum, and how long
+    one or more waited."""
 
     used: int
     waited: int
+    some: int
+
+    def asked(self, passed: int) -> int:
+        """What it would have used had no task waited, or more. One that was idle for a part of the
+        time had all that it asked for."""
+        was_idle = PARTS * (self.used + self.some) < (PARTS - 1) * passed
+        return self.used if was_idle else self.used + self.waited
 
 
 class Scheduler:
@@ -97,7 +108,7 @@ class Scheduler:
         self.say("read")
         *leaves, last = self.answer("read")
         try:
-            found = {int(words[1]): UsedTime(*map(int, words[2:4])) for words in leaves}
+            found = {int(words[1]): UsedTime(*map(int, words[2:5])) for words in leaves}
             return found, int(last[1])
         except (ValueError, TypeError, IndexError) as error:
             raise self.fault("it answers what is no reading") from error
@@ -139,8 +150,8 @@ class ScheduledLoop(hold.Loop):
         return super().read()
 
     def read_group(self, path: str, has_look: bool) -> Reading:
-        """What a group used, and what it would have used had no task waited: the kernel counts
-        both, so no hunger is guessed. One that was in no plan yet is read as by limits."""
+        """What a group used and asked for: the kernel counts what tasks wait, so no hunger is
+        guessed. One that was in no plan yet is read as by limits."""
         kept = self.groups[path]
         each = self.used.get(kept.identity[1])
         if each is None or not self.passed:
@@ -148,7 +159,7 @@ class ScheduledLoop(hold.Loop):
         if has_look:
             self.look(kept, path)
         used = self.slices(each.used)
-        asked = min(self.slices(each.used + each.waited), MAX_DEMAND)
+        asked = min(self.slices(each.asked(self.passed)), MAX_DEMAND)
         return Reading(used, asked, asked > used)
 
     def slices(self, ns: int) -> int:
@@ -164,7 +175,8 @@ class ScheduledLoop(hold.Loop):
         """Gives the scheduler the amount and the limit of each leaf."""
         slices, (amounts, limits) = self.host.capacity, self.served
         self.scheduler.plan(slices, [
-            (self.groups[path].identity[1], amounts[row], self.limit(limits[row]))
+            (self.groups[path].identity[1], min(amounts[row], MOST_AMOUNT),
+             self.limit(limits[row]))
             for path, row in self.places.items()])
         return len(found.told)
 
@@ -173,9 +185,6 @@ class ScheduledLoop(hold.Loop):
         if slices is None:
             return 0
         return max(slices * self.host.slice_us * LIMIT_PERIOD // self.host.period_us, 1)
-
-    def set(self, kept: Kept) -> None:
-        """Writes nothing."""
 
     def end(self) -> None:
         """Ends the scheduler."""

@@ -86,13 +86,26 @@ def test_a_plan_is_given_and_nothing_is_written(folder, begun):
     assert (one["written"], two["written"]) == (3, 3)
     told = commands(folder)
     a, b, c = (number(world, path) for path in "abc")
-    # b is below a limit: 80 slices of a period are 80 ms of 100
+    # b is below a limit: 80 slices of a period are 80 ms of 100. c may have as much as both others,
+    # and asks for less.
     assert told == [
         f"top {world.tree}", "read", "read", "plan 200", f"leaf {a} 60 0",
-        f"leaf {b} 60 {one['groups']['b']['limit'] * 1000000}", f"leaf {c} 100 0", "end", "read",
-        "plan 200", f"leaf {a} 80 0", f"leaf {b} 80 80000000", f"leaf {c} 100 0", "end", "ended"]
+        f"leaf {b} 60 {one['groups']['b']['limit'] * 1000000}", f"leaf {c} 120 0", "end", "read",
+        "plan 200", f"leaf {a} 80 0", f"leaf {b} 80 80000000", f"leaf {c} 160 0", "end", "ended"]
     assert [world.maximum(path) for path in "abc"] == [FREE, "80000 100000", FREE]
     assert stood == then and [each.name for each in folder.glob("undo*")] == []
+
+
+@pytest.mark.parametrize("told, wanted", [
+    # it slept for more than half of the second; it was never idle
+    ("200000000,250000000", (20, 20, False)), ("500000000,480000000", (50, 98, True)),
+    ("900000000,100000000", (90, 100, True))])
+def test_one_that_slept_was_served(begun, told, wanted):
+    """A group that waited and was idle later asked for no more than it used."""
+    world, loop = begun(GROUPS, "", "", f"{told};0,0;0,0")
+    _, (found, _) = world.run(loop, lambda: None, lambda: None)
+    each = found["groups"]["a"]
+    assert (each["used"], each["want"], each["hungry"]) == wanted
 
 
 def test_a_leaf_below_a_limit_is_limited(folder, begun):
@@ -138,7 +151,8 @@ def test_without_a_loader(monkeypatch, folder):
 def test_refused_words(ctl, folder, world):
     """Another tree than the host's, and weights."""
     for words, said in ((["--yes", "--undo", folder / "u"], "the kernel has one scheduler"),
-                        (["--weights"], "--weights and --once write files")):
+                        (["--weights"], "--weights and --once write files"),
+                        (["--once"], "--weights and --once write files")):
         _, err = ctl.run("hold", world.tree, "--root", world.tree, "--by", "scheduler", *words,
                          status=2)
         assert said in err

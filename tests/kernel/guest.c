@@ -22,17 +22,25 @@
        between them.
    guest grid START END FILE..
        Reads each cpu.stat once a millisecond, or as often as a quarter of the time allows; prints
-       `grid FILE CLOCK` where nr_periods rose.  */
+       `grid FILE CLOCK` where nr_periods rose.
+   guest end SIGNAL PROCESS FILE WORD
+       Sends a signal. Prints `gone SIGNAL NS`: how long it took until FILE begins with WORD.
+   guest writes FOLDER..
+       Prints `ready`, and `wrote FOLDER/NAME` for each file of them that is written, if its name
+       begins with `cpu.`: until it is killed.  */
 
 #define _GNU_SOURCE
 #include <dirent.h>
 #include <errno.h>
 #include <fcntl.h>
+#include <limits.h>
 #include <sched.h>
+#include <signal.h>
 #include <stdint.h>
 #include <stdio.h>
 #include <stdlib.h>
 #include <string.h>
+#include <sys/inotify.h>
 #include <sys/io.h>
 #include <sys/prctl.h>
 #include <sys/resource.h>
@@ -54,6 +62,8 @@
 /* For so long before the first time the time of others is read. That takes up to a third of a
    second where many tasks run on four processors.  */
 #define EARLIER (600 * MILLI)
+/* For so long what is to come of an end is waited for.  */
+#define LONGEST (60 * SECOND)
 
 static char text[1 << 20];
 static int64_t seen[MOST_PROCESSORS];
@@ -309,6 +319,42 @@ static int grid(int count, char **words) {
     return 0;
 }
 
+/* Ends a process, and waits for what is to come of it.  */
+static int end(int number, int process, const char *file, const char *word) {
+    go_first();
+    int64_t began = read_clock(CLOCK_MONOTONIC), now = began;
+    if (kill(process, number) != 0)
+        return printf("gone %d never: %s\n", number, strerror(errno)) < 0;
+    for (; strncmp(read_file(file), word, strlen(word)) != 0; now = read_clock(CLOCK_MONOTONIC)) {
+        if (now > began + LONGEST)
+            return printf("gone %d never\n", number) < 0;
+        sleep_until(now + MILLI);
+    }
+    return printf("gone %d %lld\n", number, (long long)(now - began)) < 0;
+}
+
+/* Tells who writes. The kernel tells of each write, also of one that changes nothing.  */
+static int writes(int count, char **folders) {
+    char events[4096] __attribute__((aligned(8)));
+    int watches = inotify_init();
+    for (int at = 0; at < count; at++)
+        if (inotify_add_watch(watches, folders[at], IN_MODIFY) != at + 1)
+            return printf("wrote nothing: %s: %s\n", folders[at], strerror(errno)) < 0;
+    setlinebuf(stdout);
+    puts("ready");
+    for (;;) {
+        ssize_t length = read(watches, events, sizeof events);
+        if (length <= 0)
+            return 1;
+        for (char *at = events; at < events + length;) {
+            struct inotify_event *each = (struct inotify_event *)at;
+            if (each->len && strncmp(each->name, "cpu.", 4) == 0)
+                printf("wrote %s/%s\n", folders[each->wd - 1], each->name);
+            at += sizeof *each + each->len;
+        }
+    }
+}
+
 /* An emulator that counts instructions runs one processor at a time, up to its next timer. The beat
    bounds these turns to an eighth of a millisecond. Nobody takes its interrupt.  */
 static int beat(void) {
@@ -350,6 +396,10 @@ int main(int count, char **words) {
         return watch(count - 2, words + 2);
     if (count >= 4 && strcmp(words[1], "grid") == 0)
         return grid(count - 2, words + 2);
-    fprintf(stderr, "guest: now, until, beat, load, nice, farm, watch or grid\n");
+    if (count == 6 && strcmp(words[1], "end") == 0)
+        return end(atoi(words[2]), atoi(words[3]), words[4], words[5]);
+    if (count >= 3 && strcmp(words[1], "writes") == 0)
+        return writes(count - 2, words + 2);
+    fprintf(stderr, "guest: now, until, beat, load, nice, farm, watch, grid, end or writes\n");
     return 2;
 }

@@ -10,7 +10,7 @@ from dataclasses import dataclass
 from pathlib import Path
 from typing import Any
 
-from kernel import faults, layout, machine, packages
+from kernel import faults, interpreter, layout, machine, packages
 from kernel.scenario import Scenario
 
 TOP = Path(__file__).resolve().parents[2]
@@ -36,6 +36,11 @@ class Way:
     is_scheduled: bool = False
 
     @property
+    def is_hold(self) -> bool:
+        """Whether `arbiterctl hold --by scheduler` itself runs."""
+        return self.is_loop and self.is_scheduled
+
+    @property
     def words(self) -> str:
         """The letters that hold.c takes."""
         found = "w" * self.has_weights + "b" * self.has_burst + "n" * (not self.has_limits)
@@ -56,7 +61,13 @@ WAYS = {way.name: way for way in (
     Way("loop-weights-1s", is_loop=True, has_weights=True, period=1000000),
     Way("watched", is_loop=True, has_limits=False),
     Way("scheduler", has_limits=False, is_scheduled=True),
+    Way("hold", has_limits=False, is_loop=True, is_scheduled=True),
 )}
+# The group of `arbiterctl hold`, whose weight is that of its unit; the state of the kernel.
+LOOP, LOOP_WEIGHT = f"{layout.TOP}/loop", 10000
+STATE, NAME = "/sys/kernel/sched_ext/state", "/sys/kernel/sched_ext/root/ops"
+# What ends it: the signal, and whose process that is: the loop's or the loader's.
+ENDS = ((15, "loop"), (9, "loop"), (9, "loader"))
 
 
 def loop_line(scenario: Scenario, way: Way) -> str:
@@ -85,6 +96,30 @@ def scheduler_lines(scenario: Scenario, amounts: dict[str, int], limits: dict[st
               " kill $scheduler; while kill -0 $scheduler 2> /dev/null; do sleep 0.1; done;"
               " sed 's/^/scheduler /' /plan.out" + "; sed 's/^/step /' /steps" * has_trace
               + ") &\nexec 9>&-")
+    return early, beside
+
+
+def hold_lines(scenario: Scenario, ended_by: tuple[int, str]) -> tuple[str, str]:
+    """The lines that begin `arbiterctl hold --by scheduler` itself, and those that end it. They
+    tell its rounds, what is written to files of the groups, and how it ends."""
+    number, whose = ended_by
+    folders = " ".join(shlex.quote(layout.place(path)) for path in (".", *scenario.paths))
+    burst = layout.place(".", "cpu.max.burst")
+    early = (f"mkdir -p /run {LOOP}; echo {LOOP_WEIGHT} > {LOOP}/cpu.weight; rm -f /ended\n"
+             f"/guest writes {folders} > /writes & echo $! > /writes.id\n"
+             f"(sh -c 'echo $$ > /loop.id; echo 0 > {LOOP}/cgroup.procs;"
+             f" exec /usr/bin/python3 /{interpreter.HOME}/arbiterctl hold {layout.HOME} --yes"
+             " --by scheduler' > /rounds 2> /said; echo $? > /ended) &\n"
+             "until grep -q groups /rounds || [ -e /ended ]; do sleep 0.2; done\n"
+             f"echo loop state $(cat {STATE} {NAME})")
+    process = "cat /loop.id" if whose == "loop" else "pidof arbiter-scheduler"
+    # (the last write shows that the watch sees one)
+    beside = (f"(/guest until $((last + {SECOND // 4}));"
+              f" /guest end {number} $({process}) {STATE} disabled > /gone;"
+              " until [ -e /ended ]; do sleep 0.1; done;"
+              f" echo 0 > {burst}; sleep 0.2; kill $(cat /writes.id);"
+              f" sed 's/^/loop {whose} /' /gone; sed 's/^/loop status /' /ended;"
+              " sed 's/^/loop /' /writes; sed 's/^/loop /' /rounds; sed 's/^/loop said /' /said) &")
     return early, beside
 
 
@@ -139,13 +174,18 @@ def begun(script: str, key: str) -> str:
 
 
 def lines_of(kernel: packages.Kernel, board: machine.Board, setting: machine.Setting,
-             scripts: Sequence[str], archive: Path | None = ARCHIVE, is_scheduled: bool = False
-             ) -> list[str]:
-    """Boots a guest for runs one after another, with the loop over a C library, and with the
-    scheduler. Returns what it printed."""
+             scripts: Sequence[str], archive: Path | None = ARCHIVE, is_scheduled: bool = False,
+             has_python: bool = False) -> list[str]:
+    """Boots a guest for runs one after another, with the loop over a C library, with the scheduler,
+    and with `arbiterctl`. Returns what it printed."""
     work = f"echo '+cpu' > {layout.TOP}/cgroup.subtree_control\n{layout.BEAT}" + "".join(scripts)
     with tempfile.TemporaryDirectory(prefix="arbiter-hold-") as name:
         more = {"hold": (0o100755, hold_program(Path(name), archive))} if archive else {}
         if is_scheduled:
             more["arbiter-scheduler"] = (0o100755, scheduler_program(Path(name)))
-    return machine.run(kernel, board, setting, work, more, 512 if is_scheduled else 256)
+    if has_python:
+        # (where its package has it)
+        more = {**interpreter.files(), "usr/sbin": (0o040755, b""),
+                "usr/sbin/arbiter-scheduler": more["arbiter-scheduler"]}
+    memory = 1024 if has_python else 512 if is_scheduled else 256
+    return machine.run(kernel, board, setting, work, more, memory)

@@ -45,8 +45,9 @@ def named() -> Iterator[tuple[str, Path]]:
     yield from modules()
     yield f"{HOME}/arbiterctl", PACKAGE / "arbiterctl"
     for folder in ("arbiter", "arbiter_host"):
-        for path in sorted((PACKAGE / folder).rglob("*.py")):
-            yield f"{HOME}/{path.relative_to(PACKAGE)}", path
+        for kind in ("*.py", "templates/*"):
+            for path in sorted((PACKAGE / folder).rglob(kind)):
+                yield f"{HOME}/{path.relative_to(PACKAGE)}", path
     # (the package looks for it there first)
     yield f"{HOME}/arbiter/libarbiter.so.1", LIBRARY
 

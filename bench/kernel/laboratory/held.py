@@ -3,7 +3,8 @@
     PYTHONPATH=tests:bench/kernel /usr/bin/python3 -m laboratory.held --ways weights,loop \
         --save FILE SCENARIO..
 
-SCENARIO is the beginning of names of scenarios. The loop is that of tests/kernel/hold.c.
+SCENARIO is the beginning of names of scenarios. The loop is that of tests/kernel/hold.c; `hold` is
+`arbiterctl hold --by scheduler` itself.
 """
 from __future__ import annotations
 
@@ -17,15 +18,18 @@ from statistics import fmean
 from typing import Any
 
 from kernel import faults, layout, machine, packages
-from kernel.held import (ARCHIVE, WAYS, Way, begun, lines_of, loop_line, rounds_in,
-                         scheduler_lines)
+from kernel.held import (ARCHIVE, ENDS, WAYS, Way, begun, hold_lines, lines_of, loop_line,
+                         rounds_in, scheduler_lines)
 from kernel.planned import begin
 from kernel.scenario import Scenario
 from laboratory import compare, exact, planned, readings
 from laboratory.__main__ import LATER, sources
 
-# Most of the processors' time that others may use beside a loop, or where tasks come and go.
-MOST_OTHERS = 0.03
+# Most of the processors' time that others may use beside a loop, or where tasks come and go; and
+# beside Python.
+MOST_OTHERS, MOST_BESIDE = 0.03, 0.2
+# An instruction takes 2^2 ns in guests of Python, or its rounds would be long.
+SHIFT = 2
 
 
 def planned_for(scenario: Scenario, slices: dict[str, int]) -> dict[str, int]:
@@ -126,10 +130,17 @@ class Job:
         """The name of the run."""
         return f"{self.scenario.name} {kernel.name} {self.way.name} {self.repeat + 1}"
 
+    @property
+    def shift(self) -> int:
+        """An instruction takes 2^shift ns."""
+        return SHIFT if self.way.is_hold else self.scenario.board.shift
+
     def script(self) -> str:
         """The script of the guest."""
         early, beside = "", loop_line(self.scenario, self.way) if self.way.is_loop else ""
-        if self.way.is_scheduled:
+        if self.way.is_hold:
+            early, beside = hold_lines(self.scenario, ENDS[self.repeat % len(ENDS)])
+        elif self.way.is_scheduled:
             early, beside = scheduler_lines(self.scenario, entitled(self.scenario),
                                             own_limits(self.scenario, plan(self.scenario)))
         return layout.script(held_by(self.scenario, self.way), self.span, beside, early)
@@ -146,23 +157,41 @@ def ran(kernel: packages.Kernel, jobs: Sequence[Job], setting: machine.Setting
     """Boots one guest for jobs of one board, and compares them with their plans."""
     lines = lines_of(kernel, jobs[0].scenario.board, setting,
                      [begun(job.script(), job.key(kernel)) for job in jobs],
-                     ARCHIVE if any(job.way.is_loop for job in jobs) else None,
-                     any(job.way.is_scheduled for job in jobs))
+                     ARCHIVE if any(job.way.is_loop and not job.way.is_hold for job in jobs)
+                     else None, any(job.way.is_scheduled for job in jobs),
+                     any(job.way.is_hold for job in jobs))
     told = rounds_in(lines)
     runs = readings.runs([line for line in lines if not line.startswith("held ")])
     for job, run in zip(jobs, runs, strict=True):
         outcome = compare.outcome_of(job.scenario, run, job.span)
         yield {"release": kernel.release, "way": job.way.name, "repeat": job.repeat,
                "seconds": job.span.seconds, "rounds": told.get(run.key, []),
-               "pieces": run.pieces,
+               "pieces": run.pieces, **(ended(run.told) if job.way.is_hold else {}),
                **brief(outcome), "refusal": refusal_of(outcome, job.way)}
+
+
+def ended(told: Sequence[str]) -> dict[str, Any]:
+    """What `arbiterctl hold` told: its rounds, how it ended, and what was written meanwhile."""
+    words = [line.split() for line in told]
+    shown = [json.loads(line) for line in told if line.startswith("{")]
+    gone = next((each for each in words if each[1:2] == ["gone"]), list[str]())
+    return {"ended": {
+        "state": " ".join(next((each[1:] for each in words if each[:1] == ["state"]), [])),
+        "rounds": len(shown), "missed": sum(each["missed"] for each in shown),
+        "plans": [{path: line["plan"] for path, line in each["groups"].items()} for each in shown],
+        "whose": gone[0] if gone else "", "signal": int(gone[2]) if gone else 0,
+        "ns": int(gone[3]) if gone[3:4] and gone[3].isdigit() else None,
+        "status": next((int(each[1]) for each in words if each[:1] == ["status"]), None),
+        "wrote": [each[1] for each in words if each[:1] == ["wrote"]],
+        "said": [line.removeprefix("said ") for line in told if line.startswith("said ")]}}
 
 
 def refusal_of(outcome: compare.Outcome, way: Way) -> str:
     """Why a run says nothing. The loop's own time is that of others, and is more. So is what the
     kernel's own tasks do for tasks that end."""
     has_forks = any(leaf.fork for leaf in outcome.scenario.leaves.values())
-    if (way.is_loop or has_forks) and outcome.others <= MOST_OTHERS:
+    most = MOST_BESIDE if way.is_hold else MOST_OTHERS
+    if (way.is_loop or has_forks) and outcome.others <= most:
         return replace(outcome, others=0).refusal
     return outcome.refusal
 
@@ -206,7 +235,8 @@ def batches(jobs: Sequence[Job], boot: int) -> Iterator[list[Job]]:
     """The jobs of each boot, in order."""
     found: list[Job] = []
     for job in jobs:
-        if found and (len(found) == boot or job.scenario.board != found[0].scenario.board):
+        if found and (len(found) == boot or (job.scenario.board, job.shift)
+                      != (found[0].scenario.board, found[0].shift)):
             yield found
             found = []
         found.append(job)
@@ -228,7 +258,7 @@ def work(words: Sequence[str]) -> int:
                 for each in sources(options.sources) for way in ways
                 for repeat in range(options.first, options.first + options.repeats)]
         for batch in batches(jobs, options.boot):
-            for found in ran(kernel, batch, machine.Setting(batch[0].scenario.board.shift)):
+            for found in ran(kernel, batch, machine.Setting(batch[0].shift)):
                 print(shown(found), flush=True)
                 refused += bool(found["refusal"])
                 if options.save:

@@ -106,6 +106,8 @@ def add(run: Run, line: str, file: str) -> str:
         run.told.append(line)
         if words[1] == "arbiter-scheduler:" and "ended after" not in line:
             run.refused.append(line)
+    elif words[:1] == ["loop"]:
+        run.told.append(line.removeprefix("loop "))
     elif words[:1] == ["refused"]:
         run.refused.append(line.removeprefix("refused "))
     elif words and file and run.readings:

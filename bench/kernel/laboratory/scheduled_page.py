@@ -10,14 +10,18 @@ from __future__ import annotations
 import json
 from collections.abc import Iterator
 from pathlib import Path
-from statistics import median
+from signal import Signals
+from statistics import fmean, median
 from typing import Any
 
+from kernel.held import ENDS
 from laboratory import held_page
 from laboratory.held_page import Saved, of, rows
 
 FOLDER = Path(__file__).resolve().parents[1] / "runs"
 RUNS, COSTS = FOLDER / "scheduler.jsonl.gz", FOLDER / "costs.jsonl"
+# The runs of `arbiterctl hold` itself.
+LOOPS = FOLDER / "loops.jsonl"
 PAGE = Path(__file__).resolve().parents[3] / "docs/kernel/scheduler.txt"
 WAYS = ["scheduler", "weights", "limits"]
 
@@ -49,11 +53,33 @@ def cost_rows() -> Iterator[str]:
         yield f"| {each['leaves']} | {each['instructions']} | {each['picks']} |"
 
 
-def tables() -> str:
-    """All three tables."""
+def loop_rows() -> Iterator[str]:
+    """How far groups were off by `arbiterctl hold` itself, and the CPUs that it and all but the
+    groups used. Then how long it took until weights ruled, in milliseconds."""
+    found = held_page.read([str(LOOPS)])
+    yield "| Scenario | `hold` | CPUs used beside the groups |"
+    yield "|---|---|---|"
+    for name in sorted({each["scenario"] for each in found}):
+        runs = of(found, name, "hold")
+        others = fmean(each["others"] * each["processors"] for each in runs)
+        yield f"| `{name}` | {held_page.cell(runs)} | {others:.2f} |"
+    yield "\n| What ends it | weights rule after, ms | runs |"
+    yield "|---|---|---|"
+    for number, whose in ENDS:
+        ends = [each["ended"] for each in found]
+        took = [each["ns"] / 1e6 for each in ends
+                if (each["signal"], each["whose"]) == (number, whose)]
+        if took:
+            times = dict.fromkeys(f"{each:.0f}" for each in (min(took), max(took)))
+            yield f"| {Signals(number).name} to the {whose} | {' to '.join(times)} | {len(took)} |"
+
+
+def tables() -> list[str]:
+    """All tables of each kind of runs."""
     found = held_page.read([str(RUNS)])
-    return "\n".join([*rows(found, "Scenario", WAYS), "", *waits(found), "", *cost_rows()])
+    all_ = [rows(found, "Scenario", WAYS), waits(found), cost_rows(), loop_rows()]
+    return ["\n".join(each) for each in all_]
 
 
 if __name__ == "__main__":
-    print(tables())
+    print("\n\n".join(tables()))

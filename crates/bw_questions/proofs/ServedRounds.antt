@@ -1,32 +1,17 @@
 -- What a scheduler is given for a round, beside limits and guarantees.
-<<<<<<< HEAD
 use Rattle.std.proofs.Common.{◌≡◌, ℕ, ◌<◌, ◌≤◌, List, Bool, Some, length, get_or, ap, ◌∙◌, arith}
-use Rattle.std.proofs.Common.{inl, inr}
-use Rattle.std.specs.Prelude.{max, ◌==◌, ◌||◌}
-use Rattle.std.proofs.lemmas.Bool.{cases_Bool}
-use Rattle.std.proofs.lemmas.List.FromFn.{get_or-map-range_with_len}
-use Rattle.bw_model.specs.Groups.{row_of}
-use Rattle.bw_plan.specs.Laws.{ThereIsOnePlan}
-use Rattle.bw_questions.specs.HeldRule.{is_hungry, leaf_limit}
-use Rattle.bw_questions.specs.Reading.{limit_at}
-use Rattle.bw_questions.specs.Served.{part_of, served_amount, NoneServedAboveALimit}
-=======
-use Rattle.std.proofs.Common.{◌≡◌, ℕ, ◌<◌, ◌≤◌, List, Bool, true, false, Option, Some, length}
-use Rattle.std.proofs.Common.{get_or, refl, ap, ◌∙◌, arith, inl, inr, mul-le-mul_left}
-use Rattle.std.specs.Prelude.{min, max, ◌*◌, ◌/◌, ◌==◌, ◌||◌}
-use Rattle.std.specs.List.{range_with_len}
+use Rattle.std.proofs.Common.{inl, inr, mul-le-mul_left}
+use Rattle.std.specs.Prelude.{max, ◌*◌, ◌/◌, ◌==◌, ◌||◌}
 use Rattle.std.proofs.lemmas.Bool.{cases_Bool, cases_eq, cases_lt, eq-eqb, ne_eqb}
 use Rattle.std.proofs.lemmas.Bool.{lt-ltb, le-ltb}
 use Rattle.std.proofs.lemmas.List.FromFn.{get_or-map-range_with_len}
 use Rattle.std.proofs.lemmas.Nat.{le-div}
-use Rattle.bw_model.specs.Groups.{Groups, IsInstance, row_of}
+use Rattle.bw_model.specs.Groups.{row_of}
 use Rattle.bw_plan.specs.Laws.{ThereIsOnePlan}
 use Rattle.bw_questions.specs.HeldRule.{is_hungry, leaf_limit}
 use Rattle.bw_questions.specs.Reading.{limit_at}
-use Rattle.bw_questions.specs.Served.{amount_in, beside, part_of, part_at, served_amount}
-use Rattle.bw_questions.specs.Served.{sum_of_full, IsServedRound, IsServedLimit}
-use Rattle.bw_questions.specs.Served.{IsLeastPart, NoneServedAboveALimit}
->>>>>>> 752dbfebe5b11372ce810552002cd3decd32f67c
+use Rattle.bw_questions.specs.Served.{amount_in, beside, part_of, served_amount, sum_of_full}
+use Rattle.bw_questions.specs.Served.{NoneServedAboveALimit}
 use Rattle.bw_questions.specs.Served.{NoneServedBelowItsGuarantee}
 use Rattle.bw_questions.proofs.RoundFloors.{floor_enough}
 

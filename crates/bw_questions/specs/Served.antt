@@ -1,14 +1,7 @@
-<<<<<<< HEAD
 -- Amounts and limits of a round for a scheduler: one of each for each row.
-use Rattle.std.specs.Prelude.{◌≡◌, ℕ, ◌*◌, ◌/◌, ◌<◌, ◌≤◌, ◌==◌, ◌||◌, List, Bool, true, false}
-use Rattle.std.specs.Prelude.{Option, None, Some, length, map, min, max, slice_index, IsTrue}
-use Rattle.std.specs.Prelude.{if◌then◌else◌}
-=======
--- What a scheduler is given for a round: an amount and a limit of each row.
 use Rattle.std.specs.Prelude.{◌≡◌, ℕ, ◌*◌, ◌/◌, ◌<◌, ◌≤◌, ◌==◌, ◌||◌, ◌&&◌, not, List, Bool, true}
 use Rattle.std.specs.Prelude.{false, Option, None, Some, length, map, min, max, slice_index, IsTrue}
 use Rattle.std.specs.Prelude.{nat_lt, sum, if◌then◌else◌}
->>>>>>> 752dbfebe5b11372ce810552002cd3decd32f67c
 use Rattle.std.specs.List.{range_with_len}
 use Rattle.bw_model.specs.declared.row.Row.{Row}
 use Rattle.bw_model.specs.Groups.{Groups, IsInstance, row_of, is_leaf, is_under}

@@ -1,11 +1,6 @@
-<<<<<<< HEAD
 //! Amounts and limits of a round for a scheduler: one of each for each row.
-ghost use Rattle.std.specs.Prelude.{◌≡◌, ℕ, ◌<◌, length, map, IfOk, slice_index};
-=======
-//! What a scheduler is given for a round: an amount and a limit of each row.
 ghost use Rattle.std.specs.Prelude.{◌≡◌, ℕ, ◌<◌, ◌≤◌, ◌*◌, length, map, IfOk, slice_index};
 ghost use Rattle.std.specs.Prelude.{EachIndex};
->>>>>>> 752dbfebe5b11372ce810552002cd3decd32f67c
 ghost use Rattle.std.specs.List.{range_with_len};
 ghost use Rattle.std.specs.Option.{option_map};
 ghost use Rattle.bw_questions.specs.HeldRule.{own_limit};
