@@ -7,7 +7,7 @@ from kernel import scenario
 from kernel.held import WAYS
 from kernel.planned import use
 from kernel.real_files import effective
-from laboratory import __main__, held, held_page, held_rule
+from laboratory import __main__, held, held_page, held_rule, scheduled_page
 from support import ROOT
 
 PODS = scenario.read(__main__.SCENARIOS / "four-pods.script")
@@ -102,7 +102,7 @@ def test_rounds_of_the_runs_are_by_the_rule(library):
     """The library gives the plan and the limits of each round that the runs have. They were made
     when a round in which nobody lacks anything was held too."""
     calls, count, calm = Library(library), 0, 0
-    for run in held_page.read([str(held_page.RUNS)]):
+    for run in held_page.read([str(held_page.RUNS), str(scheduled_page.RUNS)]):
         found = scenario.read(__main__.SCENARIOS / f"{run['scenario']}.script")
         for _, each in itertools.groupby(run["rounds"], key=lambda line: line["round"]):
             lines = list(each)

@@ -15,7 +15,7 @@ from statistics import fmean, median
 from typing import Any
 
 from kernel.held import ENDS
-from laboratory import held_page
+from laboratory import costs, held_page
 from laboratory.held_page import Saved, of, rows
 
 FOLDER = Path(__file__).resolve().parents[1] / "runs"
@@ -23,7 +23,7 @@ RUNS, COSTS = FOLDER / "scheduler.jsonl.gz", FOLDER / "costs.jsonl"
 # The runs of `arbiterctl hold` itself.
 LOOPS = FOLDER / "loops.jsonl"
 PAGE = Path(__file__).resolve().parents[3] / "docs/kernel/scheduler.txt"
-WAYS = ["scheduler", "weights", "limits"]
+WAYS = ["scheduler", "weights", "limits", "loop"]
 
 
 def waits(found: list[Saved]) -> Iterator[str]:
@@ -40,17 +40,33 @@ def waits(found: list[Saved]) -> Iterator[str]:
         yield f"| `{name}` | " + " | ".join(cells) + " |"
 
 
-def costs() -> list[dict[str, Any]]:
-    """The runs of `laboratory.costs`."""
-    return [json.loads(line) for line in COSTS.read_text(encoding="utf-8").splitlines()]
-
-
-def cost_rows() -> Iterator[str]:
+def cost_rows(found: list[dict[str, Any]]) -> Iterator[str]:
     """Instructions of a pick, with all that a slice takes of the scheduler."""
     yield "| Leaves | instructions a pick | picks |"
     yield "|---|---|---|"
-    for each in costs():
-        yield f"| {each['leaves']} | {each['instructions']} | {each['picks']} |"
+    for each in found:
+        if "loops" not in each:
+            yield f"| {each['leaves']} | {each['instructions']} | {each['picks']} |"
+
+
+def work_cell(found: dict[str, Any], phase: str) -> str:
+    """Switches of all processors in a second, instructions of each, and the part of the work of
+    tasks that are alone on their processors."""
+    part = found["loops"][phase] / found["loops"]["alone"]
+    switches = found["switches"][phase] / costs.SECONDS
+    spent = (1 - part) * costs.SECOND / (1 << costs.SHIFT) / switches
+    return f"{switches:.0f}, {spent:.0f}, {100 * part:.1f} %"
+
+
+def work_rows(found: list[dict[str, Any]]) -> Iterator[str]:
+    """What the tasks of `laboratory.costs` did by weights and by the scheduler."""
+    yield "| CPUs, tasks | weights | weights, slices of 3 ms | scheduler |"
+    yield "|---|---|---|---|"
+    for each in sorted((one for one in found if "loops" in one),
+                       key=lambda one: (one["nap"], one["cpus"])):
+        kind = "work for 0.5 ms, sleep for 2" if each["nap"] else "always work"
+        cells = [work_cell(each, phase) for phase in costs.PHASES[1:4]]
+        yield f"| {each['cpus']}, {each['leaves']} that {kind} | " + " | ".join(cells) + " |"
 
 
 def loop_rows() -> Iterator[str]:
@@ -77,7 +93,9 @@ def loop_rows() -> Iterator[str]:
 def tables() -> list[str]:
     """All tables of each kind of runs."""
     found = held_page.read([str(RUNS)])
-    all_ = [rows(found, "Scenario", WAYS), waits(found), cost_rows(), loop_rows()]
+    spent = [json.loads(line) for line in COSTS.read_text(encoding="utf-8").splitlines()]
+    all_ = [rows(found, "Scenario", WAYS), waits(found), cost_rows(spent), work_rows(spent),
+            loop_rows()]
     return ["\n".join(each) for each in all_]
 
 
