@@ -230,8 +230,9 @@ uint32_t arbiter_hold(uint64_t processors, uint64_t period_us, uint64_t slice_us
                       uint64_t *dens, size_t dens_length, uint32_t *places, size_t places_length);
 
 /* What a scheduler is given for a round in the place of limits. The rows and `hungry` are those of arbiter_hold.
- * Writes to `amounts` the plan of the round, or where it is more the plan where each leaf asks for everything, so that a leaf that
- * sleeps can catch up. They may be above the capacity together. Writes to `most` limits, or ARBITER_NO_LIMIT. That of a leaf is its
+ * The floor of a row is its plan where each leaf asks for everything. Writes to `amounts` the plan of the round where it is no less.
+ * Else it is the floor times what the leaves that have theirs are planned, over their floors, rounded down. So a leaf that comes has
+ * its part beside them. They may be above the capacity together. Writes to `most` limits, or ARBITER_NO_LIMIT. That of a leaf is its
  * least part of the limits at or above it. A part is the whole limit where arbiter_hold limits nobody, or plans nothing for the
  * group with the limit. Else it is as much of it as the leaf has of that group's plan, rounded down, or the leaf's limit of the
  * round if that is more, and never more than the limit. Other rows have their own limit. No amount of a leaf is below its guarantee.

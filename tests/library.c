@@ -160,12 +160,12 @@ int main(void)
         return 40;
     if (arbiter_check(1, 100000, 5000, parents, 3, weights, 3, limits, 3, asks, 3, amounts, 3, flags, 3, nums, 3, dens, 3, places, 3, &row) != 0)
         return 41;
-    /* The first may use its 7 at once. */
+    /* The first may use 7, and the second 13, which has 16: 7 times 16 over 13. */
     if (arbiter_serve(1, 100000, 5000, parents, 3, weights, 3, limits, 3, used, 3, hungry, 3, asks, 3, caps, 2) != 50 || caps[1] != 7)
         return 66;
     if (arbiter_serve(1, 100000, 5000, parents, 3, weights, 3, limits, 3, used, 3, hungry, 3, asks, 3, caps, 3) != 0)
         return 67;
-    if (asks[0] != 20 || asks[1] != 7 || asks[2] != 16 || caps[1] != ARBITER_NO_LIMIT || caps[2] != ARBITER_NO_LIMIT)
+    if (asks[0] != 20 || asks[1] != 8 || asks[2] != 16 || caps[1] != ARBITER_NO_LIMIT || caps[2] != ARBITER_NO_LIMIT)
         return 68;
     if (arbiter_script(1, 100000, 5000, 7, (const uint8_t *)script, sizeof script - 1, up, 3, heavy, 3, capped, 3, asked, 3, quotas, 3, periods, 3,
                        bursts, 3, carries, 2, (uint8_t *)path, 7, line, 1, fault, 1, &count, &names_count, &refused_count) != 50 || count != 1)

@@ -126,7 +126,13 @@ def given_by_model(rows: List[Row], capacity: int, hungry: Sequence[bool]
                 parts.append(min(max(part, found.limits[number] or 0), own))
             at = rows[at].parent
         most.append(min(parts, default=None) if leaf else rows[number].limit)
-    return list(map(max, found.amounts, found.floors)), most
+    full = [number for number, leaf in enumerate(leaves_of(rows))
+            if leaf and found.amounts[number] >= found.floors[number]]
+    theirs, planned = (sum(each[number] for number in full)
+                       for each in (found.floors, found.amounts))
+    times = Fraction(planned, theirs) if theirs else Fraction(1)
+    return [amount if amount >= floor else int(floor * times)
+            for amount, floor in zip(found.amounts, found.floors)], most
 
 
 @pytest.mark.parametrize("number", range(TREES))
@@ -147,13 +153,13 @@ def test_random_tree(module, number):
 
 
 @pytest.mark.parametrize("rows, used, hungry, amounts, most", [
-    # The first used 4 of its 7, and may use 7 at once. No limit is set.
-    (TWO, [0, 4, 10], [0, 0, 1], [20, 7, 16], [None, None, None]),
+    # The first used 4 of its 7. The second has 16 for its 13, so it has 7 times 16 over 13 beside it.
+    (TWO, [0, 4, 10], [0, 0, 1], [20, 8, 16], [None, None, None]),
     # Nobody lacks anything, so the limits are whole.
     (POD, [0, 9, 0, 5, 2], [0, 1, 1, 0, 0], [20, 9, 11, 6, 5], [None, 9, 12, 12, 12]),
     # Of the plan of `pod`, 12, its leaves have 10 and 2, and of its limit 10 and 2. The second may
-    # use 5 in the round.
-    (POD, [0, 8, 0, 5, 2], [0, 0, 0, 1, 0], [20, 9, 12, 10, 5], [None, 9, 12, 10, 5]),
+    # use 5 in the round. The first has 10 for its 6: beside it 9 and 5 are 15 and 8.
+    (POD, [0, 8, 0, 5, 2], [0, 0, 0, 1, 0], [20, 15, 12, 10, 8], [None, 9, 12, 10, 5]),
     # `pod` is so light that nothing is planned for it, so its leaves have its limit whole.
     ([Row(None), Row(0, weight=10000), Row(0, weight=1, limit=3), Row(2), Row(2)],
      [0, 20, 0, 0, 0], [0, 1, 0, 0, 1], [20, 20, 0, 0, 0], [None, None, 3, 3, 3]),

@@ -184,8 +184,8 @@ class Library:
     def serve(self, host: Host, rows: Rows, hungry: Sequence[bool]
               ) -> tuple[list[int], list[int | None]]:
         """The amount and the limit of each row that a scheduler is given for a round: of a leaf its
-        plan, or what it gets where each asks for everything if that is more, and its least part of
-        the limits at or above it. Asked and refused as `hold` is."""
+        plan, or its part beside the plans of the others if that is more, and its least part of the
+        limits at or above it. Asked and refused as `hold` is."""
         columns = Columns.of(rows)
         flags = column(U8, [bool(flag) for flag in hungry], "flag")
         amounts, most = zeros(U64, len(columns)), zeros(U64, len(columns))

@@ -385,7 +385,7 @@ fn limits(numbers: Vec<u64>) -> Vec<Option<u64>> {
 /// What a scheduler is given for a round in the place of limits.
 #[derive(Clone, Debug, PartialEq, Eq)]
 pub struct Served {
-    /// One amount per row in slices: its plan, or what it gets where each leaf asks for everything if that is more.
+    /// One amount per row in slices: its plan, or its part beside the plans of the others if that is more.
     pub amounts: Vec<u64>,
     /// One limit per row in slices: of a leaf its least part of the limits at or above it, of another row its own.
     pub limits: Vec<Option<u64>>,
