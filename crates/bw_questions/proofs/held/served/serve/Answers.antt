@@ -24,8 +24,12 @@ served_amounts-requires-clause-low c =
     (sym c.as_slice-4.ensures.value)
     (λ i below. amount_small (everyone used) (everyone-IsInstance used c.rows-rows.ensures.valid)
     c.in_ok-floors.floors.items c.in_ok-floors.ensures.plan i
-    (omega (arith, below, c.in_ok-floors.ensures.each,
-    as_many used (λ g. demand_where used.rows true g))))
+    (omega (
+      arith,
+      below,
+      c.in_ok-floors.ensures.each,
+      as_many used (λ g. demand_where used.rows true g),
+    )))
 
 pub served_amounts-requires-clause-small : goal.served_amounts-requires-clause-small
 served_amounts-requires-clause-small c =
@@ -33,8 +37,12 @@ served_amounts-requires-clause-small c =
     (sym c.as_slice-5.ensures.value)
     (λ i below. amount_small c.in_ok-round.round c.in_ok-round.ensures.valid
     c.in_ok-planned.field-0.amounts.items c.in_ok-planned.ensures i
-    (omega (arith, below, amount_each c.in_ok-round.round c.in_ok-round.ensures.valid
-    c.in_ok-planned.field-0.amounts.items c.in_ok-planned.ensures)))
+    (omega (
+      arith,
+      below,
+      amount_each c.in_ok-round.round c.in_ok-round.ensures.valid
+          c.in_ok-planned.field-0.amounts.items c.in_ok-planned.ensures,
+    )))
 
 pub returns : goal.returns
 returns c =
@@ -43,10 +51,6 @@ returns c =
     let planned = c.in_ok-planned.field-0.amounts.items in
     let floors = c.in_ok-floors.floors.items in
     let calm = c.is_calm-calm.result in
-    let long : length planned ≡ length used.rows =
-    amount_each c.in_ok-round.round c.in_ok-round.ensures.valid planned c.in_ok-planned.ensures
-    ∙ rw c.in_ok-round.ensures.round
-    (as_many used (λ g. demand_where used.rows (is_hungry hungry g) g)) in
     record {
       demands = map (λ (r : Row). r.demand) (round_of used hungry).rows;
       planned = planned;

@@ -8,10 +8,10 @@ pub loop-g-preserved : goal.loop-g-preserved
 loop-g-preserved c =
     let g = c.loop-g.g in
     let f : ℕ → ℕ =
-        amount_in c.args.reading.now.rows c.args.floors.now c.args.planned.now in
+    amount_in c.args.reading.now.rows c.args.floors.now c.args.planned.now in
     let value : c.served_amount.result ≡ f g =
-        rw (c.sum_of_full-theirs.ensures.sum, c.sum_of_full-given.ensures.sum)
-        at c.served_amount.ensures in
+    rw (c.sum_of_full-theirs.ensures.sum, c.sum_of_full-given.ensures.sum)
+    at c.served_amount.ensures in
     record {
       done = c.in_ok-push.ensures.items
           ∙ ap (λ (n : ℕ). c.loop-g.amounts.items ++ n ∷ []) value

@@ -9,8 +9,8 @@ use Rattle.bw_questions.proofs.held.served.sum_of_full.Goals as goal
 pub loop-g-preserved : goal.loop-g-preserved
 loop-g-preserved c =
     let f : ℕ → ℕ =
-        full_amount c.args.reading.now.rows c.args.floors.now c.args.planned.now
-        c.args.amounts.now in
+    full_amount c.args.reading.now.rows c.args.floors.now c.args.planned.now
+    c.args.amounts.now in
     let g = c.loop-g.g in
     record {
       done = ap (λ (n : ℕ). n + c.full_amount-sum.result) c.loop-g.invariant.done
