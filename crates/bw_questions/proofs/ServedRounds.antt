@@ -1,7 +1,7 @@
 -- What a scheduler is given for a round, beside limits and guarantees.
 use Rattle.std.proofs.Common.{◌≡◌, ℕ, ◌<◌, ◌≤◌, List, Bool, Some, length, get_or, ap, ◌∙◌, arith}
 use Rattle.std.proofs.Common.{inl, inr, mul-le-mul_left}
-use Rattle.std.specs.Prelude.{max, ◌*◌, ◌/◌, ◌==◌, ◌||◌}
+use Rattle.std.specs.Prelude.{max, ◌*◌, ◌==◌, ◌||◌}
 use Rattle.std.proofs.lemmas.Bool.{cases_Bool, cases_eq, cases_lt, eq-eqb, ne_eqb}
 use Rattle.std.proofs.lemmas.Bool.{lt-ltb, le-ltb}
 use Rattle.std.proofs.lemmas.List.FromFn.{get_or-map-range_with_len}

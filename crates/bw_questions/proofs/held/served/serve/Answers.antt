@@ -1,5 +1,5 @@
 -- The goals of `serve` that are answered by hand.
-use Rattle.std.proofs.Common.{◌≡◌, ◌∙◌, ◌<◌, ◌≤◌, ℕ, List, length, map, refl, ap, subst, sym}
+use Rattle.std.proofs.Common.{◌∙◌, ◌<◌, ◌≤◌, ℕ, List, length, map, refl, ap, subst, sym}
 use Rattle.std.proofs.Common.{arith, get_or, true}
 use Rattle.std.specs.Prelude.{IsTrue, ◌↔◌}
 use Rattle.std.specs.List.{range_with_len}
@@ -7,7 +7,7 @@ use Rattle.bw_model.specs.declared.limits.TheConstants.{MAX_CAPACITY}
 use Rattle.bw_model.specs.declared.row.Row.{Row}
 use Rattle.bw_model.specs.Groups.{Groups}
 use Rattle.bw_model.specs.Plan.{IsPlan}
-use Rattle.bw_questions.specs.HeldRule.{IsCalm, demand_where, everyone, is_hungry, round_limit, round_of}
+use Rattle.bw_questions.specs.HeldRule.{IsCalm, demand_where, everyone, round_limit, round_of}
 use Rattle.bw_questions.proofs.AskingRows.{amount_each, amount_small, as_many, everyone-IsInstance}
 use Rattle.bw_questions.proofs.held.served.serve.Goals as goal
 

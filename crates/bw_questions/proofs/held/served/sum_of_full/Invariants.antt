@@ -1,5 +1,5 @@
 -- What stands at each turn of the loop in `sum_of_full`.
-use Rattle.std.proofs.Common.{◌≡◌, ℕ, ◌≤◌, ◌*◌, map}
+use Rattle.std.proofs.Common.{◌≡◌, ◌≤◌, ◌*◌, map}
 use Rattle.std.specs.Prelude.{sum}
 use Rattle.std.specs.List.{range_with_len}
 use Rattle.bw_model.specs.declared.limits.TheConstants.{MAX_CAPACITY}
