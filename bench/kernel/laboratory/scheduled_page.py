@@ -51,9 +51,9 @@ def cost_rows(found: list[dict[str, Any]]) -> Iterator[str]:
 
 def work_cell(found: dict[str, Any], phase: str) -> str:
     """Switches of all processors in a second, instructions of each, and the part of the work of
-    tasks that are alone on their processors."""
+    tasks that are alone on their processors. Runs of four seconds say so."""
     part = found["loops"][phase] / found["loops"]["alone"]
-    switches = found["switches"][phase] / costs.SECONDS
+    switches = found["switches"][phase] / found.get("seconds", costs.SECONDS)
     spent = (1 - part) * costs.SECOND / (1 << costs.SHIFT) / switches
     return f"{switches:.0f}, {spent:.0f}, {100 * part:.1f} %"
 
