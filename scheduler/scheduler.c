@@ -143,14 +143,14 @@ static u64 weight_of(const char *folder)
     return read_text(folder, "cpu.weight", text, sizeof text) ? strtoull(text, NULL, 10) : 0;
 }
 
-/* The weights of the groups of a folder that have tasks. */
-static u64 weights_in(const char *folder)
+/* The weights of the groups of a folder that have tasks, but for one of this name. */
+static u64 weights_in(const char *folder, const char *name)
 {
     u64 sum = 0;
     DIR *found = opendir(folder);
     for (struct dirent *each; found && (each = readdir(found));) {
         char path[PATH_MAX], text[128];
-        if (each->d_type != DT_DIR || each->d_name[0] == '.'
+        if (each->d_type != DT_DIR || each->d_name[0] == '.' || strcmp(each->d_name, name) == 0
             || snprintf(path, sizeof path, "%s/%s", folder, each->d_name) >= (int)sizeof path)
             continue;
         if (read_text(path, "cgroup.events", text, sizeof text) && strstr(text, "populated 1"))
@@ -161,24 +161,25 @@ static u64 weights_in(const char *folder)
     return sum;
 }
 
-/* The part of the host that is the planned groups' by weights: of 1. Tasks of the root count as one
- * group. */
+/* The part of the host that is the planned groups' by weights: of 1. They count also while they have
+ * no tasks. Tasks of the root count as one group. */
 static double planned_part(void)
 {
     char path[PATH_MAX];
     double part = 1;
     snprintf(path, sizeof path, "%s", top);
     while (strlen(path) > strlen(CGROUPS)) {
-        u64 own = weight_of(path), all;
-        *strrchr(path, '/') = 0;
-        all = weights_in(path);
+        u64 own = weight_of(path), others;
+        char *name = strrchr(path, '/');
+        *name++ = 0;
+        others = weights_in(path, name);
         if (strcmp(path, CGROUPS) == 0)
-            all += DEFAULT_WEIGHT;
-        if (own && all > own)
-            part *= (double)own / all;
+            others += DEFAULT_WEIGHT;
+        if (own)
+            part *= (double)own / (own + others);
     }
     if (strcmp(top, CGROUPS) == 0) {
-        u64 all = weights_in(top);
+        u64 all = weights_in(top, "");
         part = (double)(all + 1) / (all + 1 + DEFAULT_WEIGHT);
     }
     return part;
