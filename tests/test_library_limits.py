@@ -19,9 +19,9 @@ from test_library import REFUSED, number_of, raw_columns, rows_of, with_lengths
 from test_library_questions import GREATEST_DEMAND, HOST, host_words, is_under, model_of
 from test_library_tune import EVEN, IDLE, kept
 
-SEED, TREES = 20261128, 550
+SEED, TREES = 20261128, 500
 # The fewest trees of each kind, and the choices of limits beside the answer.
-LEAST_OF_EACH, MOST_CHOICES = 10, 12
+LEAST_OF_EACH, MOST_CHOICES = 4, 12
 NONE = [False] * 5
 # Of 20 slices `web` (1) gets 10, and the groups of `pod` (2) 5 each. `web` is limited to 12.
 CAPPED = [Row(None), Row(0, limit=12, demand=20), *EVEN[2:]]
@@ -255,5 +255,5 @@ def test_tiny_trees(module, guaranteed):
     """Level and limits are the greatest of all, or none from the lowest on will do."""
     seen = compared(module, TREES, SEED, guaranteed)
     print(seen)
-    assert len(seen) >= 6 and min(seen[kind] for kind in ("unmet", "one limit", "limits")) \
-        >= LEAST_OF_EACH, seen
+    kinds = ("unmet", "one limit", "several limits", "limits", "a weight and one limit")
+    assert min(seen.get(kind, 0) for kind in kinds) >= LEAST_OF_EACH, seen
