@@ -1,12 +1,12 @@
 -- The goals of `from_root_of` that are answered by hand.
-use Rattle.std.proofs.Common.{◌≡◌, ℕ, List, Bool, length, map, ap, sym, ◌∙◌, subst, inl, inr}
+use Rattle.std.proofs.Common.{◌≡◌, ℕ, List, Bool, length, ap, sym, ◌∙◌, subst, inl, inr}
 use Rattle.std.proofs.lemmas.List.{length-map}
 use Rattle.bw_model.specs.declared.row.Row.{Row}
 use Rattle.bw_model.specs.Groups.{Groups}
 use Rattle.bw_questions.specs.declared.from_root.least.Tuned.{Tuned}
 use Rattle.bw_questions.specs.declared.from_root.least.Tuned.TheVariants.{Met, Unmet}
 use Rattle.bw_questions.specs.declared.from_root.measure.Measure.{Measure}
-use Rattle.bw_questions.specs.FromRoot.{IsTunedFromRoot, IsLeastFromRoot, IsLeastOfAllFromRoot}
+use Rattle.bw_questions.specs.FromRoot.{IsTunedFromRoot}
 use Rattle.bw_columns.specs.Asked.{groups_asked, table_of}
 use Rattle.bw_columns.specs.Certificates.{flags_in}
 use Rattle.bw_columns.specs.FromRoot.{IsFromRootTold, IsToldOfRoot}

@@ -1,5 +1,5 @@
 -- The goals of `other_limits_of` that are answered by hand.
-use Rattle.std.proofs.Common.{◌≡◌, ℕ, Bool, length, ap, sym, ◌∙◌}
+use Rattle.std.proofs.Common.{ℕ, Bool, length, ap, sym, ◌∙◌}
 use Rattle.std.proofs.lemmas.List.{length-map}
 use Rattle.std.proofs.lemmas.List.FromFn.{length-map-range_with_len}
 use Rattle.bw_model.specs.Groups.{Groups}

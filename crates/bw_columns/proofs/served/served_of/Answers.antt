@@ -3,7 +3,7 @@ use Rattle.std.proofs.Common.{◌≡◌, ℕ, List, Bool, Option, length, map, a
 use Rattle.std.proofs.lemmas.List.{length-map}
 use Rattle.std.proofs.lemmas.List.FromFn.{length-map-range_with_len}
 use Rattle.bw_model.specs.Groups.{Groups}
-use Rattle.bw_questions.specs.Served.{IsServedRound, served_amount}
+use Rattle.bw_questions.specs.Served.{IsServedRound, amount_in}
 use Rattle.bw_columns.specs.Asked.{groups_asked, table_of, limit_number}
 use Rattle.bw_columns.specs.Certificates.{flags_in}
 use Rattle.bw_columns.proofs.Asked.{rows_length}
@@ -30,7 +30,7 @@ amount_each : (used : Groups) (hungry : List Bool) (amounts : List ℕ) (limits 
     → IsServedRound used hungry amounts limits → length amounts ≡ length used.rows
 amount_each used hungry amounts limits served =
     ap (length {A = ℕ}) served.amounts_are
-    ∙ length-map-range_with_len (served_amount served.round.floors served.planned) 0
+    ∙ length-map-range_with_len (amount_in used.rows served.round.floors served.planned) 0
     (length used.rows)
 
 pub returns-clause-served : goal.returns-clause-served
