@@ -22,6 +22,8 @@ FOLDER = Path(__file__).resolve().parents[1] / "runs"
 RUNS, COSTS = FOLDER / "scheduler.jsonl.gz", FOLDER / "costs.jsonl"
 # The runs of `arbiterctl hold` itself.
 LOOPS = FOLDER / "loops.jsonl"
+# The runs of another scheduler, which has the weights of the scenarios.
+FLATCG = FOLDER / "flatcg.jsonl"
 PAGE = Path(__file__).resolve().parents[3] / "docs/kernel/scheduler.txt"
 WAYS = ["scheduler", "weights", "limits", "loop"]
 
@@ -95,7 +97,7 @@ def tables() -> list[str]:
     found = held_page.read([str(RUNS)])
     spent = [json.loads(line) for line in COSTS.read_text(encoding="utf-8").splitlines()]
     all_ = [rows(found, "Scenario", WAYS), waits(found), cost_rows(spent), work_rows(spent),
-            loop_rows()]
+            loop_rows(), rows(held_page.read([str(FLATCG)]), "Scenario", ["flatcg"])]
     return ["\n".join(each) for each in all_]
 
 
