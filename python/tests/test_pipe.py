@@ -98,7 +98,7 @@ def of_tree(library, host, rows, chance):
                                                   "figures"))
     yield from (("check", (host, rows, each, evidence)) for each in (amounts, wrong, wrong[1:]))
     for each in ([chance.random() < 0.5 for _ in range(len(rows))], []):
-        yield "hold", (host, rows, each)
+        yield from ((call, (host, rows, each)) for call in ("hold", "serve"))
     for each in ([None if chance.random() < 0.5 else chance.randrange(40)
                   for _ in range(len(rows))], []):
         yield "book", (host, rows, each, amounts, arbiter.Counters.zeros(len(rows)))
@@ -106,7 +106,7 @@ def of_tree(library, host, rows, chance):
     may = [chance.random() < 0.5 for _ in range(len(rows))]
     for least in ([chance.choice((0, 0, 3, 9)) for _ in range(len(rows))], []):
         yield from (("tune", (host, rows, least, may, guaranteed)) for guaranteed in (False, True))
-        lowest = [chance.choice((None, 0, 4)) for _ in rows]
+        lowest = [chance.choice((None, 0, 4)) for _ in range(len(rows))]
         yield from (("limit_others", (host, rows, least, may, lowest, guaranteed))
                     for guaranteed in (False, True))
     yield "guarantee", (host, rows, group)
@@ -162,7 +162,7 @@ def test_random_trees(both):
         rows = some_rows(chance)
         more = compare(both, of_tree(both[0], host, rows, chance))
         met, refused = met + more[0], refused + more[1]
-    assert met == 21 * TREES and met / 4 < refused < met * 3 / 4
+    assert met == 27 * TREES and met / 4 < refused < met * 3 / 4
 
 
 def test_no_tree(both):
@@ -189,7 +189,7 @@ def test_examples(both, path):
     told = both[0].script(host, text)
     assert len(told.names) > 1
     asked = [("script", (host, text)), *of_tree(both[0], host, told.columns, random.Random(SEED))]
-    assert compare(both, asked)[0] == 22
+    assert compare(both, asked)[0] == 28
 
 
 def test_many_groups(both):
