@@ -127,7 +127,7 @@ def test_interrupted_compilation(copy, number):
                           env=copy.environment(), start_new_session=True) as process:
         wait_for(copy, "begun")
         process.send_signal(number)
-        out, _ = process.communicate(timeout=120)
+        out, _ = process.communicate(timeout=30)
     same((process.returncode, out), (2, b""), "the interrupted call")
     same(group_is_gone(process.pid), True, "processes that are left end soon")
     same(os.listdir(f"{copy.cache}/arbiter/checked"), [], "what is kept")
@@ -590,7 +590,7 @@ def test_interrupted_build_goes_on(copy, send):
             wait_for(copy, "begun")
             os.remove(f"{copy.top}/begun")
             send(process.pid, number)
-            err = process.communicate(timeout=120)[1]
+            err = process.communicate(timeout=30)[1]
         same((process.returncode, copy.there(STAMP)), (1, False), f"signal {number}")
         holds(b"build: not built; what was proved is kept", err, f"signal {number}")
         told = rb"^build: interrupted: 0 of \d+ crates, \d+ s\nbuild: not built; .*\n\Z"
@@ -612,7 +612,7 @@ def test_one_build_at_a_time(copy):
         told = f"build: another build runs in this clone, pid {process.pid}\n"
         same(copy.call(["./build"]), (1, "", told), "a second build")
         copy.write("go", "")
-        err = process.communicate(timeout=120)[1]
+        err = process.communicate(timeout=30)[1]
     holds(f"build: linking {PROGRAM}\n".encode(), err, "it says when it links")
     holds(f"build: {PROGRAM} is up to date", copy.build(), "a build after it")
 
