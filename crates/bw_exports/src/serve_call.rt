@@ -12,10 +12,10 @@ use std::alloc::Global;
 ///
 /// The rows and `hungry` are those of [`crate::hold_call::arbiter_hold`]. The answer is 0 if the
 /// columns are written. `amounts` are the plan of the round. A row that is planned less than its
-/// floor, which it gets if each leaf asks for everything, has as much beside the plans of the others
-/// as its floor is beside theirs. So they may be above the capacity together. `most` has limits, the
-/// greatest number for none: of a leaf, its least part of the limits at or above it, and of another
-/// group its own. All are in slices. A refusal leaves each column unchanged.
+/// floor, which it gets if each leaf asks for everything, has as much beside the plans of the
+/// others as its floor is beside theirs. So they may be above the capacity together. `most` has
+/// limits, the greatest number for none: of a leaf, its least part of the limits at or above it,
+/// and of another group its own. All are in slices. A refusal leaves each column unchanged.
 ///
 /// # Errors
 /// The numbers of `arbiter_plan`, with 50 also if a column does not have the rows' length.

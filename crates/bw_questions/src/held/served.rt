@@ -233,10 +233,10 @@ fn served_amounts(
 /// Amounts and limits of the next round for a scheduler, from what each leaf used in the last one.
 ///
 /// The reading and the flags are those of [`super::hold`], as are the plan and the limits of the
-/// round. A row's floor is what it gets where each leaf asks for everything. Its amount is its plan,
-/// if that is no less. Else it is its floor times what the leaves of which that is so are planned,
-/// over their floors: a leaf that comes has its part beside them at once. So the amounts may be above
-/// the capacity together.
+/// round. A row's floor is what it gets where each leaf asks for everything. Its amount is its
+/// plan, if that is no less. Else it is its floor times what the leaves of which that is so are
+/// planned, over their floors: a leaf that comes has its part beside them at once. So the amounts
+/// may be above the capacity together.
 ///
 /// A leaf's limit is its least part of the limits at or above it. In a calm round, and where the
 /// plan gives the group with the limit nothing, the part is the limit. Else it is as much of it as
