@@ -1,6 +1,5 @@
 //! The command that a line of a script names.
 ghost use Rattle.std.specs.Prelude.{◌≡◌, Some, length};
-ghost use Rattle.std.specs.Str.{bytes_eq};
 ghost use Rattle.bw_commands.specs.Command.{form, form_named, forms, words_behind};
 ghost use Rattle.bw_commands.specs.Command.{command_of_form, command_of_words};
 ghost use Rattle.bw_commands.specs.Parsed.{meaning_of, request_of};
@@ -9,6 +8,7 @@ ghost use Rattle.bw_commands.specs.Word.{first_word, after_word, end_of};
 use crate::fault::ScriptFault;
 use crate::marked::{LEAST_MARKED, MOST_MARKED, Marked, WIDE};
 use crate::word::split_word;
+use bw_text::is_word;
 
 /// Maximum length of a line in bytes. A longer line is refused.
 pub const LINE_BYTES: usize = 65536;
@@ -217,21 +217,21 @@ fn of_verb<'a>(
     ensures { request_of result
         ≡ command_of_form count (form_named verb.now (forms path.now word.now text.now)) }
 {
-    if is_verb(verb, "mkdir") {
+    if is_word(verb, "mkdir") {
         return counted(count, 1, 1, Command::Change(Change::Mkdir { path }));
     }
-    if is_verb(verb, "rmdir") {
+    if is_word(verb, "rmdir") {
         return counted(count, 1, 1, Command::Change(Change::Rmdir { path }));
     }
-    if is_verb(verb, "demand") {
+    if is_word(verb, "demand") {
         let change = Change::Demand { path, number: word };
         return counted(count, 2, 2, Command::Change(change));
     }
-    if is_verb(verb, "read") {
+    if is_word(verb, "read") {
         let question = Question::Read { path, file: word };
         return counted(count, 2, 2, Command::Question(question));
     }
-    if is_verb(verb, "write") {
+    if is_word(verb, "write") {
         let change = Change::Write {
             path,
             file: word,
@@ -239,39 +239,22 @@ fn of_verb<'a>(
         };
         return counted(count, 2, 3, Command::Change(change));
     }
-    if is_verb(verb, "total") {
+    if is_word(verb, "total") {
         return counted(count, 0, 0, Command::Question(Question::Total));
     }
-    if is_verb(verb, "plan") {
+    if is_word(verb, "plan") {
         return counted(count, 0, 0, Command::Question(Question::Plan));
     }
-    if is_verb(verb, "cert") {
+    if is_word(verb, "cert") {
         return counted(count, 0, 0, Command::Question(Question::Cert));
     }
-    if is_verb(verb, "period") {
+    if is_word(verb, "period") {
         return counted(count, 0, 0, Command::Question(Question::Period));
     }
-    if is_verb(verb, "report") {
+    if is_word(verb, "report") {
         return counted(count, 0, 0, Command::Question(Question::Report));
     }
     Err(ScriptFault::BadCommand)
-}
-
-// Whether a word is one of the table. It is compared in place, where a call takes as long again.
-#[inline(always)]
-fn is_verb(word: &str, verb: &'static str) -> bool
-    ensures { result ≡ bytes_eq word.now verb.now }
-{
-    let (bytes, wanted) = (word.as_bytes(), verb.as_bytes());
-    if bytes.len() != wanted.len() {
-        return false;
-    }
-    for at in 0..wanted.len() {
-        if bytes[at] != wanted[at] {
-            return false;
-        }
-    }
-    true
 }
 
 // A command that has `least` to `most` words behind its first one.

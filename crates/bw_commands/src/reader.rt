@@ -101,10 +101,10 @@ impl ScriptReader {
     fn period(&mut self) -> Result<(), ScriptFault>
         ensures { Takes (λ s. Period) self.old self.new result }
     {
-        let snapshot = self.hierarchy.snapshot()?;
+        let snapshot = self.hierarchy.take_snapshot()?;
         let gathered = gather_rows(self.alloc, &snapshot.instance)?;
         let plan = plan_rows(self.alloc, &snapshot.instance, &gathered)?;
-        self.hierarchy.book(&snapshot, &gathered, &plan.amounts)?;
+        self.hierarchy.book(snapshot, &gathered, &plan.amounts)?;
         Ok(())
     }
 }

@@ -99,9 +99,9 @@ impl<'a, G: Gate> Script<'a, G> {
     {
         match question {
             Question::Read { path, file } => self.read(path, file, answer),
-            Question::Total => Ok(put_total(self.alloc, &self.hierarchy, answer)?),
-            Question::Plan => Ok(put_plan(rt, self.alloc, &self.hierarchy, answer)?),
-            Question::Cert => Ok(put_certified(rt, self.alloc, &self.hierarchy, answer)?),
+            Question::Total => Ok(put_total(self.alloc, &mut self.hierarchy, answer)?),
+            Question::Plan => Ok(put_plan(rt, self.alloc, &mut self.hierarchy, answer)?),
+            Question::Cert => Ok(put_certified(rt, self.alloc, &mut self.hierarchy, answer)?),
             Question::Period => serve_period(
                 rt,
                 self.alloc,

@@ -9,6 +9,7 @@ use Rattle.bw_files.specs.Faults.{file_fault_number}
 use Rattle.bw_files.specs.Reading.{burst_in, period_in}
 use Rattle.bw_columns.specs.Demand.{slices_for}
 use Rattle.bw_columns.specs.PeriodLimits.{limit_by}
+use Rattle.bw_questions.specs.declared.held.leaf.LeafTimes.{LeafTimes}
 use Rattle.bw_questions.specs.declared.held.reading.RoundTimes.{RoundTimes}
 use Rattle.bw_questions.specs.Written.{quota_of_limit, with_part}
 
@@ -41,6 +42,15 @@ times_of passed used waited tasks throttled allowed = record {
   tasks = tasks;
   is_throttled = not (throttled == 0);
   allowed_us = allowed;
+}
+
+-- the times of a leaf of a scheduler in a round
+abbrev pub leaf_times_of : ℕ → ℕ → ℕ → ℕ → LeafTimes
+leaf_times_of passed used waited some = record {
+  passed = passed;
+  used = used;
+  waited = waited;
+  some_waited = some;
 }
 
 -- the number of the first refusal of columns of tasks that do not fit, then of a host, then of a

@@ -12,6 +12,7 @@ mod figures_call;
 mod fit;
 mod guarantee_call;
 mod hold_call;
+mod leaf_reading_call;
 mod least_limit_call;
 mod least_processors_call;
 mod least_weight_call;

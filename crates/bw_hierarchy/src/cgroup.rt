@@ -110,6 +110,7 @@ impl CpuController {
             (λ e. set_shares_of hierarchy.old.tree self.now.id n ≡ Err e) }
         ensures err { OnErr result (hierarchy.new ≡ hierarchy.old) }
     {
+        hierarchy.kept = None;
         settings::set_shares(&mut hierarchy.tree, self.id, n)
     }
 
@@ -164,6 +165,7 @@ impl CpuController {
             (λ e. set_cfs_of hierarchy.old.tree self.now.id quota period ≡ Err e) }
         ensures err { OnErr result (hierarchy.new ≡ hierarchy.old) }
     {
+        hierarchy.kept = None;
         settings::set_cfs(&mut hierarchy.tree, self.id, quota, period)
     }
 }

@@ -6,6 +6,7 @@ ghost use Rattle.std.specs.Vec.{vec_capacity};
 ghost use Rattle.std.specs.List.{IsDistinct};
 ghost use Rattle.bw_model.specs.Groups.{IsInstance};
 ghost use Rattle.bw_tree.specs.Snapshot.{instance_of, base_of, IsDrawnWithin};
+ghost use Rattle.bw_tree.specs.Kept.{IsSnapshotOf};
 ghost use Rattle.std.specs.Map.{keys_of};
 ghost use Rattle.bw_hierarchy.specs.Faults.{IsRefusal, IsMemoryLast};
 ghost use Rattle.bw_hierarchy.specs.Calls.{mkdir_of};
@@ -19,7 +20,7 @@ use crate::cgroup::Cgroup;
 use crate::fault::Fault;
 use crate::{by_path, files};
 use bw_demand::Gathered;
-use bw_model::{HostShape, Instance};
+use bw_model::HostShape;
 use bw_stat::Books;
 use bw_tree::{GroupId, Snapshot, Tree, TreeFault};
 use std::alloc::Global;
@@ -33,14 +34,19 @@ pub struct Hierarchy {
     shape: HostShape,
     pub(crate) tree: Tree,
     books: Books,
+    // snapshot of the tree as it is, for the next question; no answer depends on it
+    pub(crate) kept: Option<Snapshot>,
 }
 
 impl Model for Hierarchy {
     ghost use Rattle.bw_hierarchy.specs.State.{HierarchyState};
+    ghost use Rattle.bw_tree.specs.Kept.{IsKept};
 
     ghost Value = { HierarchyState };
 
     ghost view = { λ h. record { shape = h.shape; tree = h.tree; books = h.books } };
+
+    ghost invariant = { λ h. IsKept h.kept h.tree h.shape };
 }
 
 impl Hierarchy {
@@ -59,6 +65,7 @@ impl Hierarchy {
             shape,
             tree,
             books: Books::new(alloc),
+            kept: None,
         })
     }
 
@@ -87,26 +94,24 @@ impl Hierarchy {
     /// Counts one period for each group, and stores each group's carry.
     ///
     /// `snapshot` is the present snapshot. `gathered` has the wants and `drawn` the draws of its
-    /// rows, in slices (sched-bwc.rst, "Statistics").
+    /// rows, in slices (sched-bwc.rst, "Statistics"). It is kept, with the limits of the next
+    /// period.
     ///
     /// # Errors
     ///
     /// - [`TreeFault::OutOfMemory`]
     pub fn book(
         &mut self,
-        snapshot: &Snapshot,
+        mut snapshot: Snapshot,
         gathered: &Gathered,
         drawn: &[u64],
     ) -> Result<(), Fault>
-        requires rows { snapshot.now.instance ≡ instance_of self.old.tree self.old.shape }
-        requires ids { snapshot.now.ids.items ≡ keys_of self.old.tree.groups }
-        requires quotas { length snapshot.now.quotas.items ≡ length snapshot.now.instance.rows }
-        requires wants { length gathered.now.want.items ≡ length snapshot.now.instance.rows }
-        requires drawn { length drawn.now ≡ length snapshot.now.instance.rows }
-        requires distinct { IsDistinct nat_eq snapshot.now.ids.items }
-        requires within { IsDrawnWithin snapshot.now.instance.rows drawn.now }
+        requires snapshot { IsSnapshotOf snapshot self.old.tree self.old.shape }
+        requires wants { length gathered.now.want.items ≡ length snapshot.instance.rows }
+        requires drawn { length drawn.now ≡ length snapshot.instance.rows }
+        requires within { IsDrawnWithin snapshot.instance.rows drawn.now }
         ensures booked { OnOk result
-            (self.new ≡ booked_period self.old snapshot.now.instance.rows snapshot.now.quotas.items
+            (self.new ≡ booked_period self.old snapshot.instance.rows snapshot.quotas.items
             gathered.now.want.items drawn.now) }
         ensures err { IfErr result (λ e. e ≡ Fault.Tree TreeFault.OutOfMemory) }
         ensures kept { OnErr result (self.new ≡ self.old) }
@@ -114,7 +119,8 @@ impl Hierarchy {
         let instance = &snapshot.instance;
         self.books
             .book(instance, &snapshot.ids, &snapshot.quotas, gathered, drawn)?;
-        self.tree.carry_over(instance, drawn);
+        self.tree.carry_over(&mut snapshot, self.shape, drawn);
+        self.kept = Some(snapshot);
         Ok(())
     }
 
@@ -123,20 +129,6 @@ impl Hierarchy {
         ensures { result.id ≡ 0 }
     {
         Cgroup { id: 0 }
-    }
-
-    /// Makes an instance: a row for each group, in order of creation. Limits are in slices of the
-    /// next period.
-    ///
-    /// # Errors
-    ///
-    /// - [`TreeFault::OutOfMemory`]
-    pub fn instance(&self) -> Result<Instance, Fault>
-        ensures rows { IfOk result (λ i. i ≡ instance_of self.now.tree self.now.shape) }
-        ensures valid { IsInstance (instance_of self.now.tree self.now.shape) }
-        ensures err { IfErr result (λ e. e ≡ Fault.Tree TreeFault.OutOfMemory) }
-    {
-        Ok(self.tree.instance(self.shape)?)
     }
 
     /// Takes a snapshot: rows, ids and quotas in slices of all groups, in order of creation.
@@ -159,6 +151,30 @@ impl Hierarchy {
         Ok(self.tree.snapshot(self.shape)?)
     }
 
+    /// Hands out the present snapshot: the one that was kept, or else a new one.
+    ///
+    /// # Errors
+    ///
+    /// - [`TreeFault::OutOfMemory`]
+    pub fn take_snapshot(&mut self) -> Result<Snapshot, Fault>
+        ensures same { self.new ≡ self.old }
+        ensures taken { IfOk result (λ s. IsSnapshotOf s self.old.tree self.old.shape) }
+        ensures err { IfErr result (λ e. e ≡ Fault.Tree TreeFault.OutOfMemory) }
+    {
+        match self.kept.take() {
+            None => self.snapshot(),
+            Some(snapshot) => Ok(snapshot),
+        }
+    }
+
+    /// Keeps the present snapshot for the next [`Hierarchy::take_snapshot`].
+    pub fn keep(&mut self, snapshot: Snapshot)
+        requires { IsSnapshotOf snapshot self.old.tree self.old.shape }
+        ensures { self.new ≡ self.old }
+    {
+        self.kept = Some(snapshot);
+    }
+
     /// Makes a group, and returns its id.
     ///
     /// The path splits at its last `/` into the parent's path and the name. The parent is the root
@@ -175,6 +191,10 @@ impl Hierarchy {
         ensures memory { IfErr result (IsMemoryLast (mkdir_of self.old.tree path.now)) }
         ensures err { OnErr result (self.new ≡ self.old) }
     {
+        // most lines find none, and an assignment drops it all the same
+        if self.kept.is_some() {
+            self.kept = None;
+        }
         by_path::mkdir(&mut self.tree, path)
     }
 
@@ -202,6 +222,7 @@ impl Hierarchy {
         ensures refused { IfErr result (λ e. delete_of self.old id ≡ Err e) }
         ensures err { OnErr result (self.new ≡ self.old) }
     {
+        self.kept = None;
         self.tree.rmdir(id)?;
         self.books.forget(id);
         Ok(())
@@ -222,7 +243,9 @@ impl Hierarchy {
         ensures err { OnErr result (self.new ≡ self.old) }
     {
         let id = by_path::find(&self.tree, path)?;
-        Ok(self.tree.set_demand(id, demand)?)
+        self.tree
+            .set_demand_in_step(id, demand, self.shape, &mut self.kept)?;
+        Ok(())
     }
 
     /// Reads a group's file (cgroup-v2.rst, "CPU Interface Files").
@@ -285,6 +308,10 @@ impl Hierarchy {
             (λ e. write_of self.old.tree path.now file.now text.now ≡ Err e) }
         ensures err { OnErr result (self.new ≡ self.old) }
     {
+        // most lines find none, and an assignment drops it all the same
+        if self.kept.is_some() {
+            self.kept = None;
+        }
         files::write(&mut self.tree, path, file, text)
     }
 
@@ -306,6 +333,7 @@ impl Hierarchy {
     {
         let mut tree = self.tree.copy()?;
         let id = build_tree(&mut tree, self.alloc, path, shares, quota, period)?;
+        self.kept = None;
         self.tree = tree;
         Ok(id)
     }

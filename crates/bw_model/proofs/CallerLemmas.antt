@@ -41,6 +41,7 @@ pub use Rattle.bw_model.proofs.tree.Instances.{earlier-AreTreeRows, IsHost-accep
 pub use Rattle.bw_model.proofs.tree.Instances.{refused_none-IsInstance, accepted-IsInstance}
 pub use Rattle.bw_model.proofs.tree.Instances.{IsInstance-accepted, capacity_le}
 pub use Rattle.bw_model.proofs.tree.Listing.{is_leaf-length}
+pub use Rattle.bw_model.proofs.tree.OneRow.{leaf_same, row_read}
 pub use Rattle.bw_model.proofs.allocation.ChildSums.{sum_of_children-below, sum_of_children-set}
 pub use Rattle.bw_model.proofs.allocation.ChildSums.{sum_of_children-left, child_le_sum}
 pub use Rattle.bw_model.proofs.allocation.ChildSums.{sum_of_children-zero}

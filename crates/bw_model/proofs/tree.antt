@@ -3,4 +3,5 @@ pub mod Paths
 pub mod Under
 pub mod Places
 pub mod Listing
+pub mod OneRow
 pub mod Instances

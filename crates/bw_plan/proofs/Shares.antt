@@ -2,7 +2,7 @@
 use Rattle.std.proofs.Common.{rules, ◌≡◌, ℕ, zero, suc, ◌<◌, ◌≤◌, List, [], ◌∷◌, Bool, true, false}
 use Rattle.std.proofs.Common.{true≢false, ◌||◌, eqb, ltb, Some, None, length, get_or, set}
 use Rattle.std.proofs.Common.{replicate, refl, ap, sym, ◌∙◌, arith, inl, inr}
-use Rattle.std.specs.Prelude.{All, sum, slice_index, map, filter}
+use Rattle.std.specs.Prelude.{All, sum, slice_index, map, filter, min}
 use Rattle.std.specs.List.{range_with_len}
 use Rattle.std.proofs.lemmas.Bool.{cases_Bool, cases_eq, cases_lt, eq-eqb, ne_eqb, eqb-true}
 use Rattle.std.proofs.lemmas.Bool.{ltb-true, lt-ltb, le-ltb, or_cases, or_parts}
@@ -18,8 +18,10 @@ use Rattle.bw_model.specs.declared.limits.TheConstants.{MAX_GROUPS}
 use Rattle.bw_model.specs.Host.{capacity_of}
 use Rattle.bw_model.specs.Plan.{child_weights, IsPlan}
 use Rattle.bw_model.specs.Demand.{want_of}
-use Rattle.bw_split.specs.Conditions.{CanSplit}
-use Rattle.bw_plan.specs.Shared.{IsShared, IsPlanning, CanShare, AreParts, IsGiven}
+use Rattle.bw_model.specs.Split.{IsBestSplit}
+use Rattle.bw_split.specs.Conditions.{CanSplit, cut_at}
+use Rattle.bw_split.proofs.CallerLemmas.{cut-CanSplit, cut-IsBestSplit}
+use Rattle.bw_plan.specs.Shared.{IsShared, IsPlanning, CanShare, AreBestParts, AreParts, IsGiven}
 use Rattle.bw_plan.proofs.NoSearchNeeded.{given-IsShared, given-leaf}
 use Rattle.bw_model.proofs.CallerLemmas.{capacity_le, parent_lt, is_child_no, parent_from_is_child}
 use Rattle.bw_model.proofs.CallerLemmas.{child_at, get_or-map, same_map, listed_child}
@@ -357,3 +359,40 @@ children-CanSplit groups valid most g amount ws ms ew em enough small =
       enough = omega (arith, enough, whole);
       small = small;
     }
+
+-- values that are cut one by one, and a list that is cut
+cut_one_by_one : (bound : ℕ) (f : ℕ → ℕ) (xs : List ℕ)
+    → map (λ x. min (f x) bound) xs ≡ cut_at bound (map f xs)
+cut_one_by_one bound f [] = refl
+cut_one_by_one bound f (x ∷ xs) = let rest = cut_one_by_one bound f xs in cc
+
+-- a group with children can split what it has among mosts that are cut at it
+pub children-CutSplit : (groups : Groups) → IsInstance groups
+    → (most amounts : List ℕ) (g amount : ℕ) (ws ms : List ℕ) → CanShare groups most amounts g
+    → is_leaf groups.rows g ≡ false → amount ≡ get_or amounts g 0 →
+    ws ≡ child_weights groups.rows g →
+    ms ≡ map (λ child. min (slice_index most child) amount) (children_of groups.rows g)
+    → CanSplit amount ws ms
+children-CutSplit groups valid most amounts g amount ws ms share inner has ew em =
+    let mosts = map (slice_index most) (children_of groups.rows g) in
+    let enough = share.enough inner in
+    let can : CanSplit amount ws mosts =
+    children-CanSplit groups valid most g amount ws mosts ew refl (omega (arith, enough, has))
+    (omega (arith, share.small, has)) in
+    rw (em ∙ cut_one_by_one amount (slice_index most) (children_of groups.rows g))
+    (cut-CanSplit amount ws mosts can)
+
+-- the best split among mosts that are cut at the amount
+pub cut-AreBestParts : (groups : Groups) (most amounts : List ℕ) (g amount : ℕ)
+    (ws ms parts : List ℕ) → amount ≡ get_or amounts g 0 → ws ≡ child_weights groups.rows g →
+    ms ≡ map (λ child. min (slice_index most child) amount) (children_of groups.rows g) →
+    IsBestSplit amount ws ms parts → AreBestParts groups most amounts g parts
+cut-AreBestParts groups most amounts g amount ws ms parts has ew em best =
+    let mosts = map (slice_index most) (children_of groups.rows g) in
+    let cut : ms ≡ cut_at amount mosts =
+    em ∙ cut_one_by_one amount (slice_index most) (children_of groups.rows g) in
+    let same : IsBestSplit amount (child_weights groups.rows g) (cut_at amount mosts) parts =
+    rw (ew, cut) at best in
+    let whole : IsBestSplit amount (child_weights groups.rows g) mosts parts =
+    cut-IsBestSplit amount (child_weights groups.rows g) mosts parts same in
+    rw has at whole

@@ -5,7 +5,7 @@ use bw_split::Work;
 #[derive(Drop)]
 pub struct CountedParts {
     /// One part for each child in order, in slices.
-    pub parts: Vec<u64>,
+    pub parts: Vec<u16>,
     /// The count, without data at run time.
     pub work: Work,
 }

@@ -6,14 +6,14 @@ ghost use Rattle.bw_model.specs.Groups.{children_of, is_leaf};
 ghost use Rattle.bw_plan.specs.Cost.{IsOneCounted, AreCountedParts};
 ghost use Rattle.bw_plan.specs.Shared.{CanShare, AreBestParts, AreParts, IsGiven, IsSharedOut};
 
-use crate::children::{child_values, child_weights};
+use crate::children::{cut_child_values, narrow_child_weights};
 use crate::counted_parts::CountedParts;
 use bw_model::Instance;
-use bw_split::{Work, fits_in, split_counted, split_scarce};
+use bw_split::{Work, split_counted, split_scarce, sum_of};
 use std::alloc::{AllocError, Global};
 
 // Writes each part to its place.
-fn write_parts(amounts: &mut Vec<u64>, places: &[u32], parts: &[u64])
+fn write_parts(amounts: &mut Vec<u64>, places: &[u32], parts: &[u16])
     requires part_each { length parts.now ≡ length places.now }
     requires within { EachIndex places.now
         (λ k. slice_index places.now k < length amounts.old.items) }
@@ -26,7 +26,7 @@ fn write_parts(amounts: &mut Vec<u64>, places: &[u32], parts: &[u64])
         → slice_index amounts.new.items i ≡ slice_index amounts.old.items i }
 {
     for k in 0..places.len() {
-        amounts[places[k] as usize] = parts[k];
+        amounts[places[k] as usize] = u64::from(parts[k]);
     }
 }
 
@@ -38,7 +38,7 @@ fn split_among(
     amounts: &[u64],
     g: u32,
     work: &mut Work,
-) -> Result<Vec<u64>, AllocError>
+) -> Result<Vec<u16>, AllocError>
     requires can_share { CanShare instance.now most.now amounts.now g }
     requires inner { is_leaf instance.now.rows g ≡ false }
     ensures parts { IfOk result
@@ -47,15 +47,10 @@ fn split_among(
 {
     // its contract says that the weights are in range
     let _rows = instance.rows();
-    let mosts = child_values(alloc, instance, most, g)?;
-    let weights = child_weights(alloc, instance, g)?;
-    split_counted(
-        alloc,
-        amounts[g as usize],
-        weights.as_slice(),
-        mosts.as_slice(),
-        work,
-    )
+    let amount = amounts[g as usize];
+    let mosts = cut_child_values(alloc, instance, most, g, amount)?;
+    let weights = narrow_child_weights(alloc, instance, g)?;
+    split_counted(alloc, amount, weights.as_slice(), mosts.as_slice(), work)
 }
 
 // The parts of what a group has, one for each child in order, in slices. The list is empty, and
@@ -67,7 +62,7 @@ fn parts_of(
     amounts: &[u64],
     g: u32,
     work: &mut Work,
-) -> Result<Vec<u64>, AllocError>
+) -> Result<Vec<u16>, AllocError>
     requires { CanShare instance.now most.now amounts.now g }
     ensures parts { IfOk result
         (λ parts. AreParts instance.now most.now amounts.now g parts.items) }
@@ -101,7 +96,7 @@ pub(crate) fn counted_parts_of(
 }
 
 /// Gives the children of a group what it has: all to an only child, else each its part.
-pub fn give(instance: &Instance, g: u32, parts: &[u64], amounts: &mut Vec<u64>)
+pub fn give(instance: &Instance, g: u32, parts: &[u16], amounts: &mut Vec<u64>)
     requires row { g < length instance.now.rows }
     requires amount_each { length amounts.old.items ≡ length instance.now.rows }
     requires part_each { 0 < slice_index amounts.old.items g
@@ -139,13 +134,13 @@ fn share_among(
 {
     // its contract says that the weights are in range
     let _rows = instance.rows();
-    let mut mosts = child_values(alloc, instance, most, g)?;
     let amount = amounts[g as usize];
-    if fits_in(mosts.as_slice(), amount) {
+    let mut mosts = cut_child_values(alloc, instance, most, g, amount)?;
+    if sum_of(mosts.as_slice()) <= amount {
         give(instance, g, mosts.as_slice(), amounts);
         return Ok(());
     }
-    let weights = child_weights(alloc, instance, g)?;
+    let weights = narrow_child_weights(alloc, instance, g)?;
     // each part takes the place of its child's most
     split_scarce(amount, weights.as_slice(), mosts.as_mut_slice(), work);
     give(instance, g, mosts.as_slice(), amounts);

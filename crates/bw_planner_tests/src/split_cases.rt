@@ -1,5 +1,7 @@
 //! Splits of one list of siblings, by a level and by marks, against all lists and a plain program.
-use bw_split::{Work, can_split, level_of, split, split_by_marks, split_counted};
+ghost use Rattle.bw_split.specs.Conditions.{CanSplit};
+
+use bw_split::{Work, can_split, level_of, narrowed, split, split_by_marks, split_counted};
 use std::alloc::{AllocError, Global};
 use std::process::Abort;
 use std::test::Fail;
@@ -62,15 +64,36 @@ fn assert_fours(rt: &impl Abort, parts: &[u64]) {
     assert!(rt; last == THREES.as_slice());
 }
 
+/// The split of lists of 16 bits, which is counted.
+fn counted(
+    alloc: Global,
+    amount: u64,
+    weights: &[u64],
+    most: &[u64],
+) -> Result<Vec<u64>, AllocError>
+    requires { CanSplit amount weights.now most.now }
+{
+    let weights = narrowed(alloc, weights, 10000)?;
+    let most = narrowed(alloc, most, amount)?;
+    let parts = split_counted(
+        alloc,
+        amount,
+        weights.as_slice(),
+        most.as_slice(),
+        &mut Work::new(),
+    )?;
+    let mut wide = Vec::with_capacity(alloc, parts.len())?;
+    for part in parts.as_slice() {
+        wide.push(u64::from(*part))?;
+    }
+    Ok(wide)
+}
+
 fn assert_many(rt: &impl Abort, alloc: Global) -> Result<(), AllocError> {
     assert!(rt; can_split(64000, &WEIGHTS, &MOST));
     assert_fours(rt, &split(alloc, 64000, &WEIGHTS, &MOST)?);
     assert_fours(rt, &split_by_marks(alloc, 64000, &WEIGHTS, &MOST)?);
-    let mut work = Work::new();
-    assert_fours(
-        rt,
-        &split_counted(alloc, 64000, &WEIGHTS, &MOST, &mut work)?,
-    );
+    assert_fours(rt, &counted(alloc, 64000, &WEIGHTS, &MOST)?);
     Ok(())
 }
 

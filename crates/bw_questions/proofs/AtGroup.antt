@@ -23,6 +23,7 @@ use Rattle.bw_questions.specs.declared.from_root.meeting.Meeting.{Meeting}
 use Rattle.bw_questions.specs.Passes.{AreColumns, AreNeedsBelow, CanShareAt, IsFirst}
 use Rattle.bw_questions.specs.Passes.{IsLeastAt, IsLeastThat, IsNeed, IsShared, Suffices, of_children}
 use Rattle.bw_questions.specs.Passes.{AreAllNeeds, IsPassed}
+use Rattle.bw_questions.proofs.Levels.{part_le_sum}
 
 -- images written out
 pub map_is : (f : ℕ → ℕ) (xs ys : List ℕ) → length ys ≡ length xs
@@ -34,15 +35,6 @@ map_is f (x ∷ xs) (y ∷ ys) e h =
     let head : f x ≡ y = h 0 (omega arith) in
     let rest : map f xs ≡ ys = map_is f xs ys (omega arith) (λ k below. h (suc k) (omega arith)) in
     cc
-
--- a part is at most the sum
-pub part_le_sum : (xs : List ℕ) (k : ℕ) → k < length xs → get_or xs k 0 ≤ sum xs
-part_le_sum xs k below =
-    let s : sum_by (λ x. x) xs ≡ sum xs = sym (sum-map (λ x. x) xs) ∙ ap sum (same xs) in
-    omega (arith, get_or-le-sum_by (λ x. x) xs k 0 below, s)
-  where
-    same : (xs : List ℕ) → map (λ x. x) xs ≡ xs
-    same xs = map_is (λ x. x) xs xs refl (λ k below. refl)
 
 -- the children of a group as a list of places
 module _ (rows : List Row) (g : ℕ) (children : List ℕ) (are : children ≡ children_of rows g) where

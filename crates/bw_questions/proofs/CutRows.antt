@@ -5,17 +5,16 @@ use Rattle.std.specs.Prelude.{min, nat_lt, if◌then◌else◌}
 use Rattle.std.specs.Option.{option_map_or}
 use Rattle.std.proofs.lemmas.Bool.{cases_lt, lt-ltb, le-ltb}
 use Rattle.std.proofs.lemmas.List.{get_or_past}
-use Rattle.std.proofs.lemmas.List.FromFn.{get_or-map-range_with_len, length-map-range_with_len}
 use Rattle.std.proofs.lemmas.Option.{same_Some}
 use Rattle.bw_model.specs.declared.row.Row.{Row}
-use Rattle.bw_model.specs.Groups.{Groups, IsInstance, AreTreeRows, no_row, parent_of, row_of}
+use Rattle.bw_model.specs.Groups.{Groups, IsInstance, no_row}
 use Rattle.bw_model.specs.Groups.{demand_of, weight_of, limit_of}
 use Rattle.bw_model.specs.Host.{capacity_of}
 use Rattle.bw_change_laws.specs.Host.{IsRoomier}
 use Rattle.bw_change_laws.specs.Tree.{IsSameTree}
-use Rattle.bw_change_laws.proofs.CallerLemmas.{depth_same, leaf_same}
 use Rattle.bw_questions.specs.HeldRule.{own_limit}
 use Rattle.bw_questions.specs.OtherLimits.{cut_row, cut_to, full_limit}
+use Rattle.bw_questions.proofs.ChangedRows as changed
 use Rattle.bw_questions.proofs.LeastLaw.{none_some}
 
 -- the limit in force on a host of this capacity
@@ -68,47 +67,30 @@ cut_lower capacity (Some own) limit before e = elim (cases_lt limit (min capacit
 ]
 
 module _ (groups : Groups) (limits : List ℕ) where
+  abbrev row : ℕ → Row
+  row = cut_row groups limits
+
   pub as_many : length (cut_to groups limits).rows ≡ length groups.rows
-  as_many = length-map-range_with_len (cut_row groups limits) 0 (length groups.rows)
-
-  row_at : (g : ℕ) → g < length groups.rows
-      → row_of (cut_to groups limits).rows g ≡ cut_row groups limits g
-  row_at g below =
-      get_or-map-range_with_len (cut_row groups limits) 0 (length groups.rows) g g no_row below
-      (omega arith)
-
-  -- A field that limits do not change is equal, past the last row too.
-  everywhere : {A : Type 0} (f : Row → A)
-      → ((g : ℕ) → f (cut_row groups limits g) ≡ f (row_of groups.rows g))
-      → (g : ℕ) → f (row_of (cut_to groups limits).rows g) ≡ f (row_of groups.rows g)
-  everywhere f same g = elim (cases_lt g (length groups.rows)) [
-    | inl within ↦ ap f (row_at g within) ∙ same g
-    | inr past ↦
-        ap f (get_or_past (cut_to groups limits).rows g no_row (omega (arith, past, as_many)))
-        ∙ sym (ap f (get_or_past groups.rows g no_row past))
-  ]
+  as_many = changed.as_many groups row
 
   pub tree_kept : IsSameTree groups.rows (cut_to groups limits).rows
-  tree_kept = record {
-    as_many = as_many;
-    parents = everywhere (λ r. r.parent) (λ g. refl);
-  }
+  tree_kept = changed.tree_kept groups row (λ g. refl)
 
   pub weights_kept : (g : ℕ) → weight_of (cut_to groups limits).rows g ≡ weight_of groups.rows g
-  weights_kept = everywhere (λ r. r.weight) (λ g. refl)
+  weights_kept = changed.everywhere groups row (λ r. r.weight) (λ g. refl)
 
   pub demands_kept : (g : ℕ) → demand_of (cut_to groups limits).rows g ≡ demand_of groups.rows g
-  demands_kept = everywhere (λ r. r.demand) (λ g. refl)
+  demands_kept = changed.everywhere groups row (λ r. r.demand) (λ g. refl)
 
   pub limit_here : (g : ℕ) → g < length groups.rows → own_limit (cut_to groups limits).rows g
       ≡ cut_limit (capacity_of groups.shape) (own_limit groups.rows g) (get_or limits g 0)
-  limit_here g below = ap (λ (r : Row). r.limit) (row_at g below)
+  limit_here g below = ap (λ (r : Row). r.limit) (changed.row_at groups row g below)
 
   pub limit_past : (g : ℕ) → length groups.rows ≤ g
       → own_limit (cut_to groups limits).rows g ≡ None
   limit_past g past =
       ap (λ (r : Row). r.limit)
-      (get_or_past (cut_to groups limits).rows g no_row (omega (arith, past, as_many)))
+      (changed.row_past groups row g past ∙ get_or_past groups.rows g no_row past)
 
   -- A limit from the one in force on changes nothing.
   pub own_kept : (g : ℕ) → (g < length groups.rows → full_limit groups g ≤ get_or limits g 0)
@@ -118,8 +100,7 @@ module _ (groups : Groups) (limits : List ℕ) where
         limit_here g within
         ∙ cut_none (capacity_of groups.shape) (own_limit groups.rows g) (get_or limits g 0)
         (full within)
-    | inr past ↦
-        limit_past g past ∙ sym (ap (λ (r : Row). r.limit) (get_or_past groups.rows g no_row past))
+    | inr past ↦ ap (λ (r : Row). r.limit) (changed.row_past groups row g past)
   ]
 
   pub limit_kept : (g : ℕ) → (g < length groups.rows → full_limit groups g ≤ get_or limits g 0)
@@ -145,45 +126,19 @@ module _ (groups : Groups) (limits : List ℕ) where
             (known.0, limit_here (suc g) within ∙ known.1, known.2)
         | inr past ↦ (
           limit,
-          limit_past (suc g) past
-              ∙ sym (ap (λ (r : Row). r.limit) (get_or_past groups.rows (suc g) no_row past)) ∙ e,
+          ap (λ (r : Row). r.limit) (changed.row_past groups row (suc g) past) ∙ e,
           omega arith,
         )
       ]
 
   module _ (valid : IsInstance groups) where
-    inside : (g : ℕ) → g < length (cut_to groups limits).rows → g < length groups.rows
-    inside g below = omega (arith, below, as_many)
-
-    is_tree : AreTreeRows (cut_to groups limits).rows
-    is_tree = record {
-      has_root = omega (arith, valid.tree.has_root, as_many);
-      root_on_top = tree_kept.parents 0 ∙ valid.tree.root_on_top;
-      parent_before = λ g pos below.
-          let known : (p : ℕ) × (parent_of groups.rows g ≡ Some p) × (p < g) =
-          valid.tree.parent_before g pos (inside g below) in
-          (known.0, tree_kept.parents g ∙ known.1, known.2);
-    }
-
     -- The limit in force of the root is the capacity.
     pub root_full : full_limit groups 0 ≡ capacity_of groups.shape
     root_full = ap (in_force (capacity_of groups.shape)) valid.root_unlimited
 
     pub cut-IsInstance : capacity_of groups.shape ≤ get_or limits 0 0
         → IsInstance (cut_to groups limits)
-    cut-IsInstance unlimited = record {
-      host = valid.host;
-      tree = is_tree;
-      few = omega (arith, valid.few, as_many);
-      weights = λ g below. rw (weights_kept g) (valid.weights g (inside g below));
-      shallow = λ g below.
-          rw (depth_same groups.rows (cut_to groups limits).rows valid.tree is_tree tree_kept g)
-          (valid.shallow g (inside g below));
-      inner_idle = λ g below inner.
-          demands_kept g
-          ∙ valid.inner_idle g (inside g below)
-          (sym (leaf_same groups.rows (cut_to groups limits).rows tree_kept g) ∙ inner);
-      demands = λ g below. rw (demands_kept g) (valid.demands g (inside g below));
-      root_unlimited =
-          own_kept 0 (λ within. omega (arith, root_full, unlimited)) ∙ valid.root_unlimited;
-    }
+    cut-IsInstance unlimited =
+        changed.changed-IsInstance groups row (λ g. refl) (λ g. refl) valid valid.weights
+        (cut_none (capacity_of groups.shape) (own_limit groups.rows 0) (get_or limits 0 0)
+        (omega (arith, root_full, unlimited)) ∙ valid.root_unlimited)

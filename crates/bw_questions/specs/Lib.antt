@@ -9,6 +9,7 @@ pub mod HeldLaws
 pub mod HeldRule
 pub mod Hunger
 pub mod Laws
+pub mod LeafReadings
 pub mod Least
 pub mod Needs
 pub mod OtherLimits

@@ -11,6 +11,7 @@ ghost use Rattle.bw_questions.specs.HeldRule.{IsRound, everyone, round_of};
 mod asking;
 mod calm;
 mod laws;
+mod leaf;
 mod limits;
 mod reading;
 mod served;
@@ -30,6 +31,7 @@ pub use laws::{
     none_served_above_a_limit, none_served_below_its_guarantee, nothing_else_stays,
     plan_is_reached, plan_stays, wants_give_the_plan,
 };
+pub use leaf::{LeafTimes, leaf_reading};
 use limits::limits_of;
 pub use reading::{Reading, RoundTimes, reading_of};
 pub use served::{Served, serve};

@@ -14,11 +14,12 @@ mod why;
 pub use from_root::{Measure, Tuned, there_is_one_from_root, tune};
 pub use guaranteed::{GuaranteeFault, guarantee};
 pub use held::{
-    Held, Reading, RoundTimes, Served, asked_is_admitted_as_planned, calm_holds_nobody,
-    can_be_written, exact_readings_are_true, guarantee_is_admitted, hold, limits_admit_the_plan,
-    none_above_its_limit, none_below_its_guarantee, none_served_above_a_limit,
-    none_served_below_its_guarantee, nothing_else_stays, plan_is_reached, plan_stays, reading_of,
-    serve, wants_give_the_plan, weight_of_limit, written_quota,
+    Held, LeafTimes, Reading, RoundTimes, Served, asked_is_admitted_as_planned, calm_holds_nobody,
+    can_be_written, exact_readings_are_true, guarantee_is_admitted, hold, leaf_reading,
+    limits_admit_the_plan, none_above_its_limit, none_below_its_guarantee,
+    none_served_above_a_limit, none_served_below_its_guarantee, nothing_else_stays,
+    plan_is_reached, plan_stays, reading_of, serve, wants_give_the_plan, weight_of_limit,
+    written_quota,
 };
 pub use least::{least_limit, least_processors, least_weight};
 pub use other_limits::{Limited, limit_others, limits_are_one};

@@ -10,6 +10,8 @@ mod files_cases;
 #[cfg(test)]
 mod hierarchy_cases;
 #[cfg(test)]
+mod kept_cases;
+#[cfg(test)]
 mod stat_cases;
 #[cfg(test)]
 mod stream_cases;

@@ -53,7 +53,10 @@ static ONE_PERIOD: [(&str, &str); 14] = [
 ];
 
 // The lines of a script, and their answers.
-fn joined(alloc: Global, cases: &[(&str, &str)]) -> Result<(String, String), AllocError> {
+pub(crate) fn joined(
+    alloc: Global,
+    cases: &[(&str, &str)],
+) -> Result<(String, String), AllocError> {
     let mut script = String::new(alloc);
     let mut wanted = String::new(alloc);
     for (line, answer) in cases {

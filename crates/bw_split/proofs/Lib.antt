@@ -1,5 +1,6 @@
 -- The files of lemmas.
 pub mod CallerLemmas
+mod Cut
 mod Filling
 mod LastMarks
 mod NextMarks

@@ -1,6 +1,6 @@
 -- The rest of an amount, a slice each to the first children that take one more a step above the
 -- level.
-use Rattle.std.proofs.Common.{◌≡◌, ℕ, ◌+◌, ◌-◌, ◌*◌, ◌<◌, ◌≤◌, ◌⊎◌, List, length, get_or, set}
+use Rattle.std.proofs.Common.{◌≡◌, ℕ, zero, suc, ◌+◌, ◌-◌, ◌*◌, ◌<◌, ◌≤◌, ◌⊎◌, List, length, get_or, set}
 use Rattle.std.proofs.Common.{refl, sym, ap, ◌∙◌, arith, inl, inr}
 use Rattle.std.specs.Prelude.{Bool, true, false, IsTrue, sum}
 use mir.Val.{bool_byte}
@@ -10,7 +10,7 @@ use Rattle.std.proofs.Math.ListN.{length-set}
 use Rattle.bw_model.specs.Split.{IsBestSplit}
 use Rattle.bw_model.proofs.CallerLemmas.{IsPairwise, pairwise-IsBestSplit, cross_lt_right}
 use Rattle.bw_model.proofs.CallerLemmas.{sum_below, sum_below-ap, sum-is}
-use Rattle.bw_split.specs.Levels.{taken_by_all}
+use Rattle.bw_split.specs.Levels.{taken, taken_by_all}
 use Rattle.bw_split.proofs.Takes.{IsTaken, taken-is, taken-mono, taken-step, each_takes, same_cost}
 use Rattle.bw_split.proofs.Takes.{by_all-is, sum_below-more}
 use Rattle.bw_model.specs.declared.limits.TheConstants.{MIN_WEIGHT, MAX_WEIGHT}
@@ -215,6 +215,61 @@ written-IsGiven level rest left amount weights most parts each whole enough w =
       sums = omega (arith, sum-is parts, all, w.sums, none, lower);
       seen = w.seen;
       unseen = w.unseen;
+    }
+
+-- two sums that are of the same numbers from a place on
+sum_below-tail : (n at : ℕ) (f g : ℕ → ℕ) → at ≤ n → ((k : ℕ) → k < n → at ≤ k → f k ≡ g k)
+    → sum_below n f + sum_below at g ≡ sum_below n g + sum_below at f
+sum_below-tail zero at f g le same = let none : at ≡ 0 = omega arith in rw none refl
+sum_below-tail (suc n) at f g le same = elim (cases_lt n at) [
+  | inl last ↦ let all : at ≡ suc n = omega arith in rw all (omega arith)
+  | inr more ↦
+      let front : sum_below n f + sum_below at g ≡ sum_below n g + sum_below at f =
+      sum_below-tail n at f g more (λ k below. same k (omega arith)) in
+      let own : f n ≡ g n = same n (omega arith) more in
+      omega (arith, front, own)
+]
+
+-- Once no slice is left, the other parts are what their children take at the level.
+pub written-rest : (level rest left at : ℕ) (weights most parts all : List ℕ) → left ≡ 0
+    → length most ≡ length weights → at ≤ length weights →
+    (w : IsWritten level rest left at weights most parts) → length all ≡ length parts
+    → ((k : ℕ) → k < at → get_or all k 0 ≡ get_or parts k 0)
+    → ((k : ℕ) → k < length weights → at ≤ k
+    → get_or all k 0 ≡ each_takes level weights parts k)
+    → IsGiven level rest w.from weights most all
+written-rest level rest left at weights most parts all none each inside w same before after =
+    let n = length weights in
+    let long : length all ≡ length weights = same ∙ w.lengths ∙ each in
+    let taken_after : (k : ℕ) → k < length weights → at ≤ k
+    → get_or all k 0 ≡ each_takes level weights most k =
+    λ k below above. after k below above
+    ∙ ap (λ (m : ℕ). taken level (get_or weights k 0) m) (w.unwritten k above) in
+    let front : sum_below at (λ k. get_or all k 0) ≡ sum_below at (λ k. get_or parts k 0) =
+    sum_below-ap at (λ k. get_or all k 0) (λ k. get_or parts k 0) before in
+    let whole : sum_below n (λ k. get_or all k 0) + sum_below at (each_takes level weights most)
+    ≡ sum_below n (each_takes level weights most) + sum_below at (λ k. get_or all k 0) =
+    sum_below-tail n at (λ k. get_or all k 0) (each_takes level weights most) inside taken_after in
+    let summed : sum_below (length all) (λ k. get_or all k 0)
+    ≡ sum_below n (λ k. get_or all k 0) =
+    ap (λ (m : ℕ). sum_below m (λ k. get_or all k 0)) long in
+    record {
+      lengths = long;
+      sums = omega (
+        arith,
+        sum-is all,
+        summed,
+        whole,
+        front,
+        w.sums,
+        none,
+        by_all-is level weights most,
+      );
+      seen = λ k below. before k (omega (arith, below, w.inside)) ∙ w.seen k below;
+      unseen = λ k above below. elim (cases_lt k at) [
+        | inl early ↦ before k early ∙ w.unseen k above early
+        | inr late ↦ taken_after k below late
+      ];
     }
 
 module _ (level given from : ℕ) (weights most parts : List ℕ)

@@ -10,7 +10,7 @@ use Rattle.bw_model.proofs.CallerLemmas.{sum_below, sum-is, sum_below-le}
 use Rattle.bw_model.proofs.CallerLemmas.{sum_below-zero, sum_by-range}
 use Rattle.bw_split.specs.Levels.{taken, taken_by_all}
 use Rattle.bw_model.specs.declared.limits.TheConstants.{MAX_WEIGHT}
-use Rattle.bw_split.specs.declared.limits.TheConstants.{STEPS, GREATEST_LEVEL, MOST_TAKEN}
+use Rattle.bw_split.specs.declared.limits.TheConstants.{STEPS, FINE, LOW_PART}
 
 -- what taking x at a level says: the last mark is at or below the level, and a next one below the
 -- maximum above it
@@ -24,12 +24,31 @@ unfolding taken
 taken-is level weight most =
     record { within = omega arith; low = omega arith; high = λ h. omega arith }
 
+-- the product of a weight and the steps above whole costs, by their parts
+steps-apart : (steps weight : ℕ) → steps * weight / STEPS
+    ≡ (steps / FINE * weight + steps % FINE * weight / FINE) / (STEPS / FINE)
+steps-apart steps weight =
+    let apart : steps * weight ≡ FINE * (steps / FINE * weight) + steps % FINE * weight =
+    omega (arith, ap (λ n. n * weight) (div-add-mod' steps FINE)) in
+    omega (arith, apart)
+
 -- the slices at a level, with its whole costs and its steps apart
 pub taken-apart : (level weight : ℕ) → (level * weight + STEPS) / (2 * STEPS)
-    ≡ (level / STEPS * weight + level % STEPS * weight / STEPS + 1) / 2
+    ≡ (level / STEPS * weight + (level % STEPS / FINE * weight
+    + level % STEPS % FINE * weight / FINE) / (STEPS / FINE) + 1) / 2
 taken-apart level weight =
     let apart : level * weight ≡ STEPS * (level / STEPS * weight) + level % STEPS * weight =
     omega (arith, ap (λ n. n * weight) (div-add-mod' level STEPS)) in
+    omega (arith, apart, steps-apart (level % STEPS) weight)
+
+-- the slices at a level, with its parts and the steps above them apart
+pub low-apart : (level weight : ℕ) → (level * weight + STEPS) / (2 * STEPS)
+    ≡ (level / LOW_PART * weight + level % LOW_PART * weight / LOW_PART + STEPS / LOW_PART)
+    / (2 * STEPS / LOW_PART)
+low-apart level weight =
+    let apart : level * weight
+    ≡ LOW_PART * (level / LOW_PART * weight) + level % LOW_PART * weight =
+    omega (arith, ap (λ n. n * weight) (div-add-mod' level LOW_PART)) in
     omega (arith, apart)
 
 -- a child that could take x takes so many
@@ -49,12 +68,6 @@ pub taken-step : (t weight most : ℕ) → weight ≤ MAX_WEIGHT
     → taken (t + 1) weight most ≤ taken t weight most + 1
 unfolding taken
 taken-step t weight most h = omega arith
-
-pub taken-bound : (t weight most : ℕ) → t ≤ GREATEST_LEVEL → weight ≤ MAX_WEIGHT
-    → taken t weight most ≤ MOST_TAKEN
-unfolding taken
-taken-bound t weight most h w = let a : t * weight ≤ GREATEST_LEVEL * MAX_WEIGHT =
-    omega (arith, mul-le-mul_right weight h, mul-le-mul_left GREATEST_LEVEL w) in omega (arith, a)
 
 taken-zero : (weight most : ℕ) → taken 0 weight most ≡ 0
 unfolding taken

@@ -1,5 +1,5 @@
 -- The conditions of a split, and the splits that need no search.
-use Rattle.std.specs.Prelude.{◌≡◌, ◌⊎◌, ℕ, ◌<◌, ◌≤◌, List, length, sum, slice_index}
+use Rattle.std.specs.Prelude.{◌≡◌, ◌⊎◌, ℕ, ◌<◌, ◌≤◌, List, length, map, min, sum, slice_index}
 use Rattle.bw_model.specs.declared.limits.TheConstants.{MIN_WEIGHT, MAX_WEIGHT, MAX_CAPACITY}
 use Rattle.bw_split.specs.declared.limits.TheConstants.{MAX_CHILDREN}
 
@@ -21,3 +21,7 @@ pub record CanSplit (amount : ℕ) (weights most : List ℕ) : Type 0 where
 -- nothing to split, all that the children can take, or at most two children
 abbrev pub NeedsNoSearch : ℕ → List ℕ → List ℕ → Type 0
 NeedsNoSearch amount weights most = (amount ≡ 0) ⊎ ((amount ≡ sum most) ⊎ (length weights ≤ 2))
+
+-- the numbers of a list, each cut at a bound
+abbrev pub cut_at : ℕ → List ℕ → List ℕ
+cut_at bound numbers = map (λ number. min number bound) numbers

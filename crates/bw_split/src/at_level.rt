@@ -1,11 +1,36 @@
 //! The slices that children take at a level of cost.
-ghost use Rattle.std.specs.Prelude.{◌≡◌, ◌+◌, ◌≤◌, length};
+ghost use Rattle.std.specs.Prelude.{◌≡◌, ◌+◌, ◌*◌, ◌/◌, ◌<◌, ◌≤◌, length};
 ghost use Rattle.bw_split.specs.Conditions.{AreWeights};
 ghost use Rattle.bw_split.specs.Levels.{taken, taken_by_all};
 
 use crate::counted::Tally;
-use crate::limits::{GREATEST_LEVEL, MAX_CHILDREN, MOST_TAKEN, STEPS};
+use crate::limits::{FINE, GREATEST_LEVEL, LOW_LEVELS, LOW_PART, MAX_CHILDREN, STEPS};
 use bw_model::limits::MAX_WEIGHT;
+
+// The slices without a maximum at a low level. It is taken apart into parts and steps.
+fn low_slices_at(level: u64, weight: u32) -> u32
+    requires low { level < LOW_LEVELS }
+    requires weight_in_range { weight ≤ MAX_WEIGHT }
+    ensures { result ≡ (level * weight + STEPS) / (2 * STEPS) }
+{
+    let parts = (level / LOW_PART) as u32;
+    let by_steps = (level % LOW_PART) as u32 * weight / LOW_PART as u32;
+    (parts * weight + by_steps + (STEPS / LOW_PART) as u32) / (2 * STEPS / LOW_PART) as u32
+}
+
+// The slices without a maximum at any level. It is taken apart into whole costs and steps, and the
+// steps once more.
+fn slices_at(level: u64, weight: u32) -> u32
+    requires level_in_range { level ≤ GREATEST_LEVEL }
+    requires weight_in_range { weight ≤ MAX_WEIGHT }
+    ensures { result ≡ (level * weight + STEPS) / (2 * STEPS) }
+{
+    let costs = (level / STEPS) as u32;
+    let steps = (level % STEPS) as u32;
+    let by_fine = steps % FINE * weight / FINE;
+    let by_steps = (steps / FINE * weight + by_fine) / (STEPS as u32 / FINE);
+    (costs * weight + by_steps + 1) / 2
+}
 
 /// The slices that a child takes at a level: as many as have their mark `(2k - 1) / weight` at or
 /// below the level, and at most its maximum. A level is a number of steps of the cost `1 / STEPS`.
@@ -13,22 +38,24 @@ use bw_model::limits::MAX_WEIGHT;
 /// `(2k - 1) / weight <= level / STEPS` says `2k * STEPS <= level * weight + STEPS`. So k is at
 /// most `(level * weight + STEPS) / (2 * STEPS)`, rounded down.
 ///
-/// The level is taken apart into whole costs and steps. So all factors have 32 bits, and a vector
-/// of the processor makes two products at once.
-pub(crate) fn takes(level: u64, weight: u64, most: u64) -> u64
+/// Each product has 32 bits, so a vector of the processor makes four at once. A child takes two
+/// products at a low level, else three. The compiler makes a loop of each case.
+pub(crate) fn takes(level: u64, weight: u16, most: u16) -> u16
     requires level_in_range { level ≤ GREATEST_LEVEL }
     requires weight_in_range { weight ≤ MAX_WEIGHT }
     ensures taken { result ≡ taken level weight most }
-    ensures fits { result ≤ MOST_TAKEN }
 {
-    let weight = u64::from(weight as u32);
-    let costs = u64::from((level / STEPS) as u32);
-    let by_steps = level % STEPS * weight / STEPS;
-    ((costs * weight + by_steps + 1) / 2).min(most)
+    let weight = u32::from(weight);
+    let slices = if level < LOW_LEVELS {
+        low_slices_at(level, weight)
+    } else {
+        slices_at(level, weight)
+    };
+    slices.min(u32::from(most)) as u16
 }
 
 /// The slices that all children take at a level. Only this function adds a round.
-pub(crate) fn test_level(level: u64, weights: &[u64], most: &[u64], work: &mut Tally) -> u64
+pub(crate) fn test_level(level: u64, weights: &[u16], most: &[u16], work: &mut Tally) -> u64
     requires level_in_range { level ≤ GREATEST_LEVEL }
     requires one_each { length most.now ≡ length weights.now }
     requires few { length weights.now ≤ MAX_CHILDREN }
@@ -38,9 +65,9 @@ pub(crate) fn test_level(level: u64, weights: &[u64], most: &[u64], work: &mut T
     ensures picks { work.new.picks ≡ work.old.picks }
 {
     work.add_round();
-    let mut total = 0;
+    let mut total: u32 = 0;
     for i in 0..weights.len() {
-        total += takes(level, weights[i], most[i]);
+        total += u32::from(takes(level, weights[i], most[i]));
     }
-    total
+    u64::from(total)
 }

@@ -8,7 +8,9 @@ ghost use Rattle.bw_split.specs.Conditions.{CanSplit, NeedsNoSearch};
 
 use crate::level_search::{share_by_level, split_with};
 use crate::limits::MAX_ROUNDS;
+use crate::narrow::{narrowed, sum_of, widened};
 use bw_machine::Count;
+use bw_model::limits::MAX_WEIGHT;
 use std::alloc::{AllocError, Global};
 use std::marker::Model;
 
@@ -104,7 +106,7 @@ impl Work {
     }
 }
 
-/// [`split`], with its rounds and picks added to a count.
+/// [`split`] of lists of 16 bits, with its rounds and picks added to a count.
 ///
 /// A round is counted for each level that was tested on all children, at most [`MAX_ROUNDS`]. A
 /// pick is counted for each slice that was given after the search, at most one a child. There is no
@@ -116,10 +118,10 @@ impl Work {
 pub fn split_counted(
     alloc: Global,
     amount: u64,
-    weights: &[u64],
-    most: &[u64],
+    weights: &[u16],
+    most: &[u16],
     work: &mut Work,
-) -> Result<Vec<u64>, AllocError>
+) -> Result<Vec<u16>, AllocError>
     requires { CanSplit amount weights.now most.now }
     ensures best { IfOk result (λ parts. IsBestSplit amount weights.now most.now parts.items) }
     ensures rounds { work.new.rounds ≤ work.old.rounds + MAX_ROUNDS }
@@ -131,6 +133,17 @@ pub fn split_counted(
         → work.old.rounds < work.new.rounds }
 {
     split_with(alloc, amount, weights, most, &mut work.tally)
+}
+
+// Writes the best split of an amount in the place of the maxima.
+fn share_in_place(amount: u64, weights: &[u16], most: &mut [u16])
+    requires { CanSplit amount weights.now most.old }
+    ensures { IsBestSplit amount weights.now most.old most.new }
+{
+    if sum_of(most) <= amount {
+        return;
+    }
+    share_by_level(amount, weights, most, &mut Tally::new());
 }
 
 /// The best split of an amount of slices among siblings, one part for each.
@@ -152,14 +165,17 @@ pub fn split(
     requires { CanSplit amount weights.now most.now }
     ensures best { IfOk result (λ parts. IsBestSplit amount weights.now most.now parts.items) }
 {
-    split_counted(alloc, amount, weights, most, &mut Work::new())
+    let narrow_weights = narrowed(alloc, weights, MAX_WEIGHT)?;
+    let mut parts = narrowed(alloc, most, amount)?;
+    share_in_place(amount, narrow_weights.as_slice(), parts.as_mut_slice());
+    widened(alloc, parts.as_slice())
 }
 
 /// [`split_counted`] of an amount that is known to be below the sum of the maxima, without adding
 /// them up.
 ///
 /// The parts are written in the place of the maxima, so they take no memory.
-pub fn split_scarce(amount: u64, weights: &[u64], most: &mut [u64], work: &mut Work)
+pub fn split_scarce(amount: u64, weights: &[u16], most: &mut [u16], work: &mut Work)
     requires can { CanSplit amount weights.now most.old }
     requires scarce { amount < sum most.old }
     ensures best { IsBestSplit amount weights.now most.old most.new }

@@ -8,14 +8,15 @@ use bw_model::limits::{MAX_WEIGHT, MIN_WEIGHT};
 
 // A mark of a child between two levels: its last one up to the guess, or else its next one. If
 // neither lies between them, the level in the middle.
-fn mark_near(guess: u64, level: u64, above: u64, weight: u64, most: u64) -> u64
+fn mark_near(guess: u64, level: u64, above: u64, weight: u16, most: u16) -> u64
     requires guess { guess ≤ GREATEST_LEVEL }
     requires apart { level < above }
     requires in_range { above ≤ GREATEST_LEVEL }
     requires weight_in_range { (MIN_WEIGHT ≤ weight) × (weight ≤ MAX_WEIGHT) }
     ensures { result < above }
 {
-    let taken = takes(guess, weight, most);
+    let taken = u64::from(takes(guess, weight, most));
+    let weight = u64::from(weight);
     let last = ((2 * taken).saturating_sub(1) * STEPS).div_ceil(weight);
     let next = ((2 * taken + 1) * STEPS).div_ceil(weight);
     if level < last && last < above {
@@ -29,7 +30,7 @@ fn mark_near(guess: u64, level: u64, above: u64, weight: u64, most: u64) -> u64
 
 // The first child that takes more one step below the upper level than at the lower level. So it has
 // a mark between them.
-fn undecided(level: u64, above: u64, weights: &[u64], most: &[u64]) -> Option<usize>
+fn undecided(level: u64, above: u64, weights: &[u16], most: &[u16]) -> Option<usize>
     requires apart { level < above }
     requires in_range { above ≤ GREATEST_LEVEL }
     requires one_each { length most.now ≡ length weights.now }
@@ -54,8 +55,8 @@ pub(crate) fn guess_after(
     guess: u64,
     level: u64,
     above: u64,
-    weights: &[u64],
-    most: &[u64],
+    weights: &[u16],
+    most: &[u16],
 ) -> u64
     requires guess { guess ≤ above }
     requires apart { level < above }

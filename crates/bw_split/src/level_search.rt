@@ -1,16 +1,17 @@
 //! The split by a level of cost: a search for the level in rounds, then the parts, with one slice
 //! each of the rest.
-ghost use Rattle.std.specs.Prelude.{◌≡◌, ◌+◌, ◌*◌, ◌<◌, ◌≤◌, length, sum, IfOk, IsTrue};
+ghost use Rattle.std.specs.Prelude.{◌≡◌, ◌+◌, ◌*◌, ◌<◌, ◌≤◌, ℕ, length, sum, slice_index};
+ghost use Rattle.std.specs.Prelude.{EachIndex, IfOk, IsTrue};
 ghost use Rattle.bw_model.specs.Split.{IsBestSplit};
-ghost use Rattle.bw_split.specs.Conditions.{CanSplit, NeedsNoSearch};
-ghost use Rattle.bw_split.specs.Levels.{taken_by_all};
+ghost use Rattle.bw_split.specs.Conditions.{AreWeights, CanSplit, NeedsNoSearch};
+ghost use Rattle.bw_split.specs.Levels.{taken, taken_by_all};
 
 use crate::at_level::{takes, test_level};
-use crate::conditions::fits_in;
 use crate::counted::Tally;
 use crate::ends::Ends;
 use crate::guess::guess_after;
-use crate::limits::{COARSE, GREATEST_LEVEL, MAX_ROUNDS, MOST_TAKEN, STEPS, WIDEST};
+use crate::limits::{COARSE, GREATEST_LEVEL, MAX_PART, MAX_ROUNDS, STEPS, WIDEST};
+use crate::narrow::sum_of;
 use crate::pair::first_of_two;
 use bw_model::limits::MAX_WEIGHT;
 use std::alloc::{AllocError, Global};
@@ -25,22 +26,22 @@ struct Upper {
 
 // A level at which the children take the amount or more: the last mark of the greatest maximum, or
 // of the amount, at the least weight.
-fn upper_level(amount: u64, weights: &[u64], most: &[u64]) -> Upper
+fn upper_level(amount: u64, weights: &[u16], most: &[u16]) -> Upper
     requires can { CanSplit amount weights.now most.now }
     ensures in_range { result.level ≤ GREATEST_LEVEL }
     ensures enough { amount ≤ taken_by_all result.level weights.now most.now }
 {
-    let mut whole: u64 = 0;
-    let mut least = MAX_WEIGHT;
-    let mut greatest = 0;
+    let mut whole: u32 = 0;
+    let mut least = MAX_WEIGHT as u16;
+    let mut greatest: u16 = 0;
     for i in 0..weights.len() {
-        whole += weights[i];
+        whole += u32::from(weights[i]);
         least = least.min(weights[i]);
         greatest = greatest.max(most[i]);
     }
-    let mark = 2 * greatest.min(amount) * STEPS;
-    let level = mark.saturating_sub(STEPS).div_ceil(least);
-    let unbounded = (level / COARSE).saturating_mul(whole) / (2 * STEPS / COARSE);
+    let mark = 2 * u64::from(greatest).min(amount) * STEPS;
+    let level = mark.saturating_sub(STEPS).div_ceil(u64::from(least));
+    let unbounded = (level / COARSE).saturating_mul(u64::from(whole)) / (2 * STEPS / COARSE);
     Upper {
         level,
         over: unbounded.saturating_sub(amount),
@@ -73,7 +74,7 @@ fn trial(level: u64, above: u64, reach: u64, guess: u64) -> u64
 //
 // Each trial is a guess by how far the two ends are off, moved so far that halving would still end
 // within the rounds left.
-fn search_level(amount: u64, weights: &[u64], most: &[u64], work: &mut Tally) -> Found
+fn search_level(amount: u64, weights: &[u16], most: &[u16], work: &mut Tally) -> Found
     requires can { CanSplit amount weights.now most.now }
     requires some { 0 < amount }
     ensures in_range { result.level < GREATEST_LEVEL }
@@ -114,7 +115,7 @@ fn search_level(amount: u64, weights: &[u64], most: &[u64], work: &mut Tally) ->
 }
 
 // The level of an amount, with the slices above it. An amount of 0 needs no search.
-fn find_level(amount: u64, weights: &[u64], most: &[u64], work: &mut Tally) -> Found
+fn find_level(amount: u64, weights: &[u16], most: &[u16], work: &mut Tally) -> Found
     requires { CanSplit amount weights.now most.now }
     ensures in_range { result.level < GREATEST_LEVEL }
     ensures rest { result.rest + taken_by_all result.level weights.now most.now ≡ amount }
@@ -132,8 +133,8 @@ fn find_level(amount: u64, weights: &[u64], most: &[u64], work: &mut Tally) -> F
 }
 
 // One slice more than a part, where it is given one. Only this function adds a pick.
-fn part_with(part: u64, more: bool, work: &mut Tally) -> u64
-    requires { part ≤ MOST_TAKEN }
+fn part_with(part: u16, more: bool, work: &mut Tally) -> u16
+    requires room { IsTrue more → part < MAX_PART }
     ensures more { IsTrue more → result ≡ part + 1 }
     ensures same { (IsTrue more → ⊥) → result ≡ part }
     ensures rounds { work.new.rounds ≡ work.old.rounds }
@@ -148,11 +149,26 @@ fn part_with(part: u64, more: bool, work: &mut Tally) -> u64
     }
 }
 
+// Writes in the place of each maximum, from a child on, what its child takes at a level.
+fn write_rest(from: usize, level: u64, weights: &[u16], most: &mut [u16])
+    requires level_in_range { level ≤ GREATEST_LEVEL }
+    requires one_each { length most.old ≡ length weights.now }
+    requires weights_in_range { AreWeights weights.now }
+    ensures len { length most.new ≡ length most.old }
+    ensures written { EachIndex weights.now (λ k. from ≤ k → slice_index most.new k
+        ≡ taken level (slice_index weights.now k) (slice_index most.old k)) }
+    ensures others { (k : ℕ) → k < from → slice_index most.new k ≡ slice_index most.old k }
+{
+    for i in from..weights.len() {
+        most[i] = takes(level, weights[i], most[i]);
+    }
+}
+
 // Writes in the place of each maximum what its child takes at a level.
 //
 // The rest goes, one slice each, to the first children in order that take one more a step above the
 // level. Their next marks are equal in cost, a tie, which goes to the earlier sibling.
-fn write_parts(found: Found, amount: u64, weights: &[u64], most: &mut [u64], work: &mut Tally)
+fn write_parts(found: Found, amount: u64, weights: &[u16], most: &mut [u16], work: &mut Tally)
     requires can { CanSplit amount weights.now most.old }
     requires in_range { found.level < GREATEST_LEVEL }
     requires rest { found.rest + taken_by_all found.level weights.now most.old ≡ amount }
@@ -164,15 +180,20 @@ fn write_parts(found: Found, amount: u64, weights: &[u64], most: &mut [u64], wor
 {
     let mut left = found.rest;
     for i in 0..weights.len() {
+        if left == 0 {
+            // a loop of its own, which the compiler turns into vectors
+            write_rest(i, found.level, weights, most);
+            return;
+        }
         let part = takes(found.level, weights[i], most[i]);
-        let more = left > 0 && takes(found.level + 1, weights[i], most[i]) > part;
+        let more = takes(found.level + 1, weights[i], most[i]) > part;
         left -= u64::from(more);
         most[i] = part_with(part, more, work);
     }
 }
 
 // Writes the split of an amount among at most two children in the place of their maxima.
-fn share_among_few(amount: u64, weights: &[u64], most: &mut [u64])
+fn share_among_few(amount: u64, weights: &[u16], most: &mut [u16])
     requires can { CanSplit amount weights.now most.old }
     requires scarce { amount < sum most.old }
     requires few { length weights.now ≤ 2 }
@@ -180,16 +201,16 @@ fn share_among_few(amount: u64, weights: &[u64], most: &mut [u64])
 {
     if weights.len() == 2 {
         let first = first_of_two(amount, weights, most);
-        most[0] = first;
-        most[1] = amount - first;
+        most[0] = first as u16;
+        most[1] = (amount - first) as u16;
     } else {
-        most[0] = amount;
+        most[0] = amount as u16;
     }
 }
 
 /// Writes the best split of an amount below the sum of the maxima in their place, with the rounds
 /// and picks added to a count.
-pub(crate) fn share_by_level(amount: u64, weights: &[u64], most: &mut [u64], work: &mut Tally)
+pub(crate) fn share_by_level(amount: u64, weights: &[u16], most: &mut [u16], work: &mut Tally)
     requires can { CanSplit amount weights.now most.old }
     requires scarce { amount < sum most.old }
     ensures best { IsBestSplit amount weights.now most.old most.new }
@@ -213,10 +234,10 @@ pub(crate) fn share_by_level(amount: u64, weights: &[u64], most: &mut [u64], wor
 pub(crate) fn split_with(
     alloc: Global,
     amount: u64,
-    weights: &[u64],
-    most: &[u64],
+    weights: &[u16],
+    most: &[u16],
     work: &mut Tally,
-) -> Result<Vec<u64>, AllocError>
+) -> Result<Vec<u16>, AllocError>
     requires { CanSplit amount weights.now most.now }
     ensures best { IfOk result (λ parts. IsBestSplit amount weights.now most.now parts.items) }
     ensures rounds { work.new.rounds ≤ work.old.rounds + MAX_ROUNDS }
@@ -227,7 +248,7 @@ pub(crate) fn split_with(
     ensures searched { (NeedsNoSearch amount weights.now most.now → ⊥)
         → work.old.rounds < work.new.rounds }
 {
-    if fits_in(most, amount) {
+    if sum_of(most) <= amount {
         return most.to_vec(alloc);
     }
     if weights.len() <= 2 {

@@ -15,6 +15,7 @@ mod laws;
 mod level;
 mod level_search;
 pub mod limits;
+mod narrow;
 mod pair;
 
 pub use by_marks::split_by_marks;
@@ -22,3 +23,4 @@ pub use conditions::{can_split, fits_in};
 pub use counted::{Work, split, split_counted, split_scarce};
 pub use laws::{no_move_gains, split_numbers};
 pub use level::level_of;
+pub use narrow::{narrowed, sum_of};

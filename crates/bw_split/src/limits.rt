@@ -19,6 +19,16 @@ pub const STEPS: u64 = 1 << 27;
 
 const _: () = prove!(MAX_WEIGHT * MAX_WEIGHT <= STEPS);
 
+/// Levels below this one are two numbers of 18 bits: of parts, and of steps above them.
+pub const LOW_LEVELS: u64 = LOW_PART * LOW_PART;
+
+/// Steps in a part of a low level. The product of a weight and a number of 18 bits has 32 bits.
+pub const LOW_PART: u64 = 1 << 18;
+
+/// Steps in a part of a cost, for other levels. The product of a weight and the number of parts, or
+/// of steps in one, has 32 bits.
+pub const FINE: u32 = 1 << 11;
+
 /// Steps in which the first guess of a search is reckoned, so that its products fit in 64 bits.
 pub const COARSE: u64 = 4096;
 
@@ -26,5 +36,7 @@ pub const COARSE: u64 = 4096;
 /// the least weight.
 pub const GREATEST_LEVEL: u64 = (2 * MAX_CAPACITY - 1) * STEPS;
 
-/// Greatest number of slices that a child takes at any level up to the greatest one.
-pub const MOST_TAKEN: u64 = GREATEST_LEVEL * MAX_WEIGHT / (2 * STEPS) + 1;
+/// Greatest number in a list of 16 bits, as of maxima and parts in slices.
+pub const MAX_PART: u64 = 65535;
+
+const _: () = prove!(MAX_CAPACITY <= MAX_PART);

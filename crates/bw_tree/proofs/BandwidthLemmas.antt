@@ -189,7 +189,7 @@ none_slices s period =
     ap (λ n. n / (period * s.slice_us)) none ∙ zero-div (period * s.slice_us)
 
 -- without a burst the limit is the quota, whatever is left over
-no_burst : (s : Shape) (carry : ℕ) (g : GroupFields) → g.burst ≡ 0
+pub no_burst : (s : Shape) (carry : ℕ) (g : GroupFields) → g.burst ≡ 0
     → period_limit s (set_carry carry g) ≡ quota_slices s g
 no_burst s carry g none =
     ap (λ b. bursting carry (in_slices s g.period b) (quota_slices s g)) none

@@ -2,13 +2,17 @@
 //! "Burst feature").
 ghost use Rattle.std.specs.Prelude.{◌≡◌, ◌<◌, ◌≤◌, ◌↔◌, true, length, IfSome, IsTrue, false, min};
 ghost use Rattle.bw_model.specs.Quota.{in_slices};
+ghost use Rattle.bw_model.specs.Groups.{row_of};
 ghost use Rattle.bw_tree.specs.Groups.{IsSound};
 ghost use Rattle.bw_tree.specs.Snapshot.{quota_slices, bursting, left_of, left_over, carried};
-ghost use Rattle.bw_tree.specs.Snapshot.{carried_at, IsDrawnWithin};
+ghost use Rattle.bw_tree.specs.Snapshot.{carried_at, rows_of, IsDrawnWithin};
+ghost use Rattle.bw_tree.specs.Snapshot.{period_limit as limit_of};
+ghost use Rattle.bw_tree.specs.Kept.{AreSound, on_host, limit_set};
 
 use crate::by_id::Groups;
 use crate::group::Group;
-use bw_model::limits::{MAX_BURST_US, MAX_PERIOD_US, MAX_QUOTA_US, MIN_PERIOD_US};
+use crate::snapshot::Snapshot;
+use bw_model::limits::{MAX_BURST_US, MAX_GROUPS, MAX_PERIOD_US, MAX_QUOTA_US, MIN_PERIOD_US};
 use bw_model::{HostShape, Row};
 
 // Quota of a group in whole slices of the host's period.
@@ -90,16 +94,71 @@ pub fn left_of(limit: Option<u64>, drawn: u64) -> u64
     }
 }
 
-// Stores the rest of each row's limit in the group at the row's place.
-pub(crate) fn write_carries(groups: &mut Groups, rows: &[Row], drawn: &[u64])
-    requires rows { length rows.now ≡ length groups.old.items }
-    requires drawn { length drawn.now ≡ length rows.now }
-    requires within { IsDrawnWithin rows.now drawn.now }
-    ensures { groups.new.items ≡ carried groups.old.items (left_over rows.now drawn.now) }
+// Stores the rest of each row's limit in the group at the row's place, and gives the row its limit
+// of the next period.
+pub(crate) fn write_carries(
+    groups: &mut Groups,
+    snapshot: &mut Snapshot,
+    shape: HostShape,
+    drawn: &[u64],
+)
+    requires step { snapshot.old.instance ≡ on_host groups.old.items shape }
+    requires sound { AreSound groups.old.items }
+    requires drawn { length drawn.now ≡ length groups.old.items }
+    ensures carries { groups.new.items
+        ≡ carried groups.old.items (left_over (rows_of groups.old.items shape) drawn.now) }
+    ensures step { snapshot.new.instance ≡ on_host groups.new.items shape }
+    ensures ids { snapshot.new.ids ≡ snapshot.old.ids }
+    ensures quotas { snapshot.new.quotas ≡ snapshot.old.quotas }
 {
-    for i in 0..rows.len() {
-        write_carry(groups, i, left_of(rows[i].limit, drawn[i]));
+    for place in 0..drawn.len() {
+        carry_at(groups, snapshot, place, shape, drawn[place]);
     }
+}
+
+// Stores the rest of a row's limit, and gives the row its limit of the next period. A group without
+// a limit carries nothing, and gets none.
+fn carry_at(
+    groups: &mut Groups,
+    snapshot: &mut Snapshot,
+    place: usize,
+    shape: HostShape,
+    drawn: u64,
+)
+    requires within { place < length groups.old.items }
+    requires step { snapshot.old.instance ≡ on_host groups.old.items shape }
+    requires sound { AreSound groups.old.items }
+    ensures groups { groups.new.items ≡ carried_at groups.old.items place
+        (left_of (row_of snapshot.old.instance.rows place).limit drawn) }
+    ensures step { snapshot.new.instance ≡ on_host groups.new.items shape }
+    ensures sound { AreSound groups.new.items }
+    ensures ids { snapshot.new.ids ≡ snapshot.old.ids }
+    ensures quotas { snapshot.new.quotas ≡ snapshot.old.quotas }
+{
+    let limit = snapshot.instance.rows()[place].limit;
+    write_carry(groups, place, left_of(limit, drawn));
+    if limit.is_none() {
+        return;
+    }
+    renew_limit(snapshot, place, shape, &groups[place].1);
+}
+
+// Gives a row below the root its group's limit of the next period. Without a burst it stays.
+fn renew_limit(snapshot: &mut Snapshot, place: usize, shape: HostShape, group: &Group)
+    requires below_root { 0 < place }
+    requires within { place < length snapshot.old.instance.rows }
+    requires few { length snapshot.old.instance.rows ≤ MAX_GROUPS }
+    requires sound { IsSound group.now }
+    requires steady { group.now.burst ≡ 0 → (row_of snapshot.old.instance.rows place).limit
+        ≡ limit_of shape group.now }
+    ensures { snapshot.new ≡ limit_set place (limit_of shape group.now) snapshot.old }
+{
+    if group.burst == 0 {
+        return;
+    }
+    let quota = quota_slices(group, shape);
+    let limit = period_limit(shape, quota, group.period, group.burst, group.carry);
+    snapshot.instance.set_limit(place as u32, limit);
 }
 
 fn write_carry(groups: &mut Groups, place: usize, carry: u64)

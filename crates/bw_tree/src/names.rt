@@ -5,6 +5,7 @@ ghost use Rattle.std.specs.List.{list_all, slice_split};
 ghost use Rattle.bw_tree.specs.Groups.{is_name, is_name_byte};
 
 use crate::limits::MAX_NAME;
+use bw_text::is_word;
 
 pub(crate) fn is_name(name: &str) -> bool
     ensures { result ≡ is_name name.now }
@@ -18,10 +19,10 @@ pub(crate) fn is_name(name: &str) -> bool
     if !are_name_bytes(name.as_bytes()) {
         return false;
     }
-    if name == "." {
+    if is_word(name, ".") {
         return false;
     }
-    if name == ".." {
+    if is_word(name, "..") {
         return false;
     }
     true

@@ -14,6 +14,7 @@ use crate::group::GroupId;
 use crate::names::split_front;
 use crate::path_hash::PathHash;
 use crate::tree::Tree;
+use bw_text::is_word;
 use std::alloc::AllocError;
 
 impl Tree {
@@ -31,7 +32,7 @@ impl Tree {
         ensures none { IfErr result
             (λ e. (find_path self.now.groups path.now ≡ None) × (e ≡ TreeFault.NotFound)) }
     {
-        if path == "." {
+        if is_word(path, ".") {
             return Ok(0);
         }
         if let Some(id) = self.keyed(path) {

@@ -1,12 +1,14 @@
 //! The groups of a tree as an instance on a host.
-ghost use Rattle.std.specs.Prelude.{◌≡◌, ◌<◌, length, nat_eq, slice_index_or, IfOk, IfErr, None};
-ghost use Rattle.std.specs.Prelude.{ℕ};
+ghost use Rattle.std.specs.Prelude.{◌≡◌, ◌<◌, length, nat_eq, slice_index_or, IfOk, IfErr};
+ghost use Rattle.std.specs.Prelude.{ℕ, None, IfSome};
+ghost use Rattle.std.specs.Option.{option_map};
 ghost use Rattle.std.specs.List.{IsDistinct};
 ghost use Rattle.std.specs.Vec.{vec_capacity};
 ghost use Rattle.bw_model.specs.Groups.{IsInstance, row_of};
 ghost use Rattle.bw_tree.specs.Groups.{GroupFields};
 ghost use Rattle.std.specs.Map.{keys_of};
 ghost use Rattle.bw_tree.specs.Snapshot.{instance_of, rows_of, base_of, row_above};
+ghost use Rattle.bw_tree.specs.Kept.{demand_set, CanSetRow};
 
 use crate::carry::{period_limit, quota_slices};
 use crate::fault::TreeFault;
@@ -26,6 +28,27 @@ pub struct Snapshot {
     pub quotas: Vec<Option<u64>>,
 }
 
+impl Snapshot {
+    // Sets the demand in the row at a place.
+    fn set_demand(&mut self, place: usize, demand: u64)
+        requires { CanSetRow place demand self.old }
+        ensures { self.new ≡ demand_set place demand self.old }
+    {
+        self.instance.set_demand(place as u32, demand);
+    }
+}
+
+// Sets the demand in the row at a place of the snapshot, if one is kept.
+pub(crate) fn set_row_demand(kept: &mut Option<Snapshot>, place: usize, demand: u64)
+    requires { IfSome kept.old (CanSetRow place demand) }
+    ensures { kept.new ≡ option_map (demand_set place demand) kept.old }
+{
+    match kept {
+        None => {}
+        Some(snapshot) => snapshot.set_demand(place, demand),
+    }
+}
+
 // Id, row and quota in slices of each group.
 #[derive(Drop)]
 struct Columns {
@@ -35,28 +58,9 @@ struct Columns {
 }
 
 impl Tree {
-    /// Makes an instance of the groups on a host: a row for each, in order of creation.
-    ///
-    /// The limit of a row is the quota plus the carry of the last period, at most quota plus burst.
-    ///
-    /// # Errors
-    ///
-    /// - [`TreeFault::OutOfMemory`] alone: the rows of a tree are always a valid instance.
-    pub fn instance(&self, shape: HostShape) -> Result<Instance, TreeFault>
-        ensures rows { IfOk result (λ i. i ≡ instance_of self.now shape) }
-        ensures valid { IsInstance (instance_of self.now shape) }
-        ensures err { IfErr result (λ e. e ≡ TreeFault.OutOfMemory) }
-    {
-        let alloc = *self.groups.allocator();
-        // its contract says that the host is in range
-        let _slice_us = shape.slice_us();
-        let rows = self.rows(shape)?;
-        Ok(Instance::of_valid(alloc, rows, shape)?)
-    }
-
     /// Takes a snapshot of the groups on a host: rows, ids and quotas, in order of creation.
     ///
-    /// Rows are those of [`Tree::instance`].
+    /// The limit of a row is the quota plus the carry of the last period, at most quota plus burst.
     ///
     /// # Errors
     ///
@@ -106,19 +110,6 @@ impl Tree {
             quotas.push_reserved(quota);
         }
         Ok(Columns { ids, rows, quotas })
-    }
-
-    // Row of each group.
-    fn rows(&self, shape: HostShape) -> Result<Vec<Row>, AllocError>
-        ensures { IfOk result (λ rows. rows.items ≡ rows_of self.now.groups shape) }
-    {
-        let count = self.groups.len();
-        let mut rows = Vec::with_capacity(*self.groups.allocator(), count)?;
-        for place in 0..count {
-            let (_, row) = self.row_at(place, shape);
-            rows.push_reserved(row);
-        }
-        Ok(rows)
     }
 
     // Quota of the group at a place in whole slices, and its row. Divides the quota once.

@@ -1,4 +1,5 @@
 //! The answer to `cert`.
+ghost use Rattle.std.specs.Prelude.{◌≡◌};
 ghost use Rattle.bw_commands.specs.Answers.{Answers};
 ghost use Rattle.bw_commands.specs.CertifiedPlan.{IsCertifiedPlan};
 
@@ -17,17 +18,20 @@ use std::thread::Threads;
 pub fn put_certified<H: Threads + Sync>(
     rt: &H,
     alloc: Global,
-    hierarchy: &Hierarchy,
+    hierarchy: &mut Hierarchy,
     answer: &mut Vec<u8>,
 ) -> Result<(), Fault>
-    ensures { Answers (IsCertifiedPlan hierarchy.now) answer.old answer.new result }
+    ensures answers { Answers (IsCertifiedPlan hierarchy.old) answer.old answer.new result }
+    ensures same { hierarchy.new ≡ hierarchy.old }
 {
-    let instance = hierarchy.instance()?;
-    let gathered = gather_rows(alloc, &instance)?;
-    let plan = plan_gathered(rt, alloc, &instance, &gathered)?;
+    let snapshot = hierarchy.take_snapshot()?;
+    let instance = &snapshot.instance;
+    let gathered = gather_rows(alloc, instance)?;
+    let plan = plan_gathered(rt, alloc, instance, &gathered)?;
     let amounts = plan.amounts.as_slice();
-    let certificate = certify_gathered(alloc, &instance, gathered, &plan)?;
-    let text = write_certified(alloc, &instance, amounts, &certificate)?;
+    let certificate = certify_gathered(alloc, instance, gathered, &plan)?;
+    let text = write_certified(alloc, instance, amounts, &certificate)?;
     answer.extend_from_slice(text.as_bytes())?;
+    hierarchy.keep(snapshot);
     Ok(())
 }

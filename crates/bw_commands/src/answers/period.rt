@@ -40,11 +40,11 @@ pub fn serve_period<G: Gate, H: Threads + Wait + Clock + Sync>(
     ensures spare { IfErr result (λ fault. IsAllowedFailure Period (error_line fault)) }
     ensures room { vec_capacity answer.old ≤ vec_capacity answer.new }
 {
-    let snapshot = hierarchy.snapshot()?;
+    let snapshot = hierarchy.take_snapshot()?;
     let gathered = gather_rows(alloc, &snapshot.instance)?;
     let plan = plan_gathered(rt, alloc, &snapshot.instance, &gathered)?;
     let served = serve(rt, alloc, &snapshot.instance, &plan, gate)?;
     put_number_line(b"served ", served.drawn[0], answer)?;
-    hierarchy.book(&snapshot, &gathered, &served.drawn)?;
+    hierarchy.book(snapshot, &gathered, &served.drawn)?;
     Ok(())
 }

@@ -1,4 +1,5 @@
 //! The answer to `plan`.
+ghost use Rattle.std.specs.Prelude.{◌≡◌};
 ghost use Rattle.bw_commands.specs.Answers.{Answers};
 ghost use Rattle.bw_commands.specs.Planned.{IsPlanText};
 
@@ -17,14 +18,16 @@ use std::thread::Threads;
 pub fn put_plan<H: Threads + Sync>(
     rt: &H,
     alloc: Global,
-    hierarchy: &Hierarchy,
+    hierarchy: &mut Hierarchy,
     answer: &mut Vec<u8>,
 ) -> Result<(), Fault>
-    ensures { Answers (IsPlanText hierarchy.now) answer.old answer.new result }
+    ensures answers { Answers (IsPlanText hierarchy.old) answer.old answer.new result }
+    ensures same { hierarchy.new ≡ hierarchy.old }
 {
-    let instance = hierarchy.instance()?;
-    let plan = plan_levels(rt, alloc, &instance)?;
+    let snapshot = hierarchy.take_snapshot()?;
+    let plan = plan_levels(rt, alloc, &snapshot.instance)?;
     let line = Line::Amount(plan.amounts.as_slice());
     put_lines(alloc, line, hierarchy.tree(), answer)?;
+    hierarchy.keep(snapshot);
     Ok(())
 }

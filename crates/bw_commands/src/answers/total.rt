@@ -24,17 +24,24 @@ use std::alloc::Global;
 /// # Errors
 ///
 /// `OutOfMemory` if an allocation failed.
-pub fn put_total(alloc: Global, hierarchy: &Hierarchy, answer: &mut Vec<u8>) -> Result<(), Fault>
-    ensures { Answers (IsTotal hierarchy.now) answer.old answer.new result }
+pub fn put_total(
+    alloc: Global,
+    hierarchy: &mut Hierarchy,
+    answer: &mut Vec<u8>,
+) -> Result<(), Fault>
+    ensures answers { Answers (IsTotal hierarchy.old) answer.old answer.new result }
+    ensures same { hierarchy.new ≡ hierarchy.old }
 {
-    let instance = hierarchy.instance()?;
-    let gathered = gather_rows(alloc, &instance)?;
-    let limits = limiting(alloc, &instance, &gathered)?;
-    let total = total_of(&instance, &gathered);
+    let snapshot = hierarchy.take_snapshot()?;
+    let instance = &snapshot.instance;
+    let gathered = gather_rows(alloc, instance)?;
+    let limits = limiting(alloc, instance, &gathered)?;
+    let total = total_of(instance, &gathered);
     put_number_line(b"total ", total, answer)?;
     let groups = limits.groups.as_slice();
-    put_limits(hierarchy.tree(), &instance, groups, answer)?;
+    put_limits(hierarchy.tree(), instance, groups, answer)?;
     put_number_line(b"demand ", limits.rest, answer)?;
+    hierarchy.keep(snapshot);
     Ok(())
 }
 

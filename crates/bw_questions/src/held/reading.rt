@@ -115,7 +115,7 @@ fn asks_for_all(shape: HostShape, times: RoundTimes, tasks: TaskSums, most: u128
 }
 
 // Processor time of a round as slices of one period, rounded up, and at most 1000000.
-fn slices_of_time(shape: HostShape, passed: u64, time: u128) -> u64
+pub(super) fn slices_of_time(shape: HostShape, passed: u64, time: u128) -> u64
     requires passed { 1 ≤ passed }
     requires time { time < 2 ^ 97 }
     ensures value { result ≡ slices_of_time shape passed time }

@@ -7,6 +7,6 @@ use Rattle.bw_split.proofs.at_level.test_level.Goals as goal
 pub returns-clause-all : goal.returns-clause-all
 returns-clause-all c =
     let all : c.loop-i.i ≡ length c.args.weights.now = omega arith in
-    c.loop-i.invariant.total_is
+    c.from.ensures ∙ c.loop-i.invariant.total_is
     ∙ ap (λ n. sum_below n (each_takes c.args.level c.args.weights.now c.args.most.now)) all
     ∙ sym (by_all-is c.args.level c.args.weights.now c.args.most.now)

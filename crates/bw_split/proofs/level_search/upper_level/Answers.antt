@@ -13,7 +13,7 @@ reaches : (c : goal.After-saturating_sub-2) → (c.div_ceil-level.result ≤ GRE
     → x ≤ taken c.div_ceil-level.result weight most)
 reaches c = upper_reaches c.min.result c.loop-i.least c.div_ceil-level.result
     c.loop-i.invariant.positive (omega (arith, c.min.ensures, c.requires.can.small))
-    (rw c.saturating_sub.ensures at c.div_ceil-level.ensures)
+    (rw (c.saturating_sub.ensures, c.from-2.ensures) at c.div_ceil-level.ensures)
 
 pub returns-clause-in_range : goal.returns-clause-in_range
 returns-clause-in_range c = (reaches c).0
@@ -25,5 +25,5 @@ returns-clause-enough c =
     let seen : k < c.loop-i.i = omega (arith, below, c.loop-i-test.false) in
     (reaches c).1 (get_or c.args.weights.now k 0) (get_or c.args.most.now k 0)
     (min c.args.amount (get_or c.args.most.now k 0)) (c.loop-i.invariant.lightest k seen)
-    (omega (arith, c.loop-i.invariant.widest k seen, c.min.ensures)) (omega arith))
+    (omega (arith, c.loop-i.invariant.widest k seen, c.min.ensures, c.from.ensures)) (omega arith))
     c.requires.can.enough

@@ -1,8 +1,15 @@
 -- What stands at each turn of the loop in `write_carries`.
 use Rattle.std.proofs.Common.{◌≡◌, take}
-use Rattle.bw_tree.specs.Snapshot.{carried, left_over}
+use Rattle.bw_tree.specs.Snapshot.{carried, left_over, rows_of}
+use Rattle.bw_tree.specs.Kept.{AreSound, on_host}
 use Rattle.bw_tree.proofs.carry.write_carries.Given as goal
 
-abbrev pub invariant-loop-i : goal.invariant-loop-i
-invariant-loop-i l =
-    l.groups.items ≡ carried l.initial.groups.items (take l.i (left_over l.rows l.drawn))
+abbrev pub invariant-loop-place : goal.invariant-loop-place
+invariant-loop-place l = record {
+  carries : l.groups.items ≡ carried l.initial.groups.items
+      (take l.place (left_over (rows_of l.initial.groups.items l.shape) l.drawn));
+  step : l.snapshot.instance ≡ on_host l.groups.items l.shape;
+  sound : AreSound l.groups.items;
+  ids : l.snapshot.ids ≡ l.initial.snapshot.ids;
+  quotas : l.snapshot.quotas ≡ l.initial.snapshot.quotas;
+}

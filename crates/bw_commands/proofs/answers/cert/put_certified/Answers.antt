@@ -5,13 +5,20 @@ use Rattle.bw_model.specs.Groups.{Groups}
 use Rattle.bw_model.specs.Plan.{IsPlan}
 use Rattle.bw_cert.specs.Levels.{AreLevels, AreTightFlags}
 use Rattle.bw_cert.specs.Spelling.{IsValue, spelling}
+use Rattle.bw_tree.specs.Kept.{IsSnapshotOf}
+use Rattle.bw_hierarchy.specs.State.{HierarchyState}
 use Rattle.bw_commands.specs.CertifiedPlan.{value_with}
 use Rattle.bw_commands.proofs.answers.cert.put_certified.Goals as goal
 
-pub returns : goal.returns
-returns g c =
-    let instance = c.in_ok-instance.instance in
-    let made = c.in_ok-instance.ensures.rows in
+pub keep-requires : goal.keep-requires
+keep-requires g c =
+    subst (λ (h : HierarchyState). IsSnapshotOf c.in_ok-snapshot.snapshot h.tree h.shape)
+    (sym c.take_snapshot.ensures.same) c.in_ok-snapshot.ensures.taken
+
+pub returns-clause-answers : goal.returns-clause-answers
+returns-clause-answers g c =
+    let instance = c.in_ok-snapshot.snapshot.instance in
+    let made = c.in_ok-snapshot.ensures.taken.rows in
     let amounts = c.as_slice-amounts.result.now in
     let given = sym c.as_slice-amounts.ensures.value in
     let certificate = certified_of c.in_ok-certificate.certificate in

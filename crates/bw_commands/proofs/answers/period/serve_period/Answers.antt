@@ -8,7 +8,8 @@ use Rattle.bw_commands.proofs.answers.period.serve_period.Goals as goal
 pub book-requires-clause-within : goal.book-requires-clause-within
 book-requires-clause-within g c =
     let known : IsInstance c.in_ok-snapshot.snapshot.instance =
-    subst IsInstance (sym c.in_ok-snapshot.ensures.rows) c.in_ok-snapshot.ensures.valid in
+    subst IsInstance (sym c.in_ok-snapshot.ensures.taken.rows)
+    c.in_ok-snapshot.ensures.taken.valid in
     subst (IsDrawnWithin c.in_ok-snapshot.snapshot.instance.rows) (sym c.deref.ensures.value)
     (drawn_within c.in_ok-snapshot.snapshot.instance c.in_ok-plan.plan.amounts.items known
     c.in_ok-plan.ensures _
