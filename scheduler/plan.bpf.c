@@ -264,7 +264,7 @@ void BPF_PROG(plan_enqueue, struct task_struct *p, u64 flags)
 
     bpf_spin_lock(&lock);
     arrive(here, number, row, runtime, now);
-    push(number, queue, now);
+    push(here, number, queue, now);
     play(row);
     own = idle_for(number, own);
     if (own == MOST_CPUS && (flags & SCX_ENQ_WAKEUP))
@@ -282,6 +282,7 @@ void BPF_PROG(plan_enqueue, struct task_struct *p, u64 flags)
 SEC("struct_ops/plan_dequeue")
 void BPF_PROG(plan_dequeue, struct task_struct *p, u64 flags)
 {
+    struct on_cpu *here = this_cpu();
     u32 number = number_of(p);
     struct task *task = task_at(number);
 
@@ -289,11 +290,12 @@ void BPF_PROG(plan_dequeue, struct task_struct *p, u64 flags)
         return;
     bpf_spin_lock(&lock);
     if (task->state == QUEUED) {
-        take_out(number);
+        take_out(here, number);
         set_ready(task, false);
         play(task->row);
     }
     bpf_spin_unlock(&lock);
+    tell(here);
 }
 
 /* Hands a picked task to the CPU on which this runs. The kernel waits until it has arrived. */
@@ -478,6 +480,7 @@ void BPF_PROG(plan_cgroup_move, struct task_struct *p, struct cgroup *from, stru
  * spent more than the limit. Returns whether one of them is free. */
 static __always_inline bool begin_period(u32 row)
 {
+    struct on_cpu *here = this_cpu();
     struct leaf *leaf = leaf_of(row);
     bool was_stopped;
 
@@ -487,8 +490,11 @@ static __always_inline bool begin_period(u32 row)
     was_stopped = leaf->is_stopped;
     leaf->spent_ns -= leaf->spent_ns < leaf->limit_ns ? leaf->spent_ns : leaf->limit_ns;
     leaf->is_stopped = leaf->spent_ns >= leaf->limit_ns;
+    if (was_stopped && !leaf->is_stopped)
+        note(here, EVENT_STOP, row, 0, 0, false);
     play(row);
     bpf_spin_unlock(&lock);
+    tell(here);
     return was_stopped && !leaf->is_stopped;
 }
 

@@ -20,8 +20,9 @@
 #define MOST_AMOUNT 1000000ULL
 /* All clocks begin anew when a leaf is charged as much: 18 minutes of a CPU. */
 #define MOST_CHARGE (1ULL << 40)
-/* Steps of the rule in one section of the lock. */
-#define MOST_STEPS 4
+/* Slices that are cut at a waking, and steps of a trace in one section of the lock. */
+#define MOST_CUTS 4
+#define MOST_STEPS 16
 
 /* What a new plan gives a row: an amount in slices of the plan, 1 or more, and a limit, 0 for none.
  */
@@ -58,15 +59,19 @@ struct leaf {
     __u64 stops;
 };
 
-enum event_kind { EVENT_WAKE, EVENT_PICK, EVENT_END };
+/* The last two are no steps of the rule: a task waits for some CPUs, or no longer, and a leaf waits
+ * for the next period of its limit, or no longer. */
+enum event_kind { EVENT_WAKE, EVENT_PICK, EVENT_END, EVENT_BOUND, EVENT_STOP };
 
-/* One step of the rule, in the order of `at`. */
+/* One step, in the order of `at`. */
 struct event {
     __u64 at;
+    /* What a task used, or the CPUs for which it waits: a bit for each of the first 64. */
     __u64 used_ns;
     __u32 kind;
     __u32 row;
     __u32 cpu;
+    /* Whether the task remains, or begins to wait, or the leaf does. */
     __u32 remains;
 };
 
@@ -85,6 +90,8 @@ struct on_cpu {
     /* Steps that are not told yet. */
     __u32 steps;
     __u32 pad;
+    /* When the last one began. */
+    __u64 since_ns;
     struct event noted[MOST_STEPS];
 };
 #endif

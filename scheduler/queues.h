@@ -19,6 +19,8 @@
  */
 #define TIMEOUT_MS 20000
 #define LONGEST_WAIT_NS 10000000000ULL
+/* A leaf that is behind by as much when it wakes is no sleeper, which gains by a lead. */
+#define LONG_SLEEP_NS (16 * SLICE_NS)
 
 enum state {
     AWAY,
@@ -87,8 +89,20 @@ static __always_inline void set_ready(struct task *task, bool is_ready)
     task->is_ready = is_ready;
 }
 
+/* Notes that a task waits for some CPUs, or no longer. */
+static __always_inline void note_bound(struct on_cpu *here, u32 number, u32 at, bool waits)
+{
+    u64 some = 1;
+
+    if (!has_trace || at < CPU_QUEUES)
+        return;
+    some = at == SOME_QUEUE ? masks[WITHIN(number, MOST_TASKS)].words[0]
+                            : some << ((at - CPU_QUEUES) % 64);
+    note(here, EVENT_BOUND, task_at(number)->row, 0, some, waits);
+}
+
 /* Puts a task that is counted at the end of a queue. */
-static __always_inline void push(u32 number, u32 at, u64 now)
+static __always_inline void push(struct on_cpu *here, u32 number, u32 at, u64 now)
 {
     struct task *task = task_at(number);
     struct queue *queue = queue_at(at);
@@ -104,10 +118,11 @@ static __always_inline void push(u32 number, u32 at, u64 now)
     task->state = QUEUED;
     task->since_ns = now;
     set_ready(task, at < CPU_QUEUES);
+    note_bound(here, number, at, true);
 }
 
 /* Takes a task out of its queue. It is counted still. */
-static __always_inline void take_out(u32 number)
+static __always_inline void take_out(struct on_cpu *here, u32 number)
 {
     struct task *task = task_at(number);
     struct queue *queue = queue_at(task->queue);
@@ -121,14 +136,107 @@ static __always_inline void take_out(u32 number)
     else
         queue->last = task->previous;
     task->state = ARRIVING;
+    note_bound(here, number, task->queue, false);
 }
 
+/* What a task used since it was charged last. Of a slice that was cut a moment too much may be
+ * charged. */
 static __always_inline u64 used_by(struct task *task, u64 runtime)
 {
-    u64 used = runtime - task->charged_ns;
+    u64 used = runtime > task->charged_ns ? runtime - task->charged_ns : 0;
 
-    task->charged_ns = runtime;
+    task->charged_ns += used;
     return used;
+}
+
+/* Whether a CPU's task may be picked again, which has used so much of its slice: no task waits for
+ * this CPU, and its leaf is at no limit. One that another class of tasks holds up is no such. */
+static __always_inline bool may_cut(u32 cpu, struct leaf *leaf, u64 used)
+{
+    return used < 2 * SLICE_NS && !queue_at(CPU_QUEUES + cpu)->first && !queue_at(SOME_QUEUE)->first
+           && !leaf->is_stopped && !(leaf->limit_ns && leaf->spent_ns + used >= leaf->limit_ns);
+}
+
+/* Charges what a CPU's task has used of its slice so far: the slice ends, and the task is picked
+ * again. If the rule does not allow that, it goes on as it was. */
+static __always_inline bool cut(struct on_cpu *here, u32 cpu, u64 now)
+{
+    struct on_cpu *on = on_cpu(cpu);
+    u32 row = on->row;
+    struct leaf *leaf = leaf_of(row);
+    u64 used = now - on->since_ns, before = leaf->charged;
+    bool is_cut;
+
+    if (!may_cut(cpu, leaf, used))
+        return false;
+    leaf->charged += used - SLICE_NS;
+    play(row);
+    is_cut = !is_first(winners[1], row);
+    leaf->charged = before;
+    if (is_cut) {
+        leaf->charged += used;
+        leaf->used_ns += used;
+        task_at(on->task)->charged_ns += used;
+        on->since_ns = now;
+        note(here, EVENT_END, row, 2 * cpu + on->seat, used, true);
+        spend(here, row, used);
+        note(here, EVENT_PICK, row, 2 * cpu + on->seat, 0, 0);
+    }
+    play(row);
+    return is_cut;
+}
+
+/* The CPU whose task began before now, of the leaf with the least settled clock; `MOST_CPUS` if
+ * there is none, or if a leaf that waits has a lesser one. */
+static __always_inline u32 least_uncut(u64 now)
+{
+    u32 found = MOST_CPUS, cpu;
+    struct leaf *least = leaf_of(winners[1]);
+    bool is_found = winners[1] < NOBODY;
+
+    bpf_for(cpu, 0, cpus_there) {
+        struct on_cpu *on = on_cpu(cpu);
+        struct leaf *leaf = leaf_of(on->row);
+        if (!on->task || on->since_ns >= now
+            || (is_found && is_less(settled(least), least->amount, settled(leaf), leaf->amount)))
+            continue;
+        least = leaf;
+        is_found = true;
+        found = cpu;
+    }
+    return found;
+}
+
+/* A leaf that wakes begins at the least clock of those that want. Before, what their slices have
+ * used is charged, or it were ahead by as much. */
+static __noinline int cut_slices(struct on_cpu *here, u64 now)
+{
+    u32 times;
+
+    bpf_for(times, 0, MOST_CUTS) {
+        u32 cpu = least_uncut(now);
+        if (cpu == MOST_CPUS || !cut(here, cpu, now))
+            break;
+    }
+    return 0;
+}
+
+/* A task wants to run. The first one of a leaf lifts it: not over what others have used, or each
+ * waking would cost it a slice. */
+static __always_inline void wake(struct on_cpu *here, u32 row, u64 now)
+{
+    struct leaf *leaf = leaf_of(row);
+
+    if (leaf->there++ == 0) {
+        u64 charge = level(leaf);
+        if (charge > leaf->charged + LONG_SLEEP_NS) {
+            cut_slices(here, now);
+            charge = level(leaf);
+        }
+        if (leaf->charged < charge)
+            leaf->charged = charge;
+    }
+    note(here, EVENT_WAKE, row, 0, 0, 0);
 }
 
 /* A task wants nothing more of its leaf: it sleeps, or leaves. */
@@ -141,7 +249,7 @@ static __noinline int leave(struct on_cpu *here, u32 number, u64 runtime, u64 no
         end(here, number, row, task->processor, used_by(task, runtime), false);
     } else if (task->state != AWAY) {
         if (task->state == QUEUED)
-            take_out(number);
+            take_out(here, number);
         set_ready(task, false);
         count_waiting(leaf_of(row), now, -1);
         leaf_of(row)->there--;
@@ -159,11 +267,11 @@ static __noinline int arrive(struct on_cpu *here, u32 number, u32 row, u64 runti
         leave(here, number, runtime, now);
     task->row = row;
     if (task->state == QUEUED)
-        take_out(number);
+        take_out(here, number);
     if (task->state == RUNS)
         end(here, number, row, task->processor, used_by(task, runtime), true);
     else if (task->state == AWAY)
-        wake(here, row);
+        wake(here, row, now);
     else
         return 0;
     count_waiting(leaf_of(row), now, 1);
@@ -178,10 +286,10 @@ static __always_inline void run(struct on_cpu *here, u32 number, u32 cpu, u64 no
     u32 row = task->row;
 
     if (task->state == QUEUED)
-        take_out(number);
+        take_out(here, number);
     set_ready(task, false);
     count_waiting(leaf_of(row), now, -1);
-    task->processor = charge(here, number, row, cpu);
+    task->processor = charge(here, number, row, cpu, now);
     task->state = RUNS;
     task->is_extended = 0;
     play(row);
@@ -261,7 +369,7 @@ static __noinline bool goes_on(u32 number, u32 other, u64 runtime, u64 now)
     struct task *task = task_at(number);
     u32 row = task->row, other_row = task_at(other)->row;
     struct leaf *leaf = leaf_of(row), *next = leaf_of(other_row);
-    u64 used = runtime - task->charged_ns;
+    u64 used = runtime > task->charged_ns ? runtime - task->charged_ns : 0;
 
     if (leaf->is_stopped || (leaf->limit_ns && leaf->spent_ns + used >= leaf->limit_ns))
         return false;

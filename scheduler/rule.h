@@ -33,12 +33,14 @@ GUARDED u64 steps;
 GUARDED s32 idle_cpus;
 
 /* An index that the verifier knows to be in bounds: the compiler drops a mask that it can prove. */
+#ifndef WITHIN
 #define WITHIN(index, most)                                                                        \
     ({                                                                                             \
         u64 in_ = (index);                                                                         \
         asm volatile("%0 &= %1" : "+r"(in_) : "i"((most) - 1));                                    \
         in_;                                                                                       \
     })
+#endif
 
 static __always_inline struct leaf *leaf_of(u32 row)
 {
@@ -146,7 +148,7 @@ static __noinline u64 level(struct leaf *leaf)
     return as_charge(leaf->amount, charge, amount);
 }
 
-/* Notes a step of the rule, to be told when the lock is free. */
+/* Notes a step of a trace, to be told when the lock is free. */
 static __always_inline void note(struct on_cpu *here, u32 kind, u32 row, u32 cpu, u64 used,
                  u32 remains)
 {
@@ -159,22 +161,8 @@ static __always_inline void note(struct on_cpu *here, u32 kind, u32 row, u32 cpu
     here->steps = at + 1;
 }
 
-/* A task wants to run. The first one of a leaf lifts it: not over what others have used, or each
- * waking would cost it a slice. */
-static __always_inline void wake(struct on_cpu *here, u32 row)
-{
-    struct leaf *leaf = leaf_of(row);
-
-    if (leaf->there++ == 0) {
-        u64 charge = level(leaf);
-        if (leaf->charged < charge)
-            leaf->charged = charge;
-    }
-    note(here, EVENT_WAKE, row, 0, 0, 0);
-}
-
 /* A pick for a CPU: charges a slice. Returns the processor of the rule. */
-static __always_inline u32 charge(struct on_cpu *here, u32 task, u32 row, u32 cpu)
+static __always_inline u32 charge(struct on_cpu *here, u32 task, u32 row, u32 cpu, u64 now)
 {
     struct leaf *leaf = leaf_of(row);
     struct on_cpu *on = on_cpu(cpu);
@@ -189,19 +177,23 @@ static __always_inline u32 charge(struct on_cpu *here, u32 task, u32 row, u32 cp
     }
     on->task = task;
     on->row = row;
+    on->since_ns = now;
     note(here, EVENT_PICK, row, 2 * cpu + on->seat, 0, 0);
     return 2 * cpu + on->seat;
 }
 
 /* Counts use to a limit. */
-static __always_inline void spend(struct leaf *leaf, u64 used)
+static __always_inline void spend(struct on_cpu *here, u32 row, u64 used)
 {
+    struct leaf *leaf = leaf_of(row);
+
     if (!leaf->limit_ns)
         return;
     leaf->spent_ns += used;
     if (leaf->spent_ns >= leaf->limit_ns && !leaf->is_stopped) {
         leaf->is_stopped = 1;
         leaf->stops++;
+        note(here, EVENT_STOP, row, 0, 0, true);
     }
 }
 
@@ -223,9 +215,9 @@ static __always_inline void end(struct on_cpu *here, u32 task, u32 row, u32 proc
         greatest_amount = leaf->amount;
     }
     leaf->used_ns += used;
-    spend(leaf, used);
     leaf->there -= !remains;
     note(here, EVENT_END, row, processor, used, remains);
+    spend(here, row, used);
 }
 
 /* A common start of all clocks, at which what runs is picked: with the amounts of a new plan, or

@@ -408,7 +408,7 @@ static int by_order(const void *one, const void *other)
     return (a > b) - (a < b);
 }
 
-/* Writes the steps of the rule in their order. */
+/* Writes the steps of the rule in their order, and who waits for some CPUs or a period. */
 static void write_trace(void)
 {
     FILE *file = fopen(trace, "we");
@@ -425,6 +425,10 @@ static void write_trace(void)
             fprintf(file, "wake %u 1\n", each->row);
         else if (each->kind == EVENT_PICK)
             fprintf(file, "pick %u %u\n", each->cpu, each->row);
+        else if (each->kind == EVENT_BOUND)
+            fprintf(file, "bound %u %llu %u\n", each->row, (u64)each->used_ns, each->remains);
+        else if (each->kind == EVENT_STOP)
+            fprintf(file, "stop %u %u\n", each->row, each->remains);
         else
             fprintf(file, "end %u %llu %u\n", each->cpu, (u64)each->used_ns, each->remains);
     }

@@ -68,6 +68,7 @@ find_installed() {
   [ ! -x "$scheduler" ] || installed+=(
     "$scheduler" sbin/arbiter-scheduler 755
     share/arbiter-scheduler.8 share/man/man8/arbiter-scheduler.8 644
+    share/systemd/arbiter-schedule.service lib/systemd/system/arbiter-schedule.service 644
   )
 }
 

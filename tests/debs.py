@@ -216,10 +216,11 @@ def test_completions_and_pages(installed):
         listed.split("\n"))
 
 
-def test_unit_is_not_enabled(installed):
-    """The service that holds a plan is there, and nothing begins it."""
-    assert (installed / "lib/systemd/system/arbiter-hold.service").is_file()
-    assert not list((installed / "etc/systemd").rglob("arbiter-hold.service"))
+@pytest.mark.parametrize("name", ["arbiter-hold.service", "arbiter-schedule.service"])
+def test_units_are_not_enabled(installed, name):
+    """The service that holds or serves a plan is there, and nothing begins it."""
+    assert (installed / "lib/systemd/system" / name).is_file()
+    assert not list((installed / "etc/systemd").rglob(name))
 
 
 @pytest.fixture(scope="module")
@@ -266,6 +267,45 @@ def test_service_begins_again(told):
     same(told.steps["held again"].properties["NRestarts"], "1", "restarts")
     assert told.steps["held"].properties["StatusText"].startswith("round ")
     same(told.lacks, [], "lacks")
+
+
+@pytest.fixture(scope="module")
+def scheduled(installed):
+    """What the other service did, on a kernel that takes a scheduler."""
+    if packages.missing():
+        pytest.skip(packages.missing())
+    return real_unit.shown_by(packages.kernel(packages.NEWEST), installed, "arbiter-schedule",
+                              real_unit.SCHEDULED)
+
+
+@pytest.mark.parametrize("name, state, result, kernel", [
+    ("before", "inactive dead", "success", "disabled"),
+    ("served", "active running", "success", "enabled"),
+    ("stopped", "inactive dead", "success", "disabled"),
+    ("killed", "activating auto-restart", "signal", "disabled"),
+    ("no loader", "activating auto-restart", "exit-code", "disabled"),
+    ("served again", "active running", "success", "enabled"),
+    ("by limits", "inactive dead", "success", "disabled")])
+def test_schedule_under_systemd(scheduled, name, state, result, kernel):
+    """It is ready when the kernel serves the plan. Weights rule after a stop, after a kill of the
+    loop or of its loader, which begin again, and while limits hold. Nothing is written to a group.
+    """
+    step = scheduled.steps[name]
+    same(" ".join(step.properties[key] for key in ("ActiveState", "SubState")), state, name)
+    same((step.properties["Result"], step.state), (result, kernel), name)
+    if name != "by limits":
+        same((step.files, step.has_undo), (FREE, False), name)
+    same(scheduled.lacks, [], "lacks")
+
+
+def test_schedule_has_few_rights(scheduled):
+    """Its loader has CAP_PERFMON and CAP_BPF and a filter of calls. Groups of weights 100 and 300
+    have a quarter and three of what both have."""
+    same({name: scheduled.status[name] for name in ("CapBnd", "CapEff", "NoNewPrivs", "Seccomp")},
+         {"CapBnd": f"{3 << 38:016x}", "CapEff": f"{3 << 38:016x}", "NoNewPrivs": "1",
+          "Seccomp": "2"}, "the loader")
+    one, two = (later - before for before, later in zip(scheduled.used, scheduled.used[2:]))
+    assert abs(one / (one + two) - 1 / 4) < 0.03, scheduled.used
 
 
 def test_purge_leaves_nothing(installed, before):

@@ -15,7 +15,8 @@ from kernel import interpreter, layout, machine, packages, scenario
 from kernel.faults import KernelFault
 from kernel.held import WAYS
 from kernel.planned import use
-from laboratory import compare, endured, held, held_page, readings, scheduled_page, traced
+from laboratory import (compare, endured, held, held_page, outside, readings, scheduled_page,
+                        traced)
 from laboratory.__main__ import SCENARIOS
 
 SPAN = layout.Span(seconds=3, settle=1, has_grid=False)
@@ -75,6 +76,12 @@ def test_each_pick_is_one_that_the_rule_allows(traced_runs):
     assert trace.count("pick ") > 500
 
 
+def test_picks_before_a_bound_task(traced_runs):
+    """Others go before the pinned task, which waits for its CPU. No other pick leaves the rule."""
+    found = outside.Replay(traced_runs[2]["two-pinned"]).found
+    assert not found[outside.WRONG] and found[outside.ALLOWED] > 500 and found[outside.BOUND]
+
+
 @pytest.fixture(scope="module", name="loops")
 def runs_of_hold(program, newest):
     """The runs of `arbiterctl hold --by scheduler` in one guest: of a minute, one alone."""
@@ -131,6 +138,13 @@ def test_what_it_endures(newest):
 def test_what_it_endured():
     """The run of 500 times and four loads that is kept."""
     check_endured(json.loads(RUN.read_text(encoding="utf-8")), 500, endured.LOADS)
+
+
+def test_nothing_of_it_is_left():
+    """After 60 times no map, program or link, and as much memory but for 4 MiB."""
+    found = json.loads(RUN.with_name("cycled.json").read_text(encoding="utf-8"))
+    assert found["cycles"] == "60" and set(map(tuple, found["objects"].values())) == {(0, 0, 0)}
+    assert found["free_kib"]["first"] - found["free_kib"]["last"] < 4096
 
 
 def test_page_has_the_tables():

@@ -3,7 +3,11 @@
        cycles TIMES ON_MS OFF_MS GROUP..
 
    Each GROUP is the number of a folder, and a leaf; all have one amount. Prints `cycles N`, the
-   number of times that it was enabled, and after it disabled by its user.  */
+   number of times that it was enabled, and after it disabled by its user.
+
+       cycles
+
+   Prints how many maps, programs and links of BPF the kernel has.  */
 #define _GNU_SOURCE
 #include <bpf/bpf.h>
 #include <bpf/libbpf.h>
@@ -39,11 +43,25 @@ static int fail(const char *what, int at) {
     return 1;
 }
 
+/* How many objects of a kind the kernel has.  */
+static int number_of(int (*next)(u32, u32 *)) {
+    u32 last = 0;
+    int found = 0;
+    while (next(last, &last) == 0)
+        found++;
+    return found;
+}
+
 int main(int count, char **words) {
     struct rlimit all = { RLIM_INFINITY, RLIM_INFINITY };
     int times = count > 4 ? atoi(words[1]) : 0, groups = count - 4;
-    struct plan *program = plan__open();
+    struct plan *program = count == 1 ? NULL : plan__open();
     setrlimit(RLIMIT_MEMLOCK, &all);
+    if (count == 1) {
+        printf("%d %d %d\n", number_of(bpf_map_get_next_id), number_of(bpf_prog_get_next_id),
+               number_of(bpf_link_get_next_id));
+        return 0;
+    }
     if (times <= 0 || !program)
         return fail("no program", 0);
     program->rodata->cpus_there = libbpf_num_possible_cpus();

@@ -1,4 +1,5 @@
-"""arbiter-hold.service under systemd: a root of Debian with the packages, booted in a guest."""
+"""arbiter-hold.service and arbiter-schedule.service under systemd: a root of Debian with the
+packages, booted in a guest."""
 from __future__ import annotations
 
 import re
@@ -29,10 +30,8 @@ ExecStart=/bin/sh /try.sh
 StandardOutput=file:/dev/ttyS1
 StandardError=file:/dev/ttyS1
 """
-# Both groups sleep, so that nothing takes time, and b counts three times. An end of the loop is
-# awaited by its state.
-TRY = f"""\
-unit=arbiter-hold
+# An end of a loop is awaited by its state.
+TELL = f"""\
 tell() {{
   echo "step $1"
   systemctl show $unit -p {','.join(SHOWN)}
@@ -49,12 +48,15 @@ await() {{ # PROPERTY VALUE SECONDS
 }}
 echo "systemd $(systemctl --version | head -n 1)"
 systemd-analyze verify --man=no $unit.service 2>&1 | sed 's/^/verify /'
+"""
+# Both groups sleep, so that nothing takes time, and b counts three times.
+HELD = f"""\
 for group in a b; do
   systemd-run --quiet --unit $group --slice work.slice sleep infinity
 done
 systemctl set-property --runtime b.service CPUWeight=300
-echo TREE={SLICE} > /etc/default/$unit
-echo 'OPTIONS=--period 100ms' >> /etc/default/$unit
+echo TREE={SLICE} > /etc/default/arbiter-hold
+echo 'OPTIONS=--period 100ms' >> /etc/default/arbiter-hold
 tell before
 systemctl start $unit || echo lack start
 sleep 9
@@ -78,10 +80,53 @@ tell 'stood still'
 await SubState running 60
 systemctl stop $unit
 tell end
-echo TREE={SLICE}/none > /etc/default/$unit
+echo TREE={SLICE}/none > /etc/default/arbiter-hold
 systemctl start $unit
 tell 'no tree'
 systemctl stop $unit
+"""
+# Both groups always want, and b counts three times. `used` has what each used in five seconds.
+SCHEDULED = f"""\
+state() {{ echo "state $(cat /sys/kernel/sched_ext/state)"; }}
+used() {{ for group in a b; do sed -n 's/usage_usec //p' {SLICE}/$group.service/cpu.stat; done; }}
+loader() {{ grep -l arbiter-schedul /proc/[0-9]*/comm | sed 's/[^0-9]//g'; }}
+for group in a b; do
+  systemd-run --quiet --unit $group --slice work.slice sh -c 'while :; do :; done'
+done
+systemctl set-property --runtime b.service CPUWeight=300
+echo TREE={SLICE} > /etc/default/arbiter-hold
+echo OPTIONS= >> /etc/default/arbiter-hold
+tell before
+state
+systemctl start $unit || echo lack start
+sleep 4
+tell served
+state
+grep -E 'Cap(Bnd|Eff)|Seccomp:|NoNewPrivs' "/proc/$(loader)/status" | sed 's/^/status /'
+echo used $(used; sleep 5; used)
+systemctl stop $unit
+tell stopped
+state
+systemctl start $unit
+kill -9 "$(is MainPID)"
+await SubState auto-restart 9
+tell killed
+state
+await SubState running 90
+kill -9 "$(loader)"
+await SubState auto-restart 30
+tell 'no loader'
+state
+await SubState running 90
+tell 'served again'
+state
+systemctl start arbiter-hold
+tell 'by limits'
+state
+systemctl stop arbiter-hold
+tell end
+"""
+END = """\
 journalctl --no-pager -q -o cat -u $unit | sed 's/^/said /'
 echo end
 systemctl poweroff -ff > /dev/null 2>&1
@@ -95,6 +140,7 @@ class Step:
     properties: dict[str, str] = field(default_factory=dict)
     files: dict[str, str] = field(default_factory=dict)
     has_undo: bool = False
+    state: str = ""
 
 
 @dataclass
@@ -104,13 +150,18 @@ class Told:
     steps: dict[str, Step] = field(default_factory=dict)
     lacks: list[str] = field(default_factory=list)
     said: list[str] = field(default_factory=list)
+    # Of the loader what /proc tells of its rights; what both groups used at two times.
+    status: dict[str, str] = field(default_factory=dict)
+    used: list[int] = field(default_factory=list)
 
 
-def tried() -> dict[str, tuple[int, bytes]]:
-    """Files that are put over the root: the script, its service, and the target of the boot."""
+def tried(unit: str, steps: str) -> dict[str, tuple[int, bytes]]:
+    """Files that are put over the root: the script of a unit, its service, and the target of the
+    boot."""
     units = "try/etc/systemd/system"
     folders = ("try", "try/etc", "try/etc/systemd", units, f"{units}/multi-user.target.wants")
-    files = {"try/try.sh": TRY, f"{units}/try.service": SERVICE,
+    script = f"unit={unit}\n{TELL}{steps}{END}"
+    files = {"try/try.sh": script, f"{units}/try.service": SERVICE,
              "try/etc/machine-id": "1" * 32 + "\n"}
     links = {f"{units}/multi-user.target.wants/try.service": "../try.service",
              f"{units}/default.target": "/lib/systemd/system/multi-user.target"}
@@ -140,6 +191,13 @@ def read(lines: list[str]) -> Told:
             step.files[group] = text.strip()
         elif word == "undo":
             step.has_undo = rest == "there"
+        elif word == "state":
+            step.state = rest
+        elif word == "used":
+            told.used = [int(each) for each in rest.split()]
+        elif word == "status":
+            name, _, text = rest.partition(":")
+            told.status[name] = text.strip()
         elif word in ("lack", "verify"):
             told.lacks.append(line)
         elif word == "said":
@@ -149,7 +207,8 @@ def read(lines: list[str]) -> Told:
     return told
 
 
-def shown_by(kernel: packages.Kernel, root: Path) -> Told:
-    """Boots a root with the packages and systemd, and tries the unit there."""
-    more = {"root.tar": (0o100644, packed(root)), **tried()}
+def shown_by(kernel: packages.Kernel, root: Path, unit: str = "arbiter-hold",
+             steps: str = HELD) -> Told:
+    """Boots a root with the packages and systemd, and tries a unit there."""
+    more = {"root.tar": (0o100644, packed(root)), **tried(unit, steps)}
     return read(machine.run(kernel, machine.Board(), SETTING, WORK, more, MEMORY))

@@ -2,8 +2,9 @@
 
     PYTHONPATH=tests:bench/kernel /usr/bin/python3 -m laboratory.endured [--cycles N] [--save FILE]
 
-One guest of two processors runs tasks of all kinds: spinners, a pinned one, one that may use one of
-two processors, forks and sleepers. It prints what happened as JSON.
+Guests of two processors run tasks of all kinds: spinners, a pinned one, one that may use one of
+two processors, forks and sleepers. It prints what happened as JSON. In the first guest it is
+attached and detached, in the second one killed, loaded again and stalled.
 """
 from __future__ import annotations
 
@@ -79,17 +80,34 @@ def used(name: str) -> list[str]:
             f"echo {name} $one $two"]
 
 
-def work(cycles: int, loads: int = LOADS) -> str:
-    """The guest's script."""
+def objects(name: str) -> list[str]:
+    """Tells how many maps, programs and links of BPF the kernel has, and its free memory in KiB.
+    What is gone takes a moment."""
+    return ["sleep 2", f"echo {name} $(/cycles) $(grep MemFree /proc/meminfo)"]
+
+
+def begun() -> list[str]:
+    """The lines that make the groups and begin their tasks."""
     lines = [f"echo +cpu > {layout.TOP}/cgroup.subtree_control",
              *layout.groups(parse("tree", TREE)), "now=$(/guest now)"]
     for path, tasks in TASKS.items():
         lines += [f"(echo 0 > {layout.place(path)}/cgroup.procs;"
                   f" exec /guest {words.replace('END', END)}) > /dev/null &" for words in tasks]
-    numbers = " ".join(f"$(stat -c %i {layout.place(path)})" for path in LEAVES)
     # (from here on this shell and what it begins go ahead of the tasks)
-    lines += ["sleep 1", "renice -n -20 $$ > /dev/null", *used("before"),
-              f"/cycles {cycles} 60 40 {numbers}"]
+    return [*lines, "sleep 1", "renice -n -20 $$ > /dev/null"]
+
+
+def cycled(cycles: int) -> str:
+    """The script of the first guest. After the first time the kernel keeps what it needs."""
+    numbers = " ".join(f"$(stat -c %i {layout.place(path)})" for path in LEAVES)
+    lines = [*begun(), f"/cycles 1 60 40 {numbers} > /dev/null", *objects("first"),
+             f"/cycles {cycles} 60 40 {numbers}", *objects("last")]
+    return "\n".join(lines) + "\n"
+
+
+def loads_again(loads: int = LOADS) -> str:
+    """The script of the second guest."""
+    lines = [*begun(), *used("before")]
     for name, signal in (("killed", "-9"), ("ended", "-15")):
         for _ in range(loads):
             lines += [*loaded("/arbiter-scheduler"), f"cat {STATE}", "sleep 0.3",
@@ -106,12 +124,29 @@ def stalled(said: Sequence[str]) -> int:
     return round(1000 * (two - one))
 
 
-def read(lines: Sequence[str]) -> dict[str, Any]:
-    """What the guest told."""
-    words = [line.split(maxsplit=1) for line in lines if " " in line]
+def told_by(lines: Sequence[str]) -> dict[str, list[str]]:
+    """What each first word is followed by."""
     told: dict[str, list[str]] = {}
-    for name, rest in words:
-        told.setdefault(name, []).append(rest)
+    for line in lines:
+        name, _, rest = line.partition(" ")
+        if rest:
+            told.setdefault(name, []).append(rest)
+    return told
+
+
+def left(lines: Sequence[str]) -> dict[str, Any]:
+    """What the first guest told."""
+    told = told_by(lines)
+    found = {name: [int(each) for each in told[name][0].split() if each.isdigit()]
+             for name in ("first", "last")}
+    return {"cycles": told["cycles"][0],
+            "objects": {name: numbers[:3] for name, numbers in found.items()},
+            "free_kib": {name: numbers[3] for name, numbers in found.items()}}
+
+
+def read(lines: Sequence[str]) -> dict[str, Any]:
+    """What the second guest told."""
+    told = told_by(lines)
     times = {name: [int(each.split()[0]) // 1000000 for each in told.get(name, [])]
              for name in ("killed", "ended")}
     times["stalled"] = [stalled(told["kernel-said"])]
@@ -121,17 +156,18 @@ def read(lines: Sequence[str]) -> dict[str, Any]:
         half = len(numbers) // 2
         rose[name] = {path: two - one for path, one, two
                       in zip(LEAVES, numbers[:half], numbers[half:])}
-    return {"release": told["kernel"][0], "cycles": told["cycles"][0], "milliseconds": times,
+    return {"release": told["kernel"][0], "milliseconds": times,
             "enabled": sum(line == "enabled" for line in lines), "used": rose,
             "said": told["said"][0], "kernel": told["kernel-said"][-1]}
 
 
 def shown(kernel: packages.Kernel, cycles: int, loads: int = LOADS) -> dict[str, Any]:
-    """Runs all in a guest."""
+    """Runs both guests."""
     with tempfile.TemporaryDirectory(prefix="arbiter-endured-") as name:
         more = programs(Path(name))
-    return read(machine.run(kernel, machine.Board(2), machine.Setting(4), work(cycles, loads),
-                            more, 512))
+    one, two = (machine.run(kernel, machine.Board(2), machine.Setting(4), work, more, 512)
+                for work in (cycled(cycles), loads_again(loads)))
+    return {**left(one), **read(two)}
 
 
 def main(words: Sequence[str]) -> int:

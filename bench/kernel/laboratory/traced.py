@@ -3,7 +3,8 @@
     PYTHONPATH=tests:bench/kernel /usr/bin/python3 -m laboratory.traced [--save FOLDER] SCENARIO..
 
 Each scenario runs by the scheduler with its trace. The program of crates/dispatch replays it: it
-says that all picks are allowed, or the first line that is not.
+says that all picks are allowed, or the first line that is not. Where tasks wait for some CPUs or a
+limit, `outside` tells which picks leave the proved rule.
 """
 from __future__ import annotations
 
@@ -17,6 +18,7 @@ from pathlib import Path
 from kernel import faults, held, layout, machine, packages
 from kernel.planned import begin
 from kernel.scenario import Scenario
+from laboratory import outside
 from laboratory.__main__ import sources
 from laboratory.held import entitled, own_limits, plan
 
@@ -38,11 +40,12 @@ def traces(kernel: packages.Kernel, setting: machine.Setting, found: Sequence[Sc
 
 
 def replayed(trace: str) -> str:
-    """What the program says of a trace."""
+    """What the program says of a trace, whose tasks that are held back are on processors of their
+    own while others go first."""
     if not DISPATCH.is_file():
         raise faults.KernelFault(f"no {DISPATCH}: `rt run` in crates/dispatch makes it")
-    ended = subprocess.run([DISPATCH], input=trace, capture_output=True, text=True, check=False,
-                           timeout=SECONDS)
+    ended = subprocess.run([DISPATCH], input=outside.Replay(trace).text, capture_output=True,
+                           text=True, check=False, timeout=SECONDS)
     return ended.stdout.strip()
 
 
@@ -63,8 +66,9 @@ def main(words: Sequence[str]) -> int:
     begin()
     wrong = 0
     for name, trace, said in shown(packages.kernel(packages.NEWEST), sources(options.sources)):
-        print(f"{name}: {said}", flush=True)
-        wrong += not said.startswith("allowed: ")
+        found = outside.Replay(trace).found
+        print(f"{name}: {said}; {dict(found)}", flush=True)
+        wrong += bool(found[outside.WRONG]) or not said.startswith("allowed: ")
         if options.save:
             file = options.save / f"picks-{name}.txt.gz"
             file.write_bytes(gzip.compress(trace.encode(), mtime=0))

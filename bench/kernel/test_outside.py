@@ -1,0 +1,68 @@
+"""Traces with bound tasks and limits: which picks leave the proved rule, and why."""
+import gzip
+from pathlib import Path
+
+import pytest
+
+from laboratory import outside, traced
+
+RUNS = Path(__file__).with_name("runs")
+HEAD = "processors 4\nslice 10\nleaf 0 1\nleaf 1 1\n"
+# Leaf 0 used 10 and waits for CPU 1; leaf 1 used 20.
+BEHIND = (HEAD + "wake 0 1\npick 2 0\nend 2 10 1\nbound 0 2 1\nwake 1 1\npick 0 1\nend 0 20 1\n")
+# Leaf 0 is stopped at its limit of 10.
+LIMIT = HEAD + "wake 0 2\nwake 1 1\npick 0 0\nend 0 10 1\nstop 0 1\npick 0 1\nend 0 20 1\n"
+TRACES = {
+    "a bound task is passed by": (BEHIND + "pick 0 1\n", {outside.ALLOWED: 2, outside.BOUND: 1}),
+    "its CPU may not": (BEHIND + "pick 2 1\n", {outside.ALLOWED: 2, outside.WRONG: 1}),
+    "nor any where it waits no longer": (
+        BEHIND + "bound 0 2 0\npick 0 1\n", {outside.ALLOWED: 2, outside.WRONG: 1}),
+    "a stopped leaf is passed by": (LIMIT + "pick 0 1\n", {outside.ALLOWED: 2, outside.STOPPED: 1}),
+    "it is not picked": (LIMIT + "pick 0 0\n", {outside.ALLOWED: 2, outside.WRONG: 1}),
+    "it may be in the next period": (LIMIT + "stop 0 0\npick 0 0\n", {outside.ALLOWED: 3}),
+    # leaf 2 is lifted to the clock of leaf 1, 20, not to that of leaf 0
+    "a stopped leaf lifts nobody": (
+        LIMIT + "leaf 2 1\nwake 2 1\npick 0 1\n",
+        {outside.ALLOWED: 2, outside.STOPPED: 1, outside.LIFTED: 1}),
+}
+
+
+@pytest.mark.parametrize("trace, found", TRACES.values(), ids=list(TRACES))
+def test_kinds_of_picks(trace, found):
+    """Worked by hand."""
+    assert +outside.Replay(trace).found == found
+
+
+# Recorded traces of guests: a task that is bound to a CPU, and a limit that binds.
+RECORDED = {
+    "held-two-pinned": {outside.ALLOWED: 3229, outside.BOUND: 28, outside.LIFTED: 1},
+    "held-two-limit": {outside.ALLOWED: 3218, outside.STOPPED: 12},
+}
+
+
+@pytest.mark.parametrize("name, found", RECORDED.items(), ids=list(RECORDED))
+def test_recorded_picks(name, found):
+    """So many leave the proved rule, and none is wrong. The proved program allows each where tasks
+    that are passed by are on processors of their own."""
+    trace = gzip.decompress((RUNS / f"{name}.txt.gz").read_bytes()).decode()
+    replay = outside.Replay(trace)
+    assert +replay.found == found
+    if traced.DISPATCH.is_file():
+        assert traced.replayed(trace) == f"allowed: {replay.text.count('pick ')} picks"
+
+
+@pytest.mark.parametrize("name", ["picks-two-three", "picks-four-web"])
+def test_as_the_proved_program(name):
+    """Where nobody is held back the lines stay, and all picks are allowed."""
+    trace = gzip.decompress((RUNS / f"{name}.txt.gz").read_bytes()).decode()
+    replay = outside.Replay(trace)
+    assert replay.text == trace and +replay.found == {outside.ALLOWED: trace.count("pick ")}
+
+
+def test_the_proved_program_allows_what_is_passed_by():
+    """A task that is held back is on a processor of its own while another one goes first."""
+    if not traced.DISPATCH.is_file():
+        pytest.skip(f"no {traced.DISPATCH}")
+    assert traced.replayed(BEHIND + "pick 0 1\n") == "allowed: 4 picks"
+    assert traced.replayed(LIMIT + "pick 0 1\n") == "allowed: 4 picks"
+    assert "lesser clock" in traced.replayed(BEHIND + "bound 0 2 0\npick 0 1\n")
