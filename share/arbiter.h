@@ -41,8 +41,9 @@
  * arbiter_name gives the name of each, and of those that arbiter_script writes for lines. docs/USING.md says what to do about
  * each. Where a call does not answer 0, all that it may write is as it was, but for `row` in step 4 and in arbiter_refused_row.
  *
- * arbiter_reading, arbiter_written, arbiter_slices, arbiter_period_limit, arbiter_demand, arbiter_planned_host,
- * arbiter_weight_of_shares, arbiter_refused_row, arbiter_name and arbiter_version ask for no memory: their answers are exact.
+ * arbiter_reading, arbiter_leaf_reading, arbiter_written, arbiter_slices, arbiter_period_limit, arbiter_demand,
+ * arbiter_planned_host, arbiter_weight_of_shares, arbiter_refused_row, arbiter_name and arbiter_version ask for no memory: their
+ * answers are exact.
  */
 #ifndef ARBITER_H
 #define ARBITER_H
@@ -263,6 +264,16 @@ uint32_t arbiter_reading(uint64_t processors, uint64_t period_us, uint64_t slice
                          uint64_t passed_ns, uint64_t used_us, uint64_t waited_us, uint32_t tasks, uint32_t throttled,
                          uint64_t allowed_us, const uint64_t *ran, size_t ran_length, const uint64_t *waited, size_t waited_length,
                          uint64_t *used, uint64_t *asked, uint32_t *hungry, uint32_t *guess);
+
+/* The same of a leaf that a scheduler serves, which counts how long tasks wait, so nothing is guessed. In a round of `passed_ns`
+ * nanoseconds the leaf used `used_ns`. Its tasks waited for a processor for `waited_ns`, added up, and one or more for `some_ns`.
+ * Writes to `used` the slices of one period of the host that it used, rounded up and at most 1000000, and to `asked` what it asks
+ * for. Where it was idle for more than a twentieth of the round, 20 (used_ns + some_ns) below 19 passed_ns, that is what it used.
+ * Else it is what it would have used if no task had waited. A leaf that asks for more than it used is hungry.
+ * Answers 1 to 3, then 15 where no time passed. */
+uint32_t arbiter_leaf_reading(uint64_t processors, uint64_t period_us, uint64_t slice_us,
+                              uint64_t passed_ns, uint64_t used_ns, uint64_t waited_ns, uint64_t some_ns,
+                              uint64_t *used, uint64_t *asked);
 
 /* What is written for a leaf's limit of a round. `limit` is that of arbiter_hold, if any, and `own` its own, both in slices.
  * `stands_us` is the quota that stands in it, in microseconds of the host's period; 0 where another one stands. It has `tasks`.

@@ -209,6 +209,11 @@ int main(void)
     if (arbiter_reading(2, 100000, 5000, 1000000000, 500000, 500000, 1, 0, ARBITER_NO_LIMIT, half, 1, half, 1, &used_now, &asked_now, &is_hungry, &is_guess) != 0
             || used_now != 10 || asked_now != 20 || is_hungry != 1 || is_guess != 0)
         return 57;
+    /* A leaf of a scheduler used half of the processor, and its tasks waited for the other half. */
+    if (arbiter_leaf_reading(1, 100000, 5000, 0, 1, 1, 1, &used_now, &asked_now) != 15 || used_now != 10)
+        return 69;
+    if (arbiter_leaf_reading(1, 100000, 5000, 1000000000, 500000000, 500000000, 500000000, &used_now, &asked_now) != 0 || used_now != 10 || asked_now != 20)
+        return 70;
     if (arbiter_written(1, 100000, 5000, ARBITER_NO_LIMIT, 0, 0, 1, &used_now, &asked_now) != 14 || used_now != 10)
         return 58;
     if (arbiter_written(1, 100000, 5000, 15, 20, 0, 1, &used_now, &asked_now) != 0 || used_now != 75585 || asked_now != 288)

@@ -194,6 +194,8 @@ int main(void)
     uint32_t is_hungry, is_guess;
     if (arbiter_reading(1, 100000, 5000, 1000000000, 500000, 500000, 1, 0, ARBITER_NO_LIMIT, ran, 1, ran, 1, two, two + 1, &is_hungry, &is_guess) != 0 || is_hungry != 1)
         return 55;
+    if (arbiter_leaf_reading(1, 100000, 5000, 1000000000, 500000000, 500000000, 500000000, two, two + 1) != 0 || two[1] != 20)
+        return 57;
     if (arbiter_written(1, 100000, 5000, 10, ARBITER_NO_LIMIT, 0, 1, two, two + 1) != 0)
         return 56;
     return turn == 0 ? 0 : 54;

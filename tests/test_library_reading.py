@@ -137,6 +137,66 @@ def test_reading_at_the_ends(module):
          arbiter.Reading(0, EVERYTHING, True))
 
 
+@pytest.mark.parametrize("used, waited, some, slices", [
+    # Its tasks waited, and it was never idle: half a CPU and what they waited.
+    (500, 500, 500, (50, 100)), (500, 1500, 500, (50, 200)),
+    # It was idle for a twentieth, and for more.
+    (500, 450, 450, (50, 95)), (500, 449, 449, (50, 50)),
+    # More tasks than CPUs ran, and none waited.
+    (2000, 0, 0, (200, 200)), (0, 0, 0, (0, 0)), (1, 2, 3, (1, 1)),
+])
+def test_leaf_by_hand(module, used, waited, some, slices):
+    """Milliseconds of a second that a leaf of a scheduler used, and that its tasks waited."""
+    times = arbiter.LeafTimes(SECOND, *(each * MILLISECOND for each in (used, waited, some)))
+    same(module.leaf_reading(HOST, times), arbiter.Reading(*slices, slices[0] < slices[1]))
+
+
+def leaf_by_model(host: arbiter.Host, times: arbiter.LeafTimes) -> arbiter.Reading:
+    """The reading of a leaf of a scheduler, in parts of the round."""
+    used, waited, some = (Fraction(each, times.passed) for each in times[1:])
+    # it asks for more only if it was idle for at most a twentieth
+    both = [used, used + waited if used + some >= Fraction(19, 20) else used]
+    used_slices, asked = (min(EVERYTHING, math.ceil(each * host.period_us / host.slice_us))
+                          for each in both)
+    return arbiter.Reading(used_slices, asked, used_slices < asked)
+
+
+def test_random_leaves(module):
+    """Random times, near the twentieth too."""
+    chance = random.Random(SEED + 2)
+    for case in range(CASES):
+        host = arbiter.Host(chance.randint(1, 64), 100000, chance.choice([1000, 5000, 100000]))
+        passed = chance.randint(1, 10**chance.randint(1, 12))
+        used = chance.randint(0, 2 * passed)
+        some = max(0, 19 * passed // 20 - used + chance.randint(-2, 2))
+        some = chance.choice([some, chance.randint(0, passed)])
+        times = arbiter.LeafTimes(passed, used, chance.choice([some, 3 * passed]), some)
+        same(module.leaf_reading(host, times), leaf_by_model(host, times), f"case {case}")
+
+
+@pytest.mark.parametrize("number, host, passed", [
+    (1, arbiter.Host(0, 0, 0), 0), (2, arbiter.Host(64, 999, 0), 0),
+    (3, arbiter.Host(64, 1000, 1001), 0), (15, HOST, 0)])
+def test_refused_leaf(module, number, host, passed):
+    """The first refusal is answered, and writes nothing."""
+    same(number_of(module.leaf_reading, host, arbiter.LeafTimes(passed, 1, 1, 1)), (number, None))
+    written = c.U64(7), c.U64(7)
+    same(module.calls.arbiter_leaf_reading(*module.host(host), passed, 1, 1, 1,
+                                           *map(ctypes.byref, written)), number)
+    same([each.value for each in written], [7, 7])
+
+
+def test_leaf_at_the_ends(module):
+    """The greatest numbers, and a round of a nanosecond."""
+    most = 2**64 - 1
+    same(module.leaf_reading(HOST, arbiter.LeafTimes(most, most, most, most)),
+         arbiter.Reading(100, 200, True))
+    same(module.leaf_reading(HOST, arbiter.LeafTimes(1, most, most, most)),
+         arbiter.Reading(EVERYTHING, EVERYTHING, False))
+    same(module.leaf_reading(HOST, arbiter.LeafTimes(most, 0, most, 0)),
+         arbiter.Reading(0, 0, False))
+
+
 def is_starved(passed: int, ran: int, waited: int) -> bool:
     """A task that waited for a hundredth or more, and slept for no longer than it waited and for
     at most a twentieth."""

@@ -11,13 +11,13 @@
 The package needs the standard library alone. The code that plans and checks is proved; this
 package is not.
 """
-from arbiter.columns import (Certificate, Columns, Counters, Figures, Host, Kind, Level,
+from arbiter.columns import (Certificate, Columns, Counters, Figures, Host, Kind, LeafTimes, Level,
                              QuotaColumns, Reading, Reason, Round, RoundTimes, Row, Samples,
                              Script)
 from arbiter.found import Unavailable
 from arbiter.library import Library, Refused
 
-__all__ = ["Certificate", "Columns", "Counters", "Figures", "Host", "Kind", "Level", "Library",
-           "QuotaColumns", "Reading", "Reason", "Refused", "Round", "RoundTimes", "Row", "Samples",
-           "Script", "Unavailable"]
+__all__ = ["Certificate", "Columns", "Counters", "Figures", "Host", "Kind", "LeafTimes", "Level",
+           "Library", "QuotaColumns", "Reading", "Reason", "Refused", "Round", "RoundTimes", "Row",
+           "Samples", "Script", "Unavailable"]
 __version__ = "1.0.0"

@@ -42,6 +42,7 @@ WORDS: dict[str, list[Any]] = {
     "hold": TREE + COLUMN + ROOM * 7,
     "serve": TREE + COLUMN + ROOM * 2,
     "reading": HOST + [U64] * 3 + [U32] * 2 + [U64] + COLUMN * 2 + [WRITTEN] * 4,
+    "leaf_reading": HOST + [U64] * 4 + [WRITTEN] * 2,
     "written": HOST + [U64] * 3 + [U32] + [WRITTEN] * 2,
     "guarantee": TREE + [U32, WRITTEN],
     "least_weight": TREE + [U32, U64, WRITTEN],

@@ -284,6 +284,17 @@ class RoundTimes(NamedTuple):
     allowed: int | None = None
 
 
+class LeafTimes(NamedTuple):
+    """What is counted of a leaf that a scheduler serves in a round, in nanoseconds."""
+
+    # The time that passed.
+    passed: int
+    used: int
+    # How long its tasks waited for a CPU, added up, and how long one or more of them waited.
+    waited: int
+    some: int
+
+
 class Reading(NamedTuple):
     """What a group used in a round and asks for, in slices of one period, rounded up."""
 

@@ -10,8 +10,8 @@ from typing import TypeAlias
 
 from arbiter import c, found, pipe
 from arbiter.columns import (U8, U32, U64, Certificate, Columns, Counters, Figures, Host, Kind,
-                             QuotaColumns, Reading, Reason, Round, RoundTimes, Row, Samples,
-                             Script, column, given, in_range, number_or_none, zeros)
+                             LeafTimes, QuotaColumns, Reading, Reason, Round, RoundTimes, Row,
+                             Samples, Script, column, given, in_range, number_or_none, zeros)
 
 # The rows of a tree, or their columns, which are made once for several calls.
 Rows: TypeAlias = Sequence[Row] | Columns
@@ -212,6 +212,16 @@ class Library:
         if number:
             raise self.refused(number)
         return Reading(used.value, asked.value, bool(hungry.value), bool(guess.value))
+
+    def leaf_reading(self, host: Host, times: LeafTimes) -> Reading:
+        """What a leaf that a scheduler serves used in a round, and what it asks for: what it used
+        if it was idle for more than a twentieth of it, else what it would have used if no task had
+        waited. Refused as a host is, and by 15 PeriodOutOfRange if no time passed.
+        """
+        used, asked = c.U64(), c.U64()
+        self.ask_host("leaf_reading", host, *(in_range(each, 64, "time") for each in times),
+                      ctypes.byref(used), ctypes.byref(asked))
+        return Reading(used.value, asked.value, used.value < asked.value)
 
     def written(self, host: Host, limit: int, own: int | None, stands: int, tasks: int
                 ) -> tuple[int | None, int]:

@@ -12,14 +12,13 @@ import shutil
 import subprocess
 import time
 from collections.abc import Iterator
-from typing import Any, NamedTuple
+from typing import Any
 
-from arbiter import Columns, Host, Reading, Round
+from arbiter import Columns, Host, LeafTimes, Reading, Round
 from arbiter_host import hold
 from arbiter_host.faults import HostFault
 from arbiter_host.hold import WriteFault, Written
 from arbiter_host.model import Group, Model
-from arbiter_host.units import MAX_DEMAND
 
 PROGRAM = "arbiter-scheduler"
 # Where it is looked for beside PATH.
@@ -28,24 +27,6 @@ FOLDERS = "/usr/sbin:/usr/local/sbin"
 LONGEST = 60
 # The period of limits in nanoseconds; the greatest amount that it takes.
 LIMIT_PERIOD, MOST_AMOUNT = 10**8, 10**9
-# A leaf was idle for a while if it was for one of so many parts of a round: the slices that run are
-# not told yet.
-PARTS = 20
-
-
-class UsedTime(NamedTuple):
-    """What a group did in a round, in nanoseconds: it used, its tasks waited in sum, and how long
-    one or more waited."""
-
-    used: int
-    waited: int
-    some: int
-
-    def asked(self, passed: int) -> int:
-        """What it would have used had no task waited, or more. One that was idle for a part of the
-        time had all that it asked for."""
-        was_idle = PARTS * (self.used + self.some) < (PARTS - 1) * passed
-        return self.used if was_idle else self.used + self.waited
 
 
 class Scheduler:
@@ -102,14 +83,14 @@ class Scheduler:
                 break
         return found
 
-    def read(self) -> tuple[dict[int, UsedTime], int]:
-        """What each group of the last plan did since the last reading, by the number of its folder,
-        and the nanoseconds of that time."""
+    def read(self) -> dict[int, LeafTimes]:
+        """What each group of the last plan did since the last reading, by the number of its
+        folder."""
         self.say("read")
         *leaves, last = self.answer("read")
         try:
-            found = {int(words[1]): UsedTime(*map(int, words[2:5])) for words in leaves}
-            return found, int(last[1])
+            passed = int(last[1])
+            return {int(words[1]): LeafTimes(passed, *map(int, words[2:5])) for words in leaves}
         except (ValueError, TypeError, IndexError) as error:
             raise self.fault("it answers what is no reading") from error
 
@@ -134,7 +115,7 @@ class ScheduledLoop(hold.Loop):
 
     def __init__(self, scheduler: Scheduler, *words: Any, **more: Any) -> None:
         super().__init__(*words, **more)
-        self.scheduler, self.used, self.passed = scheduler, dict[int, UsedTime](), 0
+        self.scheduler, self.used = scheduler, dict[int, LeafTimes]()
         # The amount and the limit of each row, in slices.
         self.served = list[int](), list[int | None]()
         # kubelet's groups are served too, since nothing in them is written
@@ -146,7 +127,7 @@ class ScheduledLoop(hold.Loop):
 
     def read(self) -> tuple[Model, dict[str, Reading]]:
         """The groups as they stand, and what each leaf used."""
-        self.used, self.passed = self.scheduler.read()
+        self.used = self.scheduler.read()
         return super().read()
 
     def read_group(self, path: str, has_look: bool) -> Reading:
@@ -154,17 +135,11 @@ class ScheduledLoop(hold.Loop):
         guessed. One that was in no plan yet is read as by limits."""
         kept = self.groups[path]
         each = self.used.get(kept.identity[1])
-        if each is None or not self.passed:
+        if each is None or not each.passed:
             return super().read_group(path, has_look)
         if has_look:
             self.look(kept, path)
-        used = self.slices(each.used)
-        asked = min(self.slices(each.asked(self.passed)), MAX_DEMAND)
-        return Reading(used, asked, asked > used)
-
-    def slices(self, ns: int) -> int:
-        """Nanoseconds of a round as slices of a period, rounded up."""
-        return -(-ns * self.host.period_us // (self.passed * self.host.slice_us))
+        return self.engine.library.leaf_reading(self.host, each)
 
     def ask(self, host: Host, rows: Columns, hungry: list[bool]) -> Round:
         """The limits of the next round. And what the scheduler is given for it."""

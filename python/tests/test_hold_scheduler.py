@@ -1,12 +1,20 @@
 """Hold by the kernel's scheduler: what a stand-in for its loader is told, and what it answers."""
 import os
+import re
+import shutil
 import stat
+import subprocess
 import sys
 
 import pytest
 from arbiter_host import hold, safe_files, scheduler
 from arbiter_host.faults import HostFault
 from held import FREE, TWO, World
+from places import PACKAGE
+
+UNIT = PACKAGE.parent / "share/systemd/arbiter-schedule.service"
+# System calls of the loader in a guest, by `strace -f -c`: it loads, takes two plans, and is read.
+CALLS = PACKAGE.parent / "bench/kernel/runs/loader-calls.txt"
 
 # A loader that keeps its commands in a file. Each reading is the next line of another one: of each
 # group of the plan the nanoseconds that it used and waited, by its place in the plan.
@@ -156,3 +164,47 @@ def test_refused_words(ctl, folder, world):
         _, err = ctl.run("hold", world.tree, "--root", world.tree, "--by", "scheduler", *words,
                          status=2)
         assert said in err
+
+
+def option(name):
+    """The values of an option of the unit, in order."""
+    return re.findall(rf"^{name}=(.*)$", UNIT.read_text(encoding="utf-8"), re.M)
+
+
+def calls_of(names):
+    """System calls by their names, and those of systemd's sets."""
+    found = set()
+    for name in names:
+        if name.startswith("@"):
+            said = subprocess.run(["systemd-analyze", "syscall-filter", name], check=True,
+                                  capture_output=True, text=True, timeout=60).stdout
+            found |= calls_of(re.findall(r"^ +([@\w-]+)$", said, re.M))
+        else:
+            found.add(name)
+    return found
+
+
+def test_unit_says_how_it_runs():
+    """It takes the settings of arbiter-hold.service and its place. The loader is the loop's to end.
+    It writes no file of a group, and has two rights of root."""
+    assert option("ExecStart") == [
+        "/usr/bin/arbiterctl hold --yes --by scheduler $OPTIONS ${TREE}"]
+    assert option("EnvironmentFile") == ["/etc/default/arbiter-hold"]
+    assert option("Conflicts") == ["arbiter-hold.service"]
+    assert (option("Type"), option("KillMode")) == (["notify"], ["mixed"])
+    assert option("ProtectControlGroups") == ["yes"] and not option("ExecStopPost")
+    assert option("CapabilityBoundingSet") == ["CAP_BPF CAP_PERFMON"]
+
+
+@pytest.mark.skipif(not shutil.which("systemd-analyze"), reason="no systemd-analyze")
+def test_unit_lets_the_loader_work():
+    """Its filter lets through each system call of the loader but one, that no kernel with sched_ext
+    needs. Of systemd's privileged calls it lets through `bpf` alone."""
+    passes = set()
+    for line in option("SystemCallFilter"):
+        names = calls_of(line.lstrip("~").split())
+        passes = passes - names if line.startswith("~") else passes | names
+    needs = set(CALLS.read_text(encoding="ascii").split())
+    assert "bpf" in needs and len(needs) > 10
+    assert needs - passes == set()
+    assert passes & calls_of(["@privileged"]) == {"bpf"}

@@ -600,9 +600,11 @@ def test_unit_says_how_it_runs():
 
 
 @pytest.mark.skipif(shutil.which("systemd-analyze") is None, reason="no systemd-analyze")
-def test_unit_is_hardened():
+@pytest.mark.parametrize("name", ["hold", "schedule"])
+def test_unit_is_hardened(name):
     """systemd's own measure of its exposure: at most 1.5 of 10."""
-    words = ["systemd-analyze", "security", "--offline=true", "--threshold=15", str(UNIT)]
+    unit = UNIT.with_name(f"arbiter-{name}.service")
+    words = ["systemd-analyze", "security", "--offline=true", "--threshold=15", str(unit)]
     ended = subprocess.run(words, capture_output=True, text=True, check=False, timeout=60)
     assert ended.returncode == 0, ended.stdout[-200:]
 

@@ -131,6 +131,9 @@ def of_no_tree():
                     for quota in (None, 999, 1000, 10**15))
         yield from (("reading", (host, arbiter.RoundTimes(passed, 9 * 10**5, 10**5, 2), each))
                     for passed in (0, 10**9) for each in ([], [(8 * 10**8, 10**8)], [(1, 1)] * 3))
+        yield from (("leaf_reading", (host, arbiter.LeafTimes(passed, used, 5 * 10**8, some)))
+                    for passed in (0, 10**9) for used in (0, 5 * 10**8, MOST)
+                    for some in (0, 5 * 10**8))
         yield from (("written", (host, limit, own, 10**5, 2))
                     for limit in (0, 20, 100, MOST) for own in (None, 20, 101))
         yield from (("script", (host, each)) for each in

@@ -370,6 +370,11 @@ static void numbers(void)
                                          ends[(u + p * 3) % many], ran, 2, ran, 2, &number, &asked, &hungry, &guess);
                 demand(host ? answer == host : answer == 0 || answer == 15, __LINE__);
                 demand(answer ? number == 7 && asked == 7 && hungry == 7 && guess == 7 : number <= asked && asked <= 1000000 && hungry < 2 && guess < 2, __LINE__);
+                number = asked = 7;
+                answer = arbiter_leaf_reading(ends[p], ends[u], ends[s], ends[(u * 5 + p) % many], ends[(s + p) % many], ends[(s * 3 + u) % many], ends[(p * 3 + s) % many],
+                                              &number, &asked);
+                demand(host ? answer == host : answer == 0 || answer == 15, __LINE__);
+                demand(answer ? number == 7 && asked == 7 : number <= asked && asked <= 1000000, __LINE__);
                 answer = arbiter_written(ends[p], ends[u], ends[s], ends[(p + u) % many], ends[(u + s) % many], ends[(s + p) % many], (uint32_t)ends[(p * 7 + s) % many], &quota, &weight);
                 demand(host ? answer == host : answer == 0 || answer == 14, __LINE__);
                 demand(answer ? quota == 7 && weight == 7 : (quota >= 1000 || quota == NONE) && weight >= 1 && weight <= 10000, __LINE__);

@@ -449,6 +449,30 @@ pub fn reading(host: Host, times: RoundTimes, ran: &[u64], waited: &[u64]) -> Re
     Ok(found)
 }
 
+/// What is counted of a leaf that a scheduler serves in a round, in nanoseconds.
+#[derive(Clone, Copy, Debug, PartialEq, Eq)]
+pub struct LeafTimes {
+    /// The time that passed.
+    pub passed_ns: u64,
+    /// What it used.
+    pub used_ns: u64,
+    /// How long its tasks waited for a processor, added up.
+    pub waited_ns: u64,
+    /// How long one or more of them waited.
+    pub some_ns: u64,
+}
+
+/// What a leaf that a scheduler serves used in a round, and what it asks for: what it used if it was idle for more than a
+/// twentieth of it, else what it would have used if no task had waited.
+///
+/// # Errors
+/// The host is refused (1 to 3), or no time passed (15).
+pub fn leaf_reading(host: Host, times: LeafTimes) -> Result<Reading, Fault> {
+    let (number, found) = raw::leaf_reading(host, times);
+    answered(number, None)?;
+    Ok(found)
+}
+
 /// The quota and the weight that are written for a leaf's limit of a round, as share/arbiter.h has them.
 ///
 /// `own` is its own limit, and `stands_us` the quota that stands in it, of the host's period. No quota: its own limit is written.
@@ -759,6 +783,21 @@ mod tests {
 
     fn fault(number: u32, row: Option<u32>) -> Fault {
         Fault { number, row }
+    }
+
+    /// A leaf of a scheduler used half of a processor, and its tasks waited for the other half.
+    #[test]
+    fn reads_a_leaf() {
+        let mut times = LeafTimes {
+            passed_ns: 1_000_000_000,
+            used_ns: 500_000_000,
+            waited_ns: 500_000_000,
+            some_ns: 500_000_000,
+        };
+        let found = leaf_reading(Host::default(), times).unwrap();
+        assert_eq!((found.used, found.asked, found.is_hungry), (10, 20, true));
+        times.passed_ns = 0;
+        assert_eq!(leaf_reading(Host::default(), times), Err(fault(15, None)));
     }
 
     /// Of 20 slices `two` shares 7 and 13 if both ask for all. The first used 4, so the second may have 16.

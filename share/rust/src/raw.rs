@@ -1,6 +1,6 @@
 //! The calls of `arbiter.h`, on slices. Each call has what the header asks: lengths that are those of the slices, pointers that
 //! are not null (a slice has none), and no memory that is written and read at once (a `&mut` overlaps nothing).
-use crate::{Certificate, Fault, Group, Host, Level, Reading, Reason, RefusedLine, RoundTimes, Row, Script, Settings, Stat, Sums};
+use crate::{Certificate, Fault, Group, Host, LeafTimes, Level, Reading, Reason, RefusedLine, RoundTimes, Row, Script, Settings, Stat, Sums};
 use std::collections::hash_map::RandomState;
 use std::hash::{BuildHasher, Hasher};
 
@@ -106,6 +106,8 @@ extern "C" {
                        passed_ns: u64, used_us: u64, waited_us: u64, tasks: u32, throttled: u32,
                        allowed_us: u64, ran: *const u64, ran_length: usize, waited: *const u64, waited_length: usize,
                        used: *mut u64, asked: *mut u64, hungry: *mut u32, guess: *mut u32) -> u32;
+    fn arbiter_leaf_reading(processors: u64, period_us: u64, slice_us: u64,
+                            passed_ns: u64, used_ns: u64, waited_ns: u64, some_ns: u64, used: *mut u64, asked: *mut u64) -> u32;
     fn arbiter_written(processors: u64, period_us: u64, slice_us: u64,
                        limit: u64, own: u64, stands_us: u64, tasks: u32, quota: *mut u64, weight: *mut u64) -> u32;
     fn arbiter_refused_row(parents: *const u32, parents_length: usize, weights: *const u64, weights_length: usize,
@@ -714,6 +716,17 @@ pub(crate) fn reading(host: Host, times: RoundTimes, ran: &[u64], waited: &[u64]
                         &mut used, &mut asked, &mut hungry, &mut guess)
     };
     (number, Reading { used, asked, is_hungry: hungry != 0, is_guess: guess != 0 })
+}
+
+#[rustfmt::skip]
+pub(crate) fn leaf_reading(host: Host, times: LeafTimes) -> (u32, Reading) {
+    let (mut used, mut asked) = (0, 0);
+    // SAFETY: as above
+    let number = unsafe {
+        arbiter_leaf_reading(host.processors, host.period_us, host.slice_us,
+                             times.passed_ns, times.used_ns, times.waited_ns, times.some_ns, &mut used, &mut asked)
+    };
+    (number, Reading { used, asked, is_hungry: used < asked, is_guess: false })
 }
 
 #[rustfmt::skip]
