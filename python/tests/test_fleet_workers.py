@@ -204,7 +204,7 @@ def test_an_exception_is_told_of_its_host(hosts, calls, by_name):
 @pytest.mark.parametrize("how", [signal.SIGINT, signal.SIGKILL], ids=["interrupt", "kill"])
 def test_no_worker_outlives_the_run(ctl, folder, how):
     """An interrupt of a terminal reaches all, and ends the run without a word. A run that is
-    killed leaves no worker either."""
+    killed leaves no worker either, and Python may tell what kept one from its begin."""
     hosts = fleets.make(folder / "hosts", 400, 300)
     run = begun(ctl, "explain", hosts, "--workers", 2, *JSON, start_new_session=True)
     pids = workers_of(run, 2)
@@ -214,8 +214,8 @@ def test_no_worker_outlives_the_run(ctl, folder, how):
             os.killpg(run.pid, how)
         else:
             run.kill()
-    status, out, err = ended(run)
-    assert (status, out) == (-how, "") and (err == "" or how == signal.SIGKILL)
+    out, err = run.communicate(timeout=300)
+    assert (run.returncode, out) == (-how, b"") and (err == b"" or how == signal.SIGKILL)
     wait_for_end(pids)
 
 
