@@ -88,6 +88,8 @@ fn group(line: &[u8]) -> Result<GroupLine, CertFault>
 }
 
 // The values of the first line, read word by word, and the text after it.
+// in a function of its own, so that the loop of `groups` has the registers
+#[inline(never)]
 fn group_by_words(text: &[u8]) -> Result<(GroupLine, &[u8]), CertFault>
     ensures { seen (λ p. (group_view p.0, text_lines p.1.now)) result
         ≡ group_at (text_lines text.now) }
