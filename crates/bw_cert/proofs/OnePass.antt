@@ -5,7 +5,7 @@ use Rattle.std.proofs.Common.{refl, sym, ap, ◌∙◌, add-one, append_assoc, a
 use Rattle.std.specs.Prelude.{codes}
 use Rattle.std.specs.Char.{is_ascii_digit}
 use Rattle.std.specs.List.{list_all}
-use Rattle.std.specs.Fmt.{decimal}
+use Rattle.std.specs.Fmt.{decimal, digits}
 use Rattle.std.proofs.Math.Nat.{pow-suc, pow-le-pow_right}
 use Rattle.std.proofs.lemmas.Bool.{lt-ltb}
 use Rattle.std.proofs.lemmas.Bool.Decides.{nat_tests}
@@ -51,6 +51,18 @@ read_more text i b n within is digit r =
       value = rw more (value_more (take i text) b ∙ ap (λ x. x * 10 + (b - 48)) r.value);
       small = rw power (omega (arith, r.small, digit_range b digit));
     }
+
+pub zero_spelled : decimal 0 ≡ 48 ∷ []
+unfolding digits
+zero_spelled = refl
+
+pub two_bytes : (text : List ℕ) (a b : ℕ) → 2 ≤ length text → get_or text 0 0 ≡ a
+    → get_or text 1 0 ≡ b → text ≡ a ∷ b ∷ drop 2 text
+two_bytes text a b long first second =
+    let one : text ≡ get_or text 0 0 ∷ drop 1 text = drop_more text 0 0 (omega (arith, long)) in
+    let more : drop 1 text ≡ get_or text 1 0 ∷ drop 2 text =
+    drop_more text 1 0 (omega (arith, long)) in
+    one ∙ rw (first, more, second) refl
 
 -- a number of 18 digits has room for one more
 pub read_small : (text : List ℕ) (i n : ℕ) → i ≤ 18 → IsRead text i n

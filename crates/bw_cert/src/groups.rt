@@ -88,6 +88,8 @@ fn group(line: &[u8]) -> Result<GroupLine, CertFault>
 }
 
 // The values of the first line, read word by word, and the text after it.
+// in a function of its own, so that the loop of `groups` has the registers
+#[inline(never)]
 fn group_by_words(text: &[u8]) -> Result<(GroupLine, &[u8]), CertFault>
     ensures { seen (λ p. (group_view p.0, text_lines p.1.now)) result
         ≡ group_at (text_lines text.now) }
@@ -95,17 +97,6 @@ fn group_by_words(text: &[u8]) -> Result<(GroupLine, &[u8]), CertFault>
     let (line, rest) = first_line(text)?;
     let read = group(line)?;
     Ok((read, rest))
-}
-
-// The values of the first line, and the text after it.
-fn next_group(text: &[u8]) -> Result<(GroupLine, &[u8]), CertFault>
-    ensures { seen (λ p. (group_view p.0, text_lines p.1.now)) result
-        ≡ group_at (text_lines text.now) }
-{
-    match spelled_group(text) {
-        Some((read, rest)) => Ok((read, rest)),
-        None => group_by_words(text),
-    }
 }
 
 /// Reads `count` groups. Returns them with the text after their lines.
@@ -123,7 +114,16 @@ pub(crate) fn groups(alloc: Global, count: u64, text: &[u8]) -> Result<(Columns,
     let mut levels = Vec::with_capacity(alloc, room)?;
     let mut rest = text;
     for _ in 0..count {
-        let (next, after) = next_group(rest)?;
+        // pushed here too, since values that wait for the other way are moved through memory
+        if let Some((next, after)) = spelled_group(rest) {
+            rows.push_reserved(next.row);
+            amounts.push_reserved(next.amount);
+            tight.push_reserved(next.flag);
+            levels.push_reserved(next.level);
+            rest = after;
+            continue;
+        }
+        let (next, after) = group_by_words(rest)?;
         rows.push_reserved(next.row);
         amounts.push_reserved(next.amount);
         tight.push_reserved(next.flag);

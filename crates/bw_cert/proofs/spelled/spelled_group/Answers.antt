@@ -11,7 +11,7 @@ pub returns-clause-spelled : goal.returns-clause-spelled
 returns-clause-spelled c =
     c.in_ok-row.ensures.spelled ∙ rw (
       c.in_ok-amount.ensures.spelled,
-      c.in_ok-flag.ensures,
+      c.in_ok-flag.ensures.spelled,
       c.in_ok-level.ensures.spelled,
     )
     (line_text (parent_word c.in_ok-row.row.parent) (decimal c.in_ok-row.row.weight)
