@@ -35,8 +35,8 @@ def test_kinds_of_picks(trace, found):
 
 # Recorded traces of guests: a task that is bound to a CPU, and a limit that binds.
 RECORDED = {
-    "held-two-pinned": {outside.ALLOWED: 3229, outside.BOUND: 28, outside.LIFTED: 1},
-    "held-two-limit": {outside.ALLOWED: 3218, outside.STOPPED: 12},
+    "held-two-pinned": {outside.ALLOWED: 3219, outside.BOUND: 17},
+    "held-two-limit": {outside.ALLOWED: 3222, outside.STOPPED: 5},
 }
 
 

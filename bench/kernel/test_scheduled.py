@@ -140,13 +140,6 @@ def test_what_it_endured():
     check_endured(json.loads(RUN.read_text(encoding="utf-8")), 500, endured.LOADS)
 
 
-def test_nothing_of_it_is_left():
-    """After 60 times no map, program or link, and as much memory but for 4 MiB."""
-    found = json.loads(RUN.with_name("cycled.json").read_text(encoding="utf-8"))
-    assert found["cycles"] == "60" and set(map(tuple, found["objects"].values())) == {(0, 0, 0)}
-    assert found["free_kib"]["first"] - found["free_kib"]["last"] < 4096
-
-
 def test_page_has_the_tables():
     """docs/kernel/scheduler.txt has what the runs give."""
     page = scheduled_page.PAGE.read_text(encoding="utf-8")
@@ -154,8 +147,11 @@ def test_page_has_the_tables():
 
 
 def check_endured(found, cycles, loads):
-    """All ended as they should, no slower than in a second, the watchdog's within its time."""
+    """All ended as they should, no slower than in a second, the watchdog's within its time. Of what
+    was attached no map, program or link is left, and as much memory but for 4 MiB."""
     times = found["milliseconds"]
+    assert set(map(tuple, found["objects"].values())) == {(0, 0, 0)}
+    assert found["free_kib"]["first"] - found["free_kib"]["last"] < 4096
     assert (found["cycles"], found["enabled"]) == (str(cycles), 2 * loads)
     assert [len(times[name]) for name in ("killed", "ended", "stalled")] == [loads, loads, 1]
     assert max(times["killed"] + times["ended"]) < 1000
