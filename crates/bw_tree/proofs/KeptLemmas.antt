@@ -1,7 +1,7 @@
 -- A kept snapshot stays one of its tree.
 use Rattle.std.proofs.Common.{◌≡◌, inl, inr, ℕ, zero, suc, ◌<◌, ◌≤◌, Bool, true, false, List, []}
 use Rattle.std.proofs.Common.{◌∷◌, length, get_or, set, take, map, Option, Some, None, position}
-use Rattle.std.proofs.Common.{refl, sym, ap, subst, ◌∙◌, eqb, arith}
+use Rattle.std.proofs.Common.{is_some, refl, sym, ap, subst, ◌∙◌, eqb, arith}
 use Rattle.std.proofs.Math.Path.{fun_ext}
 use Rattle.std.proofs.Math.ListN.{get_or-map}
 use Rattle.std.proofs.Math.Seq.{map-set_same}
@@ -160,6 +160,12 @@ module _ (t : TreeState) (id i demand : ℕ) (place : position (eqb id) (keys_of
     leaf = λ some. ap (λ (groups : Groups). is_leaf groups.rows i) is.rows
         ∙ demand_leaf after is.valid some;
   }
+
+-- a snapshot that is kept stays
+pub demand_stays : (place demand : ℕ) (kept : Option Snapshot)
+    → is_some (option_map (demand_set place demand) kept) ≡ is_some kept
+demand_stays place demand None = refl
+demand_stays place demand (Some snapshot) = refl
 
 -- ---- what a period leaves over
 
