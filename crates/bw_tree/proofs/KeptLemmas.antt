@@ -1,7 +1,7 @@
 -- A kept snapshot stays one of its tree.
 use Rattle.std.proofs.Common.{◌≡◌, inl, inr, ℕ, zero, suc, ◌<◌, ◌≤◌, Bool, true, false, List, []}
 use Rattle.std.proofs.Common.{◌∷◌, length, get_or, set, take, map, Option, Some, None, position}
-use Rattle.std.proofs.Common.{refl, sym, ap, subst, ◌∙◌, eqb, arith}
+use Rattle.std.proofs.Common.{is_some, refl, sym, ap, subst, ◌∙◌, eqb, arith}
 use Rattle.std.proofs.Math.Path.{fun_ext}
 use Rattle.std.proofs.Math.ListN.{get_or-map}
 use Rattle.std.proofs.Math.Seq.{map-set_same}
@@ -161,9 +161,15 @@ module _ (t : TreeState) (id i demand : ℕ) (place : position (eqb id) (keys_of
         ∙ demand_leaf after is.valid some;
   }
 
+-- a snapshot that is kept stays
+pub demand_stays : (place demand : ℕ) (kept : Option Snapshot)
+    → is_some (option_map (demand_set place demand) kept) ≡ is_some kept
+demand_stays place demand None = refl
+demand_stays place demand (Some snapshot) = refl
+
 -- ---- what a period leaves over
 
-pub length_at : (gs : List (ℕ × GroupFields)) (i carry : ℕ)
+length_at : (gs : List (ℕ × GroupFields)) (i carry : ℕ)
     → length (carried_at gs i carry) ≡ length gs
 length_at [] i carry = refl
 length_at (e ∷ es) zero carry = refl
@@ -244,45 +250,6 @@ module _ (gs : List (ℕ × GroupFields)) (i carry : ℕ) (within : i < length g
   abbrev after : List (ℕ × GroupFields)
   after = set gs i (was.0, set_carry carry was.1)
 
-  -- it is read again
-  pub carrying : (y : ℕ × GroupFields) → y ≡ get_or (carried_at gs i carry) i y
-      → y.1 ≡ set_carry carry was.1
-  carrying y read =
-      ap (λ (e : ℕ × GroupFields). e.1)
-      (read ∙ ap (λ (es : List (ℕ × GroupFields)). get_or es i y)
-      (sym (written_at gs i carry was was_read))
-      ∙ get_or-set_same gs i (was.0, set_carry carry was.1) y within)
-
-  -- the groups stay sound
-  pub carry_sound : AreSound gs → AreSound (carried_at gs i carry)
-  carry_sound sound = subst AreSound (written_at gs i carry was was_read) (λ k y lt is.
-      elim (cases_eq k i) [
-        | inl same ↦
-            let here : y ≡ (was.0, set_carry carry was.1) =
-            is ∙ ap (λ j. get_or after j y) same
-            ∙ get_or-set_same gs i (was.0, set_carry carry was.1) y within in
-            subst (λ (z : ℕ × GroupFields). IsSound z.1) (sym here)
-            (sound_carry carry was.1 (sound i was within was_read))
-        | inr other ↦
-            sound k y (omega (arith, lt, length-set gs i (was.0, set_carry carry was.1)))
-            (is ∙ get_or-set_other gs i k (was.0, set_carry carry was.1) y other)
-      ])
-
-  -- the row with the new limit is the row of the group that carries
-  pub carry_step : (shape : Shape) (groups : Groups) → groups ≡ on_host gs shape
-      → with_limit groups i (period_limit shape (set_carry carry was.1))
-      ≡ on_host (carried_at gs i carry) shape
-  carry_step shape groups is =
-      let limit = period_limit shape (set_carry carry was.1) in
-      let made : List Row → Groups = λ rows. record { shape = shape; rows = rows } in
-      ap (λ (g : Groups). with_limit g i limit) is
-      ∙ ap made
-      (ap (λ (r : Row). set (rows_of gs shape) i (record r { limit = limit }))
-      (sym (value_at (row_of gs shape) gs i was no_row within was_read))
-      ∙ sym (rows_written gs i was was_read (set_carry carry was.1) shape)
-      ∙ ap (λ (es : List (ℕ × GroupFields)). rows_of es shape)
-      (written_at gs i carry was was_read))
-
   -- the row's limit is the group's
   pub row_limit : (shape : Shape) (groups : Groups) → groups ≡ on_host gs shape
       → (row_there groups.rows i).limit ≡ period_limit shape was.1
@@ -299,14 +266,59 @@ module _ (gs : List (ℕ × GroupFields)) (i carry : ℕ) (within : i < length g
       row_limit shape groups is ∙ no_burst shape was.1.carry was.1 none
       ∙ sym (no_burst shape carry was.1 none)
 
-  -- without a limit nothing changes
-  pub unlimited_step : (shape : Shape) (groups : Groups) → groups ≡ on_host gs shape
-      → (row_there groups.rows i).limit ≡ None → groups ≡ on_host (carried_at gs i carry) shape
-  unlimited_step shape groups is none =
-      let stays : (row_there groups.rows i).limit ≡ period_limit shape (set_carry carry was.1) =
-      none ∙ sym (none_stays shape carry was.1 (sym (row_limit shape groups is) ∙ none)) in
-      sym (limit_again groups i (period_limit shape (set_carry carry was.1)) stays)
-      ∙ carry_step shape groups is
+  module _ (new : List (ℕ × GroupFields)) (made : new ≡ carried_at gs i carry) where
+    pub still_within : i < length new
+    still_within = omega (arith, within, ap length made, length_at gs i carry)
+
+    -- it is read again
+    pub carrying : (y : ℕ × GroupFields) → y ≡ get_or new i y → y.1 ≡ set_carry carry was.1
+    carrying y read =
+        ap (λ (e : ℕ × GroupFields). e.1)
+        (read ∙ ap (λ (es : List (ℕ × GroupFields)). get_or es i y)
+        (made ∙ sym (written_at gs i carry was was_read))
+        ∙ get_or-set_same gs i (was.0, set_carry carry was.1) y within)
+
+    -- the groups stay sound
+    pub carry_sound : AreSound gs → AreSound new
+    carry_sound sound = subst AreSound (written_at gs i carry was was_read ∙ sym made)
+        (λ k y lt is. elim (cases_eq k i) [
+          | inl same ↦
+              let here : y ≡ (was.0, set_carry carry was.1) =
+              is ∙ ap (λ j. get_or after j y) same
+              ∙ get_or-set_same gs i (was.0, set_carry carry was.1) y within in
+              subst (λ (z : ℕ × GroupFields). IsSound z.1) (sym here)
+              (sound_carry carry was.1 (sound i was within was_read))
+          | inr other ↦
+              sound k y (omega (arith, lt, length-set gs i (was.0, set_carry carry was.1)))
+              (is ∙ get_or-set_other gs i k (was.0, set_carry carry was.1) y other)
+        ])
+
+    -- so is the one that carries
+    pub sound_there : AreSound gs → (y : ℕ × GroupFields) → y ≡ get_or new i y → IsSound y.1
+    sound_there sound y read = carry_sound sound i y still_within read
+
+    -- the row with the new limit is the row of the group that carries
+    pub carry_step : (shape : Shape) (groups : Groups) → groups ≡ on_host gs shape
+        → with_limit groups i (period_limit shape (set_carry carry was.1)) ≡ on_host new shape
+    carry_step shape groups is =
+        let limit = period_limit shape (set_carry carry was.1) in
+        let made_of : List Row → Groups = λ rows. record { shape = shape; rows = rows } in
+        ap (λ (g : Groups). with_limit g i limit) is
+        ∙ ap made_of
+        (ap (λ (r : Row). set (rows_of gs shape) i (record r { limit = limit }))
+        (sym (value_at (row_of gs shape) gs i was no_row within was_read))
+        ∙ sym (rows_written gs i was was_read (set_carry carry was.1) shape)
+        ∙ ap (λ (es : List (ℕ × GroupFields)). rows_of es shape)
+        (written_at gs i carry was was_read ∙ sym made))
+
+    -- without a limit nothing changes
+    pub unlimited_step : (shape : Shape) (groups : Groups) → groups ≡ on_host gs shape
+        → (row_there groups.rows i).limit ≡ None → groups ≡ on_host new shape
+    unlimited_step shape groups is none =
+        let stays : (row_there groups.rows i).limit ≡ period_limit shape (set_carry carry was.1) =
+        none ∙ sym (none_stays shape carry was.1 (sym (row_limit shape groups is) ∙ none)) in
+        sym (limit_again groups i (period_limit shape (set_carry carry was.1)) stays)
+        ∙ carry_step shape groups is
 
 -- the tree after a period, and the snapshot with the limits of the next one
 pub carried_snapshot : (t : TreeState) (shape : Shape) (drawn : List ℕ) (old new : Snapshot)

@@ -1,10 +1,10 @@
 -- The goals of `Tree::set_demand_in_step` that are answered by hand.
-use Rattle.std.proofs.Common.{sym, subst}
+use Rattle.std.proofs.Common.{◌∙◌, is_some, ap, sym, subst}
 use Rattle.bw_tree.specs.Groups.{IsTree, TreeState}
 use Rattle.bw_tree.specs.Kept.{IsKept}
 use Rattle.bw_tree.specs.Tree.{set_demand, with_setting}
 use Rattle.bw_tree.proofs.SetLemmas.{can_demand}
-use Rattle.bw_tree.proofs.KeptLemmas.{can_set_row, demand_kept}
+use Rattle.bw_tree.proofs.KeptLemmas.{can_set_row, demand_kept, demand_stays}
 use Rattle.bw_tree.proofs.tree.Tree.set_demand_in_step.Goals as goal
 
 pub set_row_demand-requires : goal.set_row_demand-requires
@@ -24,3 +24,8 @@ returns-clause-kept c =
     (subst (λ k. IsKept k new c.args.shape) (sym c.set_row_demand.ensures)
     (demand_kept was c.args.id c.in_ok-place.place c.args.demand c.in_ok-place.ensures.place
     c.args.shape after c.args.kept.now c.requires))
+
+pub returns-clause-stays : goal.returns-clause-stays
+returns-clause-stays c =
+    ap is_some c.set_row_demand.ensures
+    ∙ demand_stays c.in_ok-place.place c.args.demand c.args.kept.now
