@@ -219,6 +219,35 @@ def test_no_worker_outlives_the_run(ctl, folder, how):
     wait_for_end(pids)
 
 
+# A worker that says that it runs, and begins its work only when it has lost its parent.
+LATE = """
+import multiprocessing, os, time
+from arbiter_host.fleet import pool
+
+def late(parent):
+    print(os.getpid(), flush=True)
+    while os.getppid() == parent:
+        time.sleep(0.01)
+    pool.begin_worker()
+    time.sleep(600)
+
+if __name__ == "__main__":
+    worker = multiprocessing.get_context("spawn").Process(target=late, args=[os.getpid()])
+    worker.start()
+    worker.join()
+"""
+
+
+def test_a_worker_that_begins_too_late_ends(ctl, folder):
+    """No signal tells a worker of a run that was gone before it asked for one."""
+    (folder / "late.py").write_text(LATE)
+    with subprocess.Popen([sys.executable, folder / "late.py"], stdout=subprocess.PIPE,
+                          env={**ctl.environment, "PYTHONPATH": str(PACKAGE)}) as run:
+        worker = int(run.stdout.readline())
+        run.kill()
+        wait_for_end([worker])
+
+
 # Dask
 
 class Site:

@@ -47,6 +47,10 @@ Replies = Generator[tuple[str, Sent | str], None, None]
 def begin_worker() -> None:
     """Ends this process when the one that began it is gone, whatever it works at."""
     ctypes.CDLL(None).prctl(DEATH_SIGNAL, signal.SIGKILL)
+    parent = multiprocessing.parent_process()
+    if parent is not None and os.getppid() != parent.pid:
+        # It was gone before the kernel was asked.
+        os.kill(os.getpid(), signal.SIGKILL)
 
 
 @contextmanager
