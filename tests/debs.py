@@ -232,8 +232,8 @@ def told(installed):
 
 
 FREE = {"a": "100 max 100000", "b": "300 max 100000"}
-# Guarantees of 25 and 75 of 100 slices by weights 100 and 300 are the limits of groups that sleep.
-# A 128th above them is written.
+# 25 and 75 of 100 slices by weights 100 and 300 are the plan of groups that always want. A 128th
+# above it is written.
 HELD = {"a": "100 25195 100000", "b": "300 75585 100000"}
 
 

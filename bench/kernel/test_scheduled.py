@@ -13,7 +13,7 @@ import pytest
 
 from kernel import interpreter, layout, machine, packages, scenario
 from kernel.faults import KernelFault
-from kernel.held import WAYS
+from kernel.held import ENDS, WAYS
 from kernel.planned import use
 from laboratory import (compare, endured, held, held_page, outside, readings, scheduled_page,
                         traced)
@@ -106,12 +106,11 @@ def test_hold_serves_the_plan(loops, name):
 
 
 def test_kept_runs_of_hold():
-    """The loop was ended and killed."""
+    """The loop was ended and killed, and its loader was killed."""
     found = held_page.read([str(scheduled_page.LOOPS)])
     for each in found:
         check_hold(each)
-    assert {(15, "loop"), (9, "loop")} <= {(each["ended"]["signal"], each["ended"]["whose"])
-                                           for each in found}
+    assert {(each["ended"]["signal"], each["ended"]["whose"]) for each in found} == {*ENDS}
 
 
 def check_hold(found):

@@ -49,10 +49,10 @@ await() {{ # PROPERTY VALUE SECONDS
 echo "systemd $(systemctl --version | head -n 1)"
 systemd-analyze verify --man=no $unit.service 2>&1 | sed 's/^/verify /'
 """
-# Both groups sleep, so that nothing takes time, and b counts three times.
+# Both groups always want, or nobody were held, and b counts three times.
 HELD = f"""\
 for group in a b; do
-  systemd-run --quiet --unit $group --slice work.slice sleep infinity
+  systemd-run --quiet --unit $group --slice work.slice sh -c 'while :; do :; done'
 done
 systemctl set-property --runtime b.service CPUWeight=300
 echo TREE={SLICE} > /etc/default/arbiter-hold

@@ -21,7 +21,7 @@ from laboratory.held_page import Saved, of, rows
 FOLDER = Path(__file__).resolve().parents[1] / "runs"
 RUNS, COSTS = FOLDER / "scheduler.jsonl.gz", FOLDER / "costs.jsonl"
 # The runs of `arbiterctl hold` itself.
-LOOPS = FOLDER / "loops.jsonl"
+LOOPS = FOLDER / "loops.jsonl.gz"
 # The runs of another scheduler, which has the weights of the scenarios.
 FLATCG = FOLDER / "flatcg.jsonl"
 PAGE = Path(__file__).resolve().parents[3] / "docs/kernel/scheduler.txt"
