@@ -57,13 +57,16 @@ def stub(tmp_path):
 
 def test_types():
     """mypy and pyflakes find nothing in the modules that are typed."""
-    typed = ["calm_rounds.py", "instructions.py", "locks.py", "periods.py", "perturbed.py", "questions.py", "runs.py",
-             "shapes.py", "../tests/meeting_names.py", "../scripts/indexes.py", "../scripts/kit.py", "../scripts/telling"]
+    typed = ["calm_rounds.py", "instructions.py", "locks.py", "periods.py", "perturbed.py",
+             "questions.py", "runs.py", "shapes.py", "../tests/meeting_names.py",
+             "../scripts/indexes.py", "../scripts/kit.py", "../scripts/telling",
+             *map(str, sorted((ROOT / "bench/kernel/laboratory").glob("*.py")))]
     words = {"mypy": ["--strict", "--cache-dir", "/dev/null", *typed],
-             "pyflakes": [*map(str, sorted((ROOT / "bench").glob("*.py")))]}
+             "pyflakes": [*map(str, sorted((ROOT / "bench").rglob("*.py")))]}
+    folders = os.pathsep.join(str(ROOT / name) for name in ("python", "tests", "bench/kernel"))
     for module, rest in words.items():
         ended = run([sys.executable, "-m", module, *rest], cwd=ROOT / "bench", seconds=300,
-                    env={**os.environ, "MYPYPATH": str(ROOT / "python")})
+                    env={**os.environ, "MYPYPATH": folders})
         same((ended.status, ended.err), (0, b""), ended.out.decode())
 
 

@@ -128,7 +128,8 @@ def cost(each: Scenario) -> float:
     """Seconds of a processor for a second of a scenario's guest, about."""
     if each.processors == 1:
         return ONE_GUEST
-    return SEVERAL * max(each.processors / 4, 1) * 2 ** (machine.Board().shift - each.board.shift)
+    slower = 2.0 ** (machine.Board().shift - each.board.shift)
+    return SEVERAL * max(each.processors / 4, 1) * slower
 
 
 def announced(found: list[Scenario], options: argparse.Namespace) -> str:

@@ -268,8 +268,13 @@ def work(words: Sequence[str]) -> int:
 
 def add(path: str, found: dict[str, Any]) -> None:
     """Adds a run to a file, compressed if its name ends in .gz."""
-    with (gzip.open if path.endswith(".gz") else open)(path, "at", encoding="utf-8") as file:
-        file.write(json.dumps(found) + "\n")
+    line = json.dumps(found) + "\n"
+    if path.endswith(".gz"):
+        with gzip.open(path, "at", encoding="utf-8") as packed:
+            packed.write(line)
+    else:
+        with open(path, "a", encoding="utf-8") as file:
+            file.write(line)
 
 
 def main() -> int:

@@ -19,8 +19,8 @@ from statistics import fmean
 from typing import Any
 
 from kernel import scenario
+from kernel.held import WAYS
 from laboratory.__main__ import SCENARIOS
-from laboratory.held import WAYS
 from laboratory.page import kernel_of, off
 
 Saved = dict[str, Any]

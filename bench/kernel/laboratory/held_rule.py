@@ -4,7 +4,7 @@ from __future__ import annotations
 from typing import Any
 
 from arbiter import Host, Library, Row
-from laboratory.held import Way
+from kernel.held import Way
 from kernel.scenario import Scenario
 
 # Microseconds of a slice of hold.c.
