@@ -18,7 +18,8 @@ Rows: TypeAlias = Sequence[Row] | Columns
 # Most groups of a tree, the root among them.
 MOST_GROUPS = 16384
 CONVERSIONS = {"linear": 1, "logarithmic": 2}
-KINDS = tuple(Kind)
+# The reasons that name no group, by their numbers: rows share them.
+REASONS = tuple(map(Reason, Kind))
 # Columns of no task, as C takes them.
 NO_TASKS = given(zeros(U64, 0), zeros(U64, 0))
 # The numbers of faults that speak of a row of the tree.
@@ -155,7 +156,8 @@ class Library:
         columns = Columns.of(rows)
         kinds, blamed = zeros(U8, len(columns)), zeros(U32, len(columns))
         self.ask("reasons", host, columns, *given(kinds, blamed))
-        return [Reason(KINDS[kind], row if kind == Kind.LIMIT_ABOVE else None)
+        above = int(Kind.LIMIT_ABOVE)
+        return [Reason(Kind.LIMIT_ABOVE, row) if kind == above else REASONS[kind]
                 for kind, row in zip(kinds, blamed)]
 
     def figures(self, host: Host, rows: Rows) -> Figures:

@@ -2,7 +2,7 @@
 from __future__ import annotations
 
 from collections.abc import Callable, Iterable, Iterator, Sequence
-from xml.sax.saxutils import escape, quoteattr
+from html import escape
 
 from arbiter_host.names import shown, width
 
@@ -14,6 +14,11 @@ GETS, WANTS, LIMIT, MARK = "#2b6cb0", "#bcd4ec", "#8a5a00", "#b4231f"
 Point = tuple[float, float]
 # A picture has its own scale where it is lower than this part of the highest one.
 FLAT = 8
+
+
+def escaped(text: str) -> str:
+    """A text between tags."""
+    return escape(shown(text), quote=False)
 
 
 def number(value: float) -> str:
@@ -47,10 +52,10 @@ def words(place: Point, text: str, colour: str = INK, size: float = 12, anchor: 
           bold: bool = False, title: str = "") -> str:
     """A text, with a tooltip where a title is given."""
     weight = ' font-weight="bold"' if bold else ""
-    whole = f"<title>{escape(shown(title))}</title>" if title else ""
+    whole = f"<title>{escaped(title)}</title>" if title else ""
     return (f'<text x="{number(place[0])}" y="{number(place[1])}" fill="{colour}"'
             f' font-size="{number(size)}" text-anchor="{anchor}"{weight} xml:space="preserve">'
-            f"{escape(shown(text))}{whole}</text>")
+            f"{escaped(text)}{whole}</text>")
 
 
 def wide(text: str, size: float = 12) -> float:
@@ -93,7 +98,7 @@ def tops(peaks: Sequence[float]) -> list[tuple[float, str]]:
 def head(width_: float, height: float, title: str, space: str = "", typeface: str = "") -> str:
     wide_, tall = number(width_), number(height)
     return (f'<svg{space} width="{wide_}" height="{tall}" viewBox="0 0 {wide_} {tall}"{typeface}'
-            f' role="img" aria-label={quoteattr(shown(title))}>')
+            f' role="img" aria-label="{escape(shown(title))}">')
 
 
 def inside(width_: float, height: float, title: str, parts: Sequence[str]) -> str:
@@ -106,5 +111,5 @@ def document(width_: float, height: float, title: str, parts: Sequence[str]) -> 
     begin = head(width_, height, title, ' xmlns="http://www.w3.org/2000/svg"',
                  f' font-family="{TYPEFACE}"')
     ground = box((0, 0), (width_, height), "#ffffff")
-    return "\n".join([begin, f"<title>{escape(shown(title))}</title>", ground, *parts,
+    return "\n".join([begin, f"<title>{escaped(title)}</title>", ground, *parts,
                       "</svg>"]) + "\n"

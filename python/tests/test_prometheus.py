@@ -19,7 +19,7 @@ import pytest
 from arbiter import Host
 from arbiter_host.faults import HostFault, UsageFault
 from arbiter_host.names import shown
-from arbiter_host.sources import prometheus
+from arbiter_host.sources import prometheus, web
 
 from places import PACKAGE
 
@@ -377,12 +377,12 @@ def test_addresses_that_are_none(url):
 
 def test_an_answer_without_an_end(monkeypatch):
     """Its bytes and its time have bounds, which SECURITY.md names."""
-    assert (prometheus.MOST_SECONDS, prometheus.MAX_ANSWER) == (600, 256 << 20)
-    monkeypatch.setattr(prometheus, "MAX_ANSWER", 1 << 20)
+    assert (web.MOST_SECONDS, web.MAX_ANSWER) == (600, 256 << 20)
+    monkeypatch.setattr(web, "MAX_ANSWER", 1 << 20)
     with answering(whole(" " * (2 << 20))) as url, pytest.raises(HostFault, match="more than 1 M"):
         asked(url)
-    monkeypatch.setattr(prometheus, "MOST_SECONDS", 0)
-    monkeypatch.setattr(prometheus, "exchanged", lambda _: time.sleep(1))
+    monkeypatch.setattr(web, "MOST_SECONDS", 0)
+    monkeypatch.setattr(web, "exchanged", lambda _: time.sleep(1))
     with pytest.raises(HostFault, match="in 0 sec"):
         asked("http://127.0.0.1:1")
 
@@ -432,14 +432,14 @@ def is_told_in_time(url):
 @pytest.mark.parametrize("first, again", SLOW.values(), ids=list(SLOW))
 def test_a_server_that_is_slow(monkeypatch, first, again):
     """One deadline is over the whole exchange, from the first byte on."""
-    monkeypatch.setattr(prometheus, "MOST_SECONDS", 1)
+    monkeypatch.setattr(web, "MOST_SECONDS", 1)
     with dripping(first, again) as address:
         is_told_in_time(f"http://{address}")
 
 
 def test_servers_that_are_slow_otherwise(monkeypatch):
     """In the greeting of TLS, by one address after another, and in the name's own resolution."""
-    monkeypatch.setattr(prometheus, "MOST_SECONDS", 1)
+    monkeypatch.setattr(web, "MOST_SECONDS", 1)
     with dripping(b"\x16\x03\x03\x40\x00", b"\x00") as address:
         is_told_in_time(f"https://{address}")
     with dripping(b"", b"") as address, answering(moved(f"http://{address}/x")) as url:
@@ -450,8 +450,8 @@ def test_servers_that_are_slow_otherwise(monkeypatch):
 
 def test_a_command_that_asks_a_slow_server(ctl):
     """It ends soon after the deadline: what still waits for the server ends with it."""
-    script = ("from arbiter_host import command\nfrom arbiter_host.sources import prometheus\n"
-              "prometheus.MOST_SECONDS = 1\ncommand.main()\n")
+    script = ("from arbiter_host import command\nfrom arbiter_host.sources import web\n"
+              "web.MOST_SECONDS = 1\ncommand.main()\n")
     with dripping(OK + b"A: ", b"a") as address:
         ended = subprocess.run([sys.executable, "-c", script, "replay", "-", "--used",
                                 f"http://{address}", "--range", "1/2"], input=b"mkdir web\n",

@@ -10,7 +10,7 @@ from typing import Any
 
 from arbiter_host import change, load, names, options as table, plain_files, progress
 from arbiter_host.faults import HostFault, NothingFound, UsageFault
-from arbiter_host.fleet import answers, hosts, pool, report
+from arbiter_host.fleet import answers, hosts, report
 from arbiter_host.fleet.answers import HostAnswer
 from arbiter_host.fleet.hosts import Fleet
 from arbiter_host.fleet.work import HostFile, Job
@@ -97,6 +97,7 @@ def samples_of(options: argparse.Namespace, fleet: Fleet) -> Samples:
 
 def workers_of(options: argparse.Namespace, fleet: Fleet) -> int:
     """The processes that plan; 0 is this one."""
+    from arbiter_host.fleet import pool  # (one host needs none)
     if options.workers is not None and not 0 <= options.workers <= pool.MOST_WORKERS:
         raise UsageFault(f"--workers: 0 to {pool.MOST_WORKERS}")
     if options.workers is not None and options.scheduler is not None:
@@ -108,6 +109,7 @@ def workers_of(options: argparse.Namespace, fleet: Fleet) -> int:
 def asked(options: argparse.Namespace, job: Job, fleet: Fleet,
           samples: Samples | None = None) -> tuple[list[HostAnswer], Missing]:
     """The answers of all hosts, and the hosts that have none with the reasons, by name."""
+    from arbiter_host.fleet import pool
     engine, workers = engine_of(options.library), workers_of(options, fleet)
     found, missing = dict[str, HostAnswer](), dict[str, str]()
 

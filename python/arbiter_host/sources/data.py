@@ -8,6 +8,8 @@ from typing import Any
 from arbiter_host.faults import HostFault
 
 MAX_TEXT = 253
+# Begins of the address of a server.
+SCHEMES = ("http://", "https://")
 MAX_BYTES = 128 << 20
 # Memory that the data of JSON may take, and about how much each letter of it stands for at most.
 MOST_MEMORY = 1 << 30
