@@ -40,12 +40,14 @@ def crates() -> list:
 
 
 def test_pages_are_small():
-    """README and docs/ are at most ten pages of 150,000 bytes: a page says what holds today."""
+    """README and docs/ are at most ten pages. What users read has a bound: the door, and the four
+    pages of commands, hosts and calls together."""
     pages = [ROOT / "README.md", *(ROOT / "docs").glob("**/*.md")]
-    sizes = {str(path.relative_to(ROOT)): path.stat().st_size for path in pages}
+    sizes = {path.name: path.stat().st_size for path in pages}
     assert len(sizes) <= 10
-    assert sum(sizes.values()) <= 150_000, (sum(sizes.values()), sizes)
     assert sizes["README.md"] <= 8 * 1024
+    users = {page: sizes[f"{page}.md"] for page in ("USING", "TOOLS", "LINUX", "EMBEDDING")}
+    assert sum(users.values()) <= 90 * 1024, users
 
 
 # Links

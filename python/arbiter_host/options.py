@@ -186,8 +186,9 @@ TABLE = (
            " systemctl and files else, `persistent` the same so that they are kept over a boot,"
            " `files` writes files alone (default systemd)", choices=WAYS, default="systemd",
            choices_of={"hold": (LIMITS, SCHEDULER)}, defaults={"hold": LIMITS},
-           helps={"hold": "`scheduler` gives the plan to the kernel's scheduler (arbiter-scheduler)"
-                          " and writes no file (default limits)"}),
+           helps={"hold": "`scheduler`, a trial for hosts of one owner, gives the plan to a"
+                          " scheduler in the kernel (arbiter-scheduler) and writes no file (default"
+                          " limits)"}),
     Option(("--undo",), "undo", "doing", ("apply", "hold"), "the undo file, which must be new"
            " (default arbiter-undo-DATE-TIME.json here)", "FILE",
            helps={"hold": "the undo file, which must be new, in a folder that only this user may"

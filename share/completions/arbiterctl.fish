@@ -269,7 +269,7 @@ complete -c arbiterctl -n '__fish_seen_subcommand_from hold' -l depth -x -d 'hol
 complete -c arbiterctl -n '__fish_seen_subcommand_from hold' -s v -l verbose -d 'say on standard error how long it took'
 complete -c arbiterctl -n '__fish_seen_subcommand_from hold' -l yes -d 'do it (default: print what would be done)'
 complete -c arbiterctl -n '__fish_seen_subcommand_from hold' -l root -r -F -d 'the top of the tree (default /sys/fs/cgroup); nothing outside it is opened for writing'
-complete -c arbiterctl -n '__fish_seen_subcommand_from hold' -l by -x -a 'limits scheduler' -d '`scheduler` gives the plan to the kernel\'s scheduler (arbiter-scheduler) and writes no file (default limits)'
+complete -c arbiterctl -n '__fish_seen_subcommand_from hold' -l by -x -a 'limits scheduler' -d '`scheduler`, a trial for hosts of one owner, gives the plan to a scheduler in the kernel (arbiter-scheduler) and writes no file (default limits)'
 complete -c arbiterctl -n '__fish_seen_subcommand_from hold' -l undo -r -F -d 'the undo file, which must be new, in a folder that only this user may change (default /run/arbiter/hold-undo.json)'
 complete -c arbiterctl -n '__fish_seen_subcommand_from hold' -l force -d 'also groups of kubelet (kubepods)'
 complete -c arbiterctl -n '__fish_seen_subcommand_from hold' -l weights -d 'also write weights from the limits, which tell Linux how near each task is to a whole CPU'
