@@ -23,8 +23,11 @@ TOP = Path(__file__).resolve().parent.parent
 sys.path[:0] = [str(TOP / "python"), str(TOP / "python/tests")]
 import trees  # noqa: E402  (the path is set above)
 from arbiter import Host, Library  # noqa: E402
-from arbiter_host import hold, hunger, record, safe_files  # noqa: E402
-from arbiter_host.plan import Engine  # noqa: E402
+from arbiter_host.base import safe_files  # noqa: E402
+from arbiter_host.base.plan import Engine  # noqa: E402
+from arbiter_host.hold import hold  # noqa: E402
+from arbiter_host.setting import record  # noqa: E402
+from arbiter_host.sources import hunger  # noqa: E402
 
 GROUPS = [500, 4096, 16383]
 HOST = Host(64, 1000000, 1000)

@@ -14,12 +14,12 @@ from dataclasses import dataclass
 from fractions import Fraction
 from typing import Any, NamedTuple
 
-from arbiter_host import demands, names, units
-from arbiter_host.demands import Use
-from arbiter_host.faults import HostFault, NothingFound, UsageFault
-from arbiter_host.model import Model
-from arbiter_host.owned import Amounts, Owned, Setting
-from arbiter_host.plan import Engine, Plan, guarantees, plan
+from arbiter_host.base import demands, names, units
+from arbiter_host.base.demands import Use
+from arbiter_host.base.faults import HostFault, NothingFound, UsageFault
+from arbiter_host.base.model import Model
+from arbiter_host.base.owned import Amounts, Owned, Setting
+from arbiter_host.base.plan import Engine, Plan, guarantees, plan
 from arbiter_host.sources.usage import Used, some
 
 # The least request that is proposed, in thousandths of a CPU, as krr has it.

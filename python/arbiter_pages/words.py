@@ -6,7 +6,8 @@ from dataclasses import dataclass
 
 from jinja2 import Environment, PackageLoader
 
-from arbiter_host import command, options as table
+from arbiter_host import command
+from arbiter_host.base import options as table
 from arbiter_host.subcommands import Subcommand
 
 ARGUMENTS = "Arguments"

@@ -29,7 +29,7 @@ def calls(library):
 @pytest.fixture(scope="session")
 def engine(calls):
     """The engine over the C library under test."""
-    from arbiter_host.plan import Engine
+    from arbiter_host.base.plan import Engine
     return Engine(calls)
 
 

@@ -10,7 +10,10 @@ from contextlib import contextmanager
 
 import trees
 from arbiter import Host
-from arbiter_host import hold, hunger, looks, record, safe_files
+from arbiter_host.base import safe_files
+from arbiter_host.hold import hold
+from arbiter_host.setting import record
+from arbiter_host.sources import hunger, looks
 from places import PACKAGE
 
 TWO = Host(2, 100000, 1000)

@@ -14,8 +14,9 @@ import sys
 from pathlib import Path
 
 from arbiter import Library
-from arbiter_host import apply, hold
-from arbiter_host.plan import Engine
+from arbiter_host.base.plan import Engine
+from arbiter_host.hold import hold
+from arbiter_host.setting import apply
 from held import FREE, World
 
 CALLS = ("open", "write", "fsync", "rename", "link", "unlink", "ftruncate")

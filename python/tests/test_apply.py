@@ -9,10 +9,11 @@ from fractions import Fraction
 import pytest
 import trees
 from arbiter import Host
-from arbiter_host import apply, looks, safe_files
-from arbiter_host.apply import By, Change, Settings
-from arbiter_host.faults import HostFault
-from arbiter_host.sources import cgroups
+from arbiter_host.base import safe_files
+from arbiter_host.base.faults import HostFault
+from arbiter_host.setting import apply
+from arbiter_host.setting.apply import By, Change, Settings
+from arbiter_host.sources import cgroups, looks
 from hypothesis import HealthCheck, given, settings
 from hypothesis import strategies as st
 

@@ -12,13 +12,13 @@ import test_drawn
 import test_prometheus
 import trees
 from arbiter import Host
-from arbiter_host import hunger, looks, placement
+from arbiter_host.answers import placement
 from arbiter_host.audit import answer, causes, intervals, ranges
 from arbiter_host.audit.intervals import Cell, Interval
-from arbiter_host.demands import CounterReading
-from arbiter_host.faults import HostFault
-from arbiter_host.model import Group, Model, fine
-from arbiter_host.sources import prometheus
+from arbiter_host.base.demands import CounterReading
+from arbiter_host.base.faults import HostFault
+from arbiter_host.base.model import Group, Model, fine
+from arbiter_host.sources import hunger, looks, prometheus
 from laboratory import firm, kept
 from places import PACKAGE
 

@@ -3,9 +3,10 @@ from dataclasses import replace
 from fractions import Fraction
 
 import pytest
-from arbiter_host import hunger, looks, placement
+from arbiter_host.answers import placement
 from arbiter_host.audit import causes, unknown
-from arbiter_host.demands import CounterReading
+from arbiter_host.base.demands import CounterReading
+from arbiter_host.sources import hunger, looks
 from test_audit import TWO, cell, interval
 
 

@@ -8,8 +8,8 @@ from contextlib import suppress
 import pytest
 import reading
 from arbiter import Host
-from arbiter_host import apply
-from arbiter_host.faults import HostFault
+from arbiter_host.base.faults import HostFault
+from arbiter_host.setting import apply
 from arbiter_host.sources import containers, data as sources_data, hostfile, kubernetes, script
 
 # Seconds of the processor. Each of these took more than half a minute, or had no end.

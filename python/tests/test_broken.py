@@ -5,13 +5,13 @@ from pathlib import Path
 import reading
 import trees
 from arbiter import Host
-from arbiter_host import looks, names
-from arbiter_host.faults import HostFault
+from arbiter_host.base import names
+from arbiter_host.base.faults import HostFault
+from arbiter_host.base.model import Model
+from arbiter_host.base.owned import Setting
+from arbiter_host.base.plan import plan
 from arbiter_host.fleet import hosts
-from arbiter_host.model import Model
-from arbiter_host.owned import Setting
-from arbiter_host.plan import plan
-from arbiter_host.sources import cgroups, hostfile, samples, script
+from arbiter_host.sources import cgroups, hostfile, looks, samples, script
 from hypothesis import HealthCheck, example, given, settings
 from hypothesis import strategies as st
 

@@ -11,7 +11,7 @@ from pathlib import Path
 
 import pytest
 import trees
-from arbiter_host import plain_files
+from arbiter_host.base import plain_files
 from places import PACKAGE
 
 ROOT = PACKAGE.parent

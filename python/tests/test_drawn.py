@@ -13,11 +13,12 @@ from fractions import Fraction
 import pytest
 import trees
 from arbiter import Host
-from arbiter_host import explain, live, picture, report, viewer
-from arbiter_host.explain import View
-from arbiter_host.faults import HostFault
-from arbiter_host.model import Group, Model
-from arbiter_host.plan import plan
+from arbiter_host.answers import explain, picture, report
+from arbiter_host.answers.explain import View
+from arbiter_host.base.faults import HostFault
+from arbiter_host.base.model import Group, Model
+from arbiter_host.base.plan import plan
+from arbiter_host.top import live, viewer
 from places import PACKAGE
 
 ROOT = PACKAGE.parent

@@ -10,7 +10,7 @@ import textwrap
 import time
 
 import pytest
-from arbiter_host.metrics import MARK
+from arbiter_host.top.metrics import MARK
 from held import FREE, World, content
 from places import PACKAGE
 

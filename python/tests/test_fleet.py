@@ -8,7 +8,7 @@ import fleets
 import pytest
 from arbiter import Host
 from arbiter_host import command
-from arbiter_host.faults import UsageFault
+from arbiter_host.base.faults import UsageFault
 from arbiter_host.fleet import work
 from arbiter_host.fleet.work import Sent, SentRows
 from places import PACKAGE

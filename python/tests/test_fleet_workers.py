@@ -12,7 +12,7 @@ import fleets
 import pytest
 import sockets
 import ways
-from arbiter_host.faults import HostFault
+from arbiter_host.base.faults import HostFault
 from arbiter_host.fleet import pool, work
 from places import PACKAGE
 

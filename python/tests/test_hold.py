@@ -13,9 +13,11 @@ import time
 import killed_loop
 import pytest
 import trees
-from arbiter_host import apply, hold, record, safe_files
-from arbiter_host.apply import Settings
-from arbiter_host.faults import HostFault
+from arbiter_host.base import safe_files
+from arbiter_host.base.faults import HostFault
+from arbiter_host.hold import hold
+from arbiter_host.setting import apply, record
+from arbiter_host.setting.apply import Settings
 from held import FREE, SECOND, World, content, limit, said, started
 
 

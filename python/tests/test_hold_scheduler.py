@@ -7,8 +7,9 @@ import subprocess
 import sys
 
 import pytest
-from arbiter_host import hold, safe_files, scheduler
-from arbiter_host.faults import HostFault
+from arbiter_host.base import safe_files
+from arbiter_host.base.faults import HostFault
+from arbiter_host.hold import hold, scheduler
 from held import FREE, TWO, World
 from places import PACKAGE
 

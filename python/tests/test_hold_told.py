@@ -15,11 +15,15 @@ import killed_loop
 import pytest
 import trees
 from arbiter import Host
-from arbiter_host import apply, hold, hunger, metrics, safe_files
-from arbiter_host.ends import MOST_ROUNDS, Ends, Shadow
-from arbiter_host.faults import HostFault
-from arbiter_host.model import Group, Model
+from arbiter_host.base import safe_files
+from arbiter_host.base.faults import HostFault
+from arbiter_host.base.model import Group, Model
+from arbiter_host.hold import hold
+from arbiter_host.hold.ends import MOST_ROUNDS, Ends, Shadow
+from arbiter_host.setting import apply
+from arbiter_host.sources import hunger
 from arbiter_host.subcommands.hold import Notifier, Service
+from arbiter_host.top import metrics
 from held import FREE, TWO, World, content, limit, said, started
 from places import PACKAGE
 

@@ -13,11 +13,13 @@ from pathlib import Path
 
 import pytest
 import trees
-from arbiter_host import apply, hold, looks, model, output, record, safe_files
-from arbiter_host.apply import By, Change, Settings
-from arbiter_host.faults import HostFault
-from arbiter_host.subcommands import apply as applying
-from arbiter_host.subcommands import hold as holding
+from arbiter_host.base import model, output, safe_files
+from arbiter_host.base.faults import HostFault
+from arbiter_host.hold import hold
+from arbiter_host.setting import apply, record
+from arbiter_host.setting.apply import By, Change, Settings
+from arbiter_host.sources import looks
+from arbiter_host.subcommands import apply as applying, hold as holding
 from held import FREE, SECOND, World, begun, content, limit, said, started
 from places import PACKAGE
 

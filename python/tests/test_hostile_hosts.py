@@ -11,10 +11,11 @@ import pytest
 import reading
 import trees
 from arbiter import Host
-from arbiter_host import apply, atomic_files, names, plain_files, safe_files
-from arbiter_host.apply import By, Change, Settings
-from arbiter_host.faults import HostFault
-from arbiter_host.model import Group, Model
+from arbiter_host.base import atomic_files, names, plain_files, safe_files
+from arbiter_host.base.faults import HostFault
+from arbiter_host.base.model import Group, Model
+from arbiter_host.setting import apply
+from arbiter_host.setting.apply import By, Change, Settings
 from arbiter_host.sources import cgroups, hostfile, script
 from hypothesis import HealthCheck, example, given, settings
 from hypothesis import strategies as st

@@ -8,10 +8,12 @@ import time
 from pathlib import Path
 
 import pytest
-from arbiter_host import apply, atomic_files, metrics, names, record
-from arbiter_host.atomic_files import Document
 from arbiter_host import exports
-from arbiter_host.faults import HostFault
+from arbiter_host.base import atomic_files, names
+from arbiter_host.base.atomic_files import Document
+from arbiter_host.base.faults import HostFault
+from arbiter_host.setting import apply, record
+from arbiter_host.top import metrics
 
 NOBODY = 65534
 as_root = pytest.mark.skipif(os.geteuid() != 0, reason="gives files to another user")

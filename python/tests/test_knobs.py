@@ -5,9 +5,10 @@ from fractions import Fraction
 
 import pytest
 from arbiter import Host
-from arbiter_host import knobs, tune, units
-from arbiter_host.model import Group, Model
-from arbiter_host.plan import guarantees, plan
+from arbiter_host.base import units
+from arbiter_host.base.model import Group, Model
+from arbiter_host.base.plan import guarantees, plan
+from arbiter_host.tune import knobs, tune
 from hypothesis import HealthCheck, given, settings
 from hypothesis import strategies as st
 

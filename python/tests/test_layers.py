@@ -2,29 +2,14 @@
 import ast
 import re
 
-import pytest
 from places import PACKAGE
 
-# From the lowest on. A folder stands for all its modules.
-LAYERS = {
-    "base": "faults names options progress search safe_files atomic_files plain_files output lines"
-            " units model demands owned plan text svg html",
-    "sources": "sources cgroup2 hunger looks load change choosing",
-    "answers": "balancer placement explain diff report picture series",
-    "setting": "apply record",
-    "features": "audit fleet hold top recommend tune exports",
-    "subcommands": "helps subcommands command __main__",
-}
-# The modules of a feature beside the one of its name. No feature leans on another.
-PARTS = {
-    "tune": "goals knobs tune_weights tune_settings other_limits",
-    "hold": "ends scheduler",
-    "top": "live metrics viewer",
-}
-ORDER = list(LAYERS)
-FEATURE = {part: feature for feature, parts in PARTS.items() for part in parts.split()}
-LAYER = {name: layer for layer, names in LAYERS.items() for name in names.split()}
-LAYER |= {part: "features" for part in FEATURE}
+# From the lowest on: the folders of the package, and its modules beside them.
+LAYERS = [["base"], ["sources"], ["answers"], ["setting"],
+          ["audit", "exports", "fleet", "hold", "recommend", "top", "tune"],
+          ["helps", "subcommands", "command", "__main__"]]
+FEATURES = LAYERS[-2]
+LAYER = {name: at for at, names in enumerate(LAYERS) for name in names}
 
 
 def modules():
@@ -71,25 +56,19 @@ def head(name):
     return name.partition(".")[0]
 
 
-def test_each_module_has_its_layer():
+def test_each_folder_has_its_layer():
     assert {head(name) for name in MODULES} == set(LAYER)
 
 
-@pytest.mark.parametrize("layer", ORDER)
-def test_nothing_leans_upward(layer):
+def test_nothing_leans_upward():
     """A module imports none of a layer above its own."""
-    above = ORDER[ORDER.index(layer) + 1:]
-    assert [edge for edge in EDGES
-            if LAYER[head(edge[0])] == layer and LAYER[head(edge[1])] in above] == []
+    assert [edge for edge in EDGES if LAYER[head(edge[0])] < LAYER[head(edge[1])]] == []
 
 
 def test_features_know_no_feature():
     """What two features need stands below both."""
-    def feature(name):
-        return FEATURE.get(head(name), head(name))
-
-    assert [edge for edge in EDGES if all(LAYER[head(each)] == "features" for each in edge)
-            and feature(edge[0]) != feature(edge[1])] == []
+    assert [edge for edge in EDGES if all(head(each) in FEATURES for each in edge)
+            and head(edge[0]) != head(edge[1])] == []
 
 
 def test_no_module_leans_on_itself():
@@ -104,13 +83,13 @@ def test_no_module_leans_on_itself():
 PAGE = (PACKAGE.parent / "docs/ARCHITECTURE.md").read_text(encoding="utf-8")
 
 
-@pytest.mark.parametrize("layer", ORDER)
-def test_page_has_the_layer(layer):
-    """docs/ARCHITECTURE.md has the modules of each layer."""
-    row = re.search(rf"^\| {layer} \| (.*) \|$", PAGE, re.M)
-    parts = {name for name in FEATURE if LAYER[name] == layer}
-    assert row, layer
-    assert set(re.findall(r"`(\w+)`", row[1])) == {*LAYERS[layer].split(), *parts}
+def test_page_has_the_folders():
+    """docs/ARCHITECTURE.md has a line for each folder and module at the top, in their order."""
+    part = PAGE[PAGE.index("## The Python package"):PAGE.index("## Rules")]
+    rows = [re.findall(r"`(\w+)`", row) for row in re.findall(r"^ *- (.*?):", part, re.M)]
+    listed = [name for row in rows for name in row]
+    assert sorted(listed) == sorted(LAYER)
+    assert [LAYER[name] for name in listed] == sorted(LAYER.values())
 
 
 def test_rules_are_there():

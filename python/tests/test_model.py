@@ -4,9 +4,9 @@ from fractions import Fraction
 import arbiter
 import pytest
 from arbiter import Host, Row
-from arbiter_host.faults import HostFault
-from arbiter_host.model import Group, Model, checked, planned
-from arbiter_host.plan import Engine, plan
+from arbiter_host.base.faults import HostFault
+from arbiter_host.base.model import Group, Model, checked, planned
+from arbiter_host.base.plan import Engine, plan
 from hypothesis import HealthCheck, given, settings
 from hypothesis import strategies as st
 

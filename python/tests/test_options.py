@@ -5,9 +5,11 @@ from pathlib import Path
 
 import pytest
 import trees
-from arbiter_host import explain, looks, options as table, text
-from arbiter_host.faults import UsageFault
+from arbiter_host.answers import explain
+from arbiter_host.base import options as table, text
+from arbiter_host.base.faults import UsageFault
 from arbiter_host.fleet import report
+from arbiter_host.sources import looks
 from arbiter_host.sources.register import READERS
 from arbiter_host.subcommands import SUMMARIES
 

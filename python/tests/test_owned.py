@@ -12,11 +12,12 @@ import pytest
 import reading
 import trees
 from arbiter import Host
-from arbiter_host import change, knobs
-from arbiter_host.faults import HostFault, UsageFault
-from arbiter_host.goals import Goals, goals_of
-from arbiter_host.owned import Setting, remade
-from arbiter_host.plan import plan
+from arbiter_host.base.faults import HostFault, UsageFault
+from arbiter_host.base.owned import Setting, remade
+from arbiter_host.base.plan import plan
+from arbiter_host.sources import change
+from arbiter_host.tune import knobs
+from arbiter_host.tune.goals import Goals, goals_of
 from hypothesis import HealthCheck, given, settings
 from hypothesis import strategies as st
 

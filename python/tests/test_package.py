@@ -115,6 +115,14 @@ def test_one_version(program):
     assert versions == [version] * 3
 
 
+def test_all_folders_are_packages():
+    """pyproject names each folder of the packages that are installed."""
+    project = tomllib.loads((PACKAGE / "pyproject.toml").read_text())["tool"]["setuptools"]
+    folders = {path.parent.relative_to(PACKAGE) for top in FOLDERS[:2]
+               for path in (PACKAGE / top).rglob("*.py")}
+    assert sorted(project["packages"]) == sorted(".".join(each.parts) for each in folders)
+
+
 def test_packages_of_debian():
     """The versions that pyproject names are not above those that are here."""
     project = tomllib.loads((PACKAGE / "pyproject.toml").read_text())["project"]

@@ -6,10 +6,10 @@ from fractions import Fraction
 import pytest
 
 from arbiter import Host
-from arbiter_host import explain, placement
-from arbiter_host.balancer import Run
-from arbiter_host.model import Group, Model
-from arbiter_host.plan import plan
+from arbiter_host.answers import explain, placement
+from arbiter_host.answers.balancer import Run
+from arbiter_host.base.model import Group, Model
+from arbiter_host.base.plan import plan
 from kernel import scenario
 from laboratory import firm, kept
 

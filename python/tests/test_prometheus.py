@@ -17,8 +17,8 @@ from fractions import Fraction
 
 import pytest
 from arbiter import Host
-from arbiter_host.faults import HostFault, UsageFault
-from arbiter_host.names import shown
+from arbiter_host.base.faults import HostFault, UsageFault
+from arbiter_host.base.names import shown
 from arbiter_host.sources import prometheus, web
 
 from places import PACKAGE

@@ -4,11 +4,12 @@ from fractions import Fraction
 import arbiter
 import pytest
 from arbiter import Host, Kind, Reason
-from arbiter_host import explain, knobs
-from arbiter_host.faults import HostFault
-from arbiter_host.goals import Goals, goals_of
-from arbiter_host.model import Group, Model
-from arbiter_host.plan import Engine, asking, guarantees, plan
+from arbiter_host.answers import explain
+from arbiter_host.base.faults import HostFault
+from arbiter_host.base.model import Group, Model
+from arbiter_host.base.plan import Engine, asking, guarantees, plan
+from arbiter_host.tune import knobs
+from arbiter_host.tune.goals import Goals, goals_of
 
 
 def host_of_each_reason():

@@ -7,8 +7,7 @@ import pytest
 import reading
 import yaml
 from arbiter import Host
-from arbiter_host import change, load
-from arbiter_host.sources import slurm, usage
+from arbiter_host.sources import change, load, slurm, usage
 from places import PACKAGE
 
 REAL, EXAMPLES = PACKAGE / "tests/fixtures/real", PACKAGE.parent / "examples/hosts"

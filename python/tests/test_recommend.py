@@ -6,7 +6,7 @@ from pathlib import Path
 import pytest
 import trees
 from arbiter_host import recommend
-from arbiter_host.faults import UsageFault
+from arbiter_host.base.faults import UsageFault
 
 FIXTURES = Path(__file__).parent / "fixtures"
 PODS, NODE = FIXTURES / "pods.json", FIXTURES / "node.json"

@@ -7,9 +7,10 @@ from array import array
 
 import pytest
 from arbiter import Host
-from arbiter_host import plain_files, series, svg
-from arbiter_host.faults import HostFault
-from arbiter_host.model import Group, Model
+from arbiter_host.answers import series
+from arbiter_host.base import plain_files, svg
+from arbiter_host.base.faults import HostFault
+from arbiter_host.base.model import Group, Model
 from arbiter_host.sources import samples
 from hypothesis import HealthCheck, given, settings
 from hypothesis import strategies as st

@@ -7,7 +7,7 @@ import time
 from pathlib import Path
 
 import pytest
-from arbiter_host.faults import HostFault
+from arbiter_host.base.faults import HostFault
 from arbiter_host.sources import services
 
 FIXTURES = Path(__file__).parent / "fixtures"

@@ -5,9 +5,8 @@ from fractions import Fraction
 import pytest
 import reading
 from arbiter import Host
-from arbiter_host import load
-from arbiter_host.faults import HostFault, NoHost
-from arbiter_host.sources import slurm
+from arbiter_host.base.faults import HostFault, NoHost
+from arbiter_host.sources import load, slurm
 from places import PACKAGE
 
 FIXTURES = PACKAGE / "tests/fixtures"

@@ -13,11 +13,11 @@ import pytest
 import reading
 import trees
 from arbiter import Host
-from arbiter_host import demands, looks, plain_files, units
-from arbiter_host.faults import HostFault
-from arbiter_host.model import Group, Model
-from arbiter_host.plan import plan
-from arbiter_host.sources import cgroups, hostfile, kubernetes, script
+from arbiter_host.base import demands, plain_files, units
+from arbiter_host.base.faults import HostFault
+from arbiter_host.base.model import Group, Model
+from arbiter_host.base.plan import plan
+from arbiter_host.sources import cgroups, hostfile, kubernetes, looks, script
 from hypothesis import HealthCheck, given, settings
 from hypothesis import strategies as st
 from places import PACKAGE

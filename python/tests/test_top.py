@@ -18,10 +18,11 @@ import pytest
 import sockets
 import trees
 from arbiter import Host
-from arbiter_host import looks, metrics, top
-from arbiter_host.faults import HostFault, UsageFault
-from arbiter_host.model import Group, Model
-from arbiter_host.plan import plan
+from arbiter_host.base.faults import HostFault, UsageFault
+from arbiter_host.base.model import Group, Model
+from arbiter_host.base.plan import plan
+from arbiter_host.sources import looks
+from arbiter_host.top import metrics, top
 from places import PACKAGE
 from prometheus_client.openmetrics import parser
 from prometheus_client.parser import text_string_to_metric_families

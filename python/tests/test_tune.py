@@ -14,12 +14,13 @@ from fractions import Fraction
 
 import pytest
 from arbiter import Host
-from arbiter_host import change, choosing, demands, goals as goals_, other_limits, tune
-from arbiter_host import progress, tune_settings, tune_weights
-from arbiter_host.faults import HostFault
-from arbiter_host.goals import Clash
-from arbiter_host.model import Group, Model
-from arbiter_host.plan import Engine, plan
+from arbiter_host.base import demands, progress
+from arbiter_host.base.faults import HostFault
+from arbiter_host.base.model import Group, Model
+from arbiter_host.base.plan import Engine, plan
+from arbiter_host.sources import change, choosing
+from arbiter_host.tune import goals as goals_, other_limits, tune, tune_settings, tune_weights
+from arbiter_host.tune.goals import Clash
 from hypothesis import HealthCheck, given, settings
 from hypothesis import strategies as st
 

@@ -8,8 +8,8 @@ import pytest
 import reading
 import twins
 from arbiter import Host
-from arbiter_host.demands import mean
-from arbiter_host.plan import plan
+from arbiter_host.base.demands import mean
+from arbiter_host.base.plan import plan
 from arbiter_host.sources import prometheus, usage
 
 SEEDS, MANY = range(20), 100

@@ -3,9 +3,9 @@ from fractions import Fraction
 
 import pytest
 from arbiter import Host
-from arbiter_host import units
-from arbiter_host.faults import HostFault
-from arbiter_host.units import Slices
+from arbiter_host.base import units
+from arbiter_host.base.faults import HostFault
+from arbiter_host.base.units import Slices
 from hypothesis import given
 from hypothesis import strategies as st
 

@@ -10,7 +10,7 @@ from pathlib import Path
 
 import pytest
 import trees
-from arbiter_host.faults import HostFault
+from arbiter_host.base.faults import HostFault
 from arbiter_host.sources import usage
 from hypothesis import given, settings
 from hypothesis import strategies as st

@@ -10,9 +10,9 @@ from fractions import Fraction
 import pytest
 import trees
 from arbiter import Host
-from arbiter_host import picture
-from arbiter_host.model import Group, Model
-from arbiter_host.plan import plan
+from arbiter_host.answers import picture
+from arbiter_host.base.model import Group, Model
+from arbiter_host.base.plan import plan
 from arbiter_host.sources import script
 from places import PACKAGE
 from hypothesis import HealthCheck, given, settings
@@ -193,9 +193,9 @@ def test_a_folder_of_another_user(ctl, folder):
     shut.mkdir(mode=0o700)
     ended = subprocess.run([sys.executable, "-c", "import os,sys;os.setuid(65534);"
                             "sys.path.insert(0,sys.argv.pop(1));"
-                            "from arbiter_host import cgroup2;"
-                            "from arbiter_host.model import Host;"
-                            "from arbiter_host.faults import HostFault\n"
+                            "from arbiter_host.sources import cgroup2;"
+                            "from arbiter_host.base.model import Host;"
+                            "from arbiter_host.base.faults import HostFault\n"
                             "try: cgroup2.check_folder(sys.argv[1])\n"
                             "except HostFault as fault: print(fault)", str(PACKAGE), str(shut)],
                            capture_output=True, text=True, check=False, timeout=60)

@@ -15,8 +15,8 @@ from pathlib import Path
 from typing import Any
 
 from arbiter import Host
-from arbiter_host import placement
-from arbiter_host.model import Group, Model
+from arbiter_host.answers import placement
+from arbiter_host.base.model import Group, Model
 from laboratory import kept
 
 FILE = Path(__file__).resolve().parents[3] / "docs/kernel/firm.txt"

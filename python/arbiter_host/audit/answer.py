@@ -6,14 +6,14 @@ from dataclasses import dataclass, replace
 from fractions import Fraction
 from typing import Any
 
-from arbiter_host import svg, text, units
+from arbiter_host.answers.series import gapped, peak
 from arbiter_host.audit.causes import NOTHING, SLICE, Outlooks, cause_of
 from arbiter_host.audit.intervals import Audit, Cell, Interval, Off
-from arbiter_host.demands import mean
-from arbiter_host.html import bar, rendered
-from arbiter_host.model import Group
-from arbiter_host.names import below, common_parent, cut, short, shown
-from arbiter_host.series import gapped, peak
+from arbiter_host.base import svg, text, units
+from arbiter_host.base.demands import mean
+from arbiter_host.base.html import bar, rendered
+from arbiter_host.base.model import Group
+from arbiter_host.base.names import below, common_parent, cut, short, shown
 
 HEADS = ("used", "plan", "mean off", "of plan", "worst off", "of plan then", "intervals",
          "likely cause", "group")

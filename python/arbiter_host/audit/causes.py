@@ -13,12 +13,12 @@ from collections.abc import Iterator, Sequence
 from fractions import Fraction
 
 from arbiter import Host
-from arbiter_host import placement
+from arbiter_host.answers import placement
+from arbiter_host.answers.placement import Outlook
 from arbiter_host.audit.intervals import Interval, with_demands
 from arbiter_host.audit.unknown import told
-from arbiter_host.model import Model
-from arbiter_host.names import parent_path
-from arbiter_host.placement import Outlook
+from arbiter_host.base.model import Model
+from arbiter_host.base.names import parent_path
 
 SLICE, PLACEMENT, PHASE, MOVED, NOTHING = ("less than a slice", "placement", "phase of periods",
                                            "demand that moved", "not explained")

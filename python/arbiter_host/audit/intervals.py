@@ -8,13 +8,13 @@ from dataclasses import dataclass, field, replace
 from fractions import Fraction
 
 from arbiter import Host
-from arbiter_host import demands, units
 from arbiter_host.audit import unknown
-from arbiter_host.faults import HostFault
-from arbiter_host.looks import CAME, Look, Span, between
-from arbiter_host.model import Group, Model
-from arbiter_host.names import shown
-from arbiter_host.plan import Engine, Plan, asking, plan
+from arbiter_host.base import demands, units
+from arbiter_host.base.faults import HostFault
+from arbiter_host.base.model import Group, Model
+from arbiter_host.base.names import shown
+from arbiter_host.base.plan import Engine, Plan, asking, plan
+from arbiter_host.sources.looks import CAME, Look, Span, between
 from arbiter_host.sources.usage import some
 
 AWAY = "groups while nothing was measured"

@@ -7,13 +7,13 @@ from collections.abc import Iterable, Mapping, Sequence
 from dataclasses import dataclass, replace
 from fractions import Fraction
 
-from arbiter_host import units
-from arbiter_host.demands import CounterReading
-from arbiter_host.faults import HostFault, UsageFault
-from arbiter_host.looks import Counted, Look
-from arbiter_host.model import Model
-from arbiter_host.names import cut, last_name, shown
+from arbiter_host.base import units
+from arbiter_host.base.demands import CounterReading
+from arbiter_host.base.faults import HostFault, UsageFault
+from arbiter_host.base.model import Model
+from arbiter_host.base.names import cut, last_name, shown
 from arbiter_host.sources import prometheus
+from arbiter_host.sources.looks import Counted, Look
 from arbiter_host.sources.samples import time_name
 from arbiter_host.sources.usage import some
 

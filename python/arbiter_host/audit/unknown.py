@@ -4,8 +4,8 @@ from __future__ import annotations
 import re
 from collections.abc import Iterable
 
-from arbiter_host import hunger
-from arbiter_host.looks import Span
+from arbiter_host.sources import hunger
+from arbiter_host.sources.looks import Span
 
 # The last kernel with which the model was measured.
 LAST = (6, 12)

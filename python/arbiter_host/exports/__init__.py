@@ -13,13 +13,13 @@ from dataclasses import dataclass, field
 from typing import NamedTuple
 
 from arbiter import Library
-from arbiter_host import apply
-from arbiter_host.atomic_files import Document, own_folder, put_all
-from arbiter_host.faults import HostFault, UsageFault
-from arbiter_host.model import Group, Model, check_settings
-from arbiter_host.names import shown
-from arbiter_host.output import emit
-from arbiter_host.safe_files import Root, check_path, parts_of
+from arbiter_host.base.atomic_files import Document, own_folder, put_all
+from arbiter_host.base.faults import HostFault, UsageFault
+from arbiter_host.base.model import Group, Model, check_settings
+from arbiter_host.base.names import shown
+from arbiter_host.base.output import emit
+from arbiter_host.base.safe_files import Root, check_path, parts_of
+from arbiter_host.setting import apply
 from arbiter_host.sources.pods import kubelets
 
 # What the first line of each file that is written holds.

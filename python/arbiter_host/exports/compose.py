@@ -8,8 +8,8 @@ from typing import Any
 import yaml
 
 from arbiter import Library
-from arbiter_host import search, units
-from arbiter_host.atomic_files import Document
+from arbiter_host.base import search, units
+from arbiter_host.base.atomic_files import Document
 from arbiter_host.exports import Differing, Draft, head
 from arbiter_host.sources.containers import COMPOSE, ContainerSource, service_of
 from arbiter_host.sources.data import number, table, text

@@ -3,10 +3,10 @@ from __future__ import annotations
 
 from collections.abc import Iterator
 
-from arbiter_host import apply
-from arbiter_host.atomic_files import Document
+from arbiter_host.base.atomic_files import Document
+from arbiter_host.base.names import shown
 from arbiter_host.exports import Differing, Draft, head, of_kubelet
-from arbiter_host.names import shown
+from arbiter_host.setting import apply
 from arbiter_host.sources.systemd import unit_of
 
 FILE = "50-arbiter.conf"

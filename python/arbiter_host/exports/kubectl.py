@@ -12,14 +12,14 @@ from typing import Any, NamedTuple
 
 import yaml
 
-from arbiter_host import apply
-from arbiter_host.atomic_files import Document
+from arbiter_host.base.atomic_files import Document
+from arbiter_host.base.faults import HostFault
+from arbiter_host.base.model import Group
+from arbiter_host.base.names import shown
+from arbiter_host.base.owned import Amounts, Setting
 from arbiter_host.exports import Differing, Draft, head
 from arbiter_host.exports.compose import shares_of
-from arbiter_host.faults import HostFault
-from arbiter_host.model import Group
-from arbiter_host.names import shown
-from arbiter_host.owned import Amounts, Setting
+from arbiter_host.setting import apply
 from arbiter_host.sources.kubernetes import MAKERS, PodSource
 from arbiter_host.sources.pods import Container, Pod
 

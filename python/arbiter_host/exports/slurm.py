@@ -3,9 +3,9 @@ from __future__ import annotations
 
 import re
 
-from arbiter_host.atomic_files import Document
+from arbiter_host.base.atomic_files import Document
+from arbiter_host.base.names import last_name
 from arbiter_host.exports import Differing, Draft, head
-from arbiter_host.names import last_name
 from arbiter_host.sources import slurm
 
 USER = re.compile(r"[a-z_][a-z0-9_.-]{0,30}\$?")

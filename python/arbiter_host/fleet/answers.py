@@ -13,11 +13,11 @@ from typing import Any
 
 from arbiter import Columns, Host, QuotaColumns
 from arbiter.columns import column
-from arbiter_host import series
-from arbiter_host.faults import HostFault
+from arbiter_host.answers import series
+from arbiter_host.base.faults import HostFault
+from arbiter_host.base.model import Group, Model, checked
+from arbiter_host.base.plan import Engine, Plan, Planned, plan_of
 from arbiter_host.fleet.work import Job, Sent, SentRows
-from arbiter_host.model import Group, Model, checked
-from arbiter_host.plan import Engine, Plan, Planned, plan_of
 
 # Most groups that an answer names for one reason.
 MOST_NAMED = 5

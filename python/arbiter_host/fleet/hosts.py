@@ -10,10 +10,10 @@ from collections.abc import Callable, Mapping, Sequence
 from dataclasses import dataclass, replace
 from typing import Any
 
-from arbiter_host import demands, load, names
-from arbiter_host.faults import HostFault, UsageFault, strerror
+from arbiter_host.base import demands, names
+from arbiter_host.base.faults import HostFault, UsageFault, strerror
 from arbiter_host.fleet.work import HostFile
-from arbiter_host.sources import kubernetes, pods
+from arbiter_host.sources import kubernetes, load, pods
 from arbiter_host.sources.data import below as value_below, loads, table, text
 from arbiter_host.sources.usage import Used, of_metrics, some
 

@@ -20,10 +20,10 @@ from contextlib import contextmanager, suppress
 from itertools import chain
 from typing import Any
 
-from arbiter_host.faults import HostFault
+from arbiter_host.base.faults import HostFault
+from arbiter_host.base.names import cut, shown
 from arbiter_host.fleet import work
 from arbiter_host.fleet.work import HostFile, Job, Sent
-from arbiter_host.names import cut, shown
 
 Answered = Future[Sent | str]
 MOST_WORKERS = 1024

@@ -8,16 +8,16 @@ from contextlib import closing
 from dataclasses import replace
 from typing import Any
 
-from arbiter_host import change, load, names, options as table, plain_files, progress
-from arbiter_host.faults import HostFault, NothingFound, UsageFault
+from arbiter_host.base import names, options as table, plain_files, progress
+from arbiter_host.base.faults import HostFault, NothingFound, UsageFault
+from arbiter_host.base.model import Group
+from arbiter_host.base.output import json_text, warn, write_forms
+from arbiter_host.base.plan import engine_of
 from arbiter_host.fleet import answers, hosts, report
 from arbiter_host.fleet.answers import HostAnswer
 from arbiter_host.fleet.hosts import Fleet
 from arbiter_host.fleet.work import HostFile, Job
-from arbiter_host.model import Group
-from arbiter_host.output import json_text, warn, write_forms
-from arbiter_host.plan import engine_of
-from arbiter_host.sources import by_options, used
+from arbiter_host.sources import by_options, change, load, used
 from arbiter_host.sources.samples import History
 from arbiter_host.sources.usage import some
 

@@ -6,12 +6,12 @@ from dataclasses import dataclass, replace
 from fractions import Fraction
 from typing import Any
 
-from arbiter_host import text as layout
+from arbiter_host.answers.series import COUNTS
+from arbiter_host.base import text as layout
+from arbiter_host.base.html import bar, rendered
+from arbiter_host.base.names import short, shown
 from arbiter_host.fleet.answers import HostAnswer
 from arbiter_host.fleet.hosts import Fleet
-from arbiter_host.html import bar, rendered
-from arbiter_host.names import short, shown
-from arbiter_host.series import COUNTS
 
 # The rules of `--rank`, told in the report.
 RULES = {

@@ -13,11 +13,12 @@ from dataclasses import dataclass, field, replace
 from typing import Any, NamedTuple
 
 from arbiter import Columns, Host
-from arbiter_host import change, demands, load, names, series
-from arbiter_host.faults import HostFault
-from arbiter_host.model import Model
-from arbiter_host.plan import Engine, engine_of
-from arbiter_host.sources import by_options
+from arbiter_host.answers import series
+from arbiter_host.base import demands, names
+from arbiter_host.base.faults import HostFault
+from arbiter_host.base.model import Model
+from arbiter_host.base.plan import Engine, engine_of
+from arbiter_host.sources import by_options, change, load
 from arbiter_host.sources.samples import History
 
 

@@ -6,10 +6,11 @@ from dataclasses import replace
 from fractions import Fraction
 
 from arbiter import Host, Library
-from arbiter_host import looks, units
-from arbiter_host.faults import HostFault, UsageFault
-from arbiter_host.model import Model
-from arbiter_host.names import shown
+from arbiter_host.base import units
+from arbiter_host.base.faults import HostFault, UsageFault
+from arbiter_host.base.model import Model
+from arbiter_host.base.names import shown
+from arbiter_host.sources import looks
 from arbiter_host.sources.wish import Wish
 
 

@@ -5,10 +5,10 @@ from collections.abc import Sequence
 from fractions import Fraction
 
 from arbiter import Host
-from arbiter_host import demands, looks, units
-from arbiter_host.looks import OverTime, Times
-from arbiter_host.model import Model, bound_notes
-from arbiter_host.sources import systemd
+from arbiter_host.base import demands, units
+from arbiter_host.base.model import Model, bound_notes
+from arbiter_host.sources import looks, systemd
+from arbiter_host.sources.looks import OverTime, Times
 
 
 def own_notes(model: Model, series: OverTime) -> list[str]:

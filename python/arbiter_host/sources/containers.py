@@ -8,11 +8,11 @@ from fractions import Fraction
 from typing import Any
 
 from arbiter import Host, Library
-from arbiter_host import demands, names, units
-from arbiter_host.demands import Measured, Place
-from arbiter_host.faults import HostFault
-from arbiter_host.model import MAX_CAPACITY, Group, Model, bound_notes, check_count, checked
-from arbiter_host.owned import NONE, Range, Setting
+from arbiter_host.base import demands, names, units
+from arbiter_host.base.demands import Measured, Place
+from arbiter_host.base.faults import HostFault
+from arbiter_host.base.model import MAX_CAPACITY, Group, Model, bound_notes, check_count, checked
+from arbiter_host.base.owned import NONE, Range, Setting
 from arbiter_host.sources import systemd
 from arbiter_host.sources.data import below, loads, number, table, text
 from arbiter_host.sources.measurable import Measurable

@@ -5,7 +5,7 @@ import json
 from collections.abc import Sequence
 from typing import Any
 
-from arbiter_host.faults import HostFault
+from arbiter_host.base.faults import HostFault
 
 MAX_TEXT = 253
 # Begins of the address of a server.

@@ -21,9 +21,9 @@ from fractions import Fraction
 from typing import Any
 
 from arbiter import Host, Library
-from arbiter_host import names, units
-from arbiter_host.faults import HostFault, naming
-from arbiter_host.model import Group, Model, check_count, check_settings, checked
+from arbiter_host.base import names, units
+from arbiter_host.base.faults import HostFault, naming
+from arbiter_host.base.model import Group, Model, check_count, check_settings, checked
 from arbiter_host.sources.data import decoded
 from arbiter_host.sources.register import is_json
 from arbiter_host.sources.wish import File, Wish, only

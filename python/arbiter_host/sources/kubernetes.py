@@ -15,17 +15,17 @@ from fractions import Fraction
 from typing import Any
 
 from arbiter import Host, Library
-from arbiter_host import demands, names, search, units
-from arbiter_host.demands import Measured, Place
-from arbiter_host.faults import HostFault, NoHost
-from arbiter_host.model import NO_POD, Group, Model, PodNames, check_count, checked
-from arbiter_host.names import NOWHERE, shown
-from arbiter_host.owned import Amounts, Owned, Range, Setting
+from arbiter_host.base import demands, names, search, units
+from arbiter_host.base.demands import Measured, Place
+from arbiter_host.base.faults import HostFault, NoHost
+from arbiter_host.base.model import NO_POD, Group, Model, PodNames, check_count, checked
+from arbiter_host.base.names import NOWHERE, shown
+from arbiter_host.base.owned import Amounts, Owned, Range, Setting
 from arbiter_host.sources.data import below, loads, table, text
 from arbiter_host.sources.measurable import Measurable
 from arbiter_host.sources.pods import (CLASSES, TOP, Container, NodeFacts, Pod, folder_at,
-                                       folder_of, names_by, names_of, node_facts, pod_of,
-                                       requested, scope_of, thousandths)
+                                       folder_of, names_by, names_of, node_facts, pod_of, requested,
+                                       scope_of, thousandths)
 from arbiter_host.sources.usage import Used, of_metrics
 from arbiter_host.sources.wish import DRIVERS, File, Wish
 

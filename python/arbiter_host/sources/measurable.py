@@ -8,10 +8,10 @@ from fractions import Fraction
 from typing import TypeVar
 
 from arbiter import Host, Library
-from arbiter_host.demands import Measured, Place, Use, use_of
-from arbiter_host.faults import HostFault
-from arbiter_host.model import Model
-from arbiter_host.owned import Owned
+from arbiter_host.base.demands import Measured, Place, Use, use_of
+from arbiter_host.base.faults import HostFault
+from arbiter_host.base.model import Model
+from arbiter_host.base.owned import Owned
 from arbiter_host.sources.usage import Used, some
 from arbiter_host.sources.wish import DRIVERS, Wish
 

@@ -13,10 +13,10 @@ from dataclasses import dataclass, replace
 from fractions import Fraction
 from typing import Any, NamedTuple
 
-from arbiter_host import units
-from arbiter_host.faults import HostFault, naming
-from arbiter_host.names import NOWHERE, shown, slice_folder
-from arbiter_host.owned import Amounts
+from arbiter_host.base import units
+from arbiter_host.base.faults import HostFault, naming
+from arbiter_host.base.names import NOWHERE, shown, slice_folder
+from arbiter_host.base.owned import Amounts
 from arbiter_host.sources.data import below, table, tables, text
 
 TOP = "kubepods"

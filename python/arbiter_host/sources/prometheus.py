@@ -9,9 +9,9 @@ from datetime import datetime
 from fractions import Fraction
 from typing import Any, NamedTuple, TypeVar
 
-from arbiter_host import units
-from arbiter_host.faults import HostFault, UsageFault
-from arbiter_host.names import cut, shown
+from arbiter_host.base import units
+from arbiter_host.base.faults import HostFault, UsageFault
+from arbiter_host.base.names import cut, shown
 from arbiter_host.sources.data import SCHEMES
 from arbiter_host.sources.samples import EMPTY, TABLE, History, Sample, time_name
 

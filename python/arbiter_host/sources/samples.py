@@ -13,10 +13,10 @@ from fractions import Fraction
 from typing import NamedTuple
 
 from arbiter import Host
-from arbiter_host import units
-from arbiter_host.faults import HostFault
-from arbiter_host.names import cut, shown
-from arbiter_host.plain_files import MAX_FILE
+from arbiter_host.base import units
+from arbiter_host.base.faults import HostFault
+from arbiter_host.base.names import cut, shown
+from arbiter_host.base.plain_files import MAX_FILE
 from arbiter_host.sources.data import cells_of, decoded
 
 TIMES = ("time", "period", "timestamp", "date", "datetime", "_time", "ts")

@@ -11,12 +11,12 @@ from dataclasses import replace
 
 from arbiter import Host, Library, Script
 from arbiter.c import NO_LIMIT
-from arbiter_host import names, units
-from arbiter_host.faults import HostFault
-from arbiter_host.model import MAX_PROCESSORS, Group, Model, checked
-from arbiter_host.plan import asking
+from arbiter_host.base import names, units
+from arbiter_host.base.faults import HostFault
+from arbiter_host.base.model import MAX_PROCESSORS, Group, Model, checked
+from arbiter_host.base.plan import asking
+from arbiter_host.base.units import Slices
 from arbiter_host.sources.wish import File, Wish, only
-from arbiter_host.units import Slices
 
 HEAD = re.compile(r"^#\s*(?:\./)?arbiter run((?:\s+--[a-z]+[ =][0-9]{1,9})+)\s*(?:<.*)?$")
 # Lines above which a comment may speak of a group.

@@ -16,8 +16,8 @@ from contextlib import suppress
 from typing import Any
 from urllib.parse import urlencode
 
-from arbiter_host.faults import HostFault, UsageFault, strerror
-from arbiter_host.names import cut, shown
+from arbiter_host.base.faults import HostFault, UsageFault, strerror
+from arbiter_host.base.names import cut, shown
 from arbiter_host.sources.data import MAX_BYTES, below, loads
 from arbiter_host.sources.kubernetes import items_of
 

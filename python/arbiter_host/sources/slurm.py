@@ -18,11 +18,11 @@ from fractions import Fraction
 from typing import Any
 
 from arbiter import Host, Library
-from arbiter_host import demands, names, units
-from arbiter_host.demands import CounterReading, Measured
-from arbiter_host.faults import HostFault, NoHost, naming
-from arbiter_host.model import Group, Model, check_count
-from arbiter_host.names import NOWHERE, listed, shown
+from arbiter_host.base import demands, names, units
+from arbiter_host.base.demands import CounterReading, Measured
+from arbiter_host.base.faults import HostFault, NoHost, naming
+from arbiter_host.base.model import Group, Model, check_count
+from arbiter_host.base.names import NOWHERE, listed, shown
 from arbiter_host.sources.data import cells_of, decoded, loads, number, table, tables, text
 from arbiter_host.sources.register import AVERAGE, USED, part_of_jobs
 from arbiter_host.sources.wish import File, Wish

@@ -12,12 +12,12 @@ from dataclasses import dataclass, field, replace
 from fractions import Fraction
 
 from arbiter import Host, Library
-from arbiter_host import demands, names, units
-from arbiter_host.demands import CounterReading, Measured, Use, use_of
-from arbiter_host.faults import HostFault
-from arbiter_host.model import MAX_DEPTH, Group, Model, bound_notes, check_settings, checked
-from arbiter_host.names import shown
-from arbiter_host.owned import NONE, Owned, Range, Setting
+from arbiter_host.base import demands, names, units
+from arbiter_host.base.demands import CounterReading, Measured, Use, use_of
+from arbiter_host.base.faults import HostFault
+from arbiter_host.base.model import MAX_DEPTH, Group, Model, bound_notes, check_settings, checked
+from arbiter_host.base.names import shown
+from arbiter_host.base.owned import NONE, Owned, Range, Setting
 from arbiter_host.sources.wish import File, Wish
 
 NOT_SET = ("", "[not set]", "infinity", "18446744073709551615")

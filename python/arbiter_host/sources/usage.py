@@ -16,10 +16,10 @@ from collections.abc import Iterator, Sequence
 from fractions import Fraction
 from typing import Any, NamedTuple
 
-from arbiter_host import units
-from arbiter_host.demands import Times
-from arbiter_host.faults import HostFault, naming
-from arbiter_host.names import cut, few, shown
+from arbiter_host.base import units
+from arbiter_host.base.demands import Times
+from arbiter_host.base.faults import HostFault, naming
+from arbiter_host.base.names import cut, few, shown
 from arbiter_host.sources.data import (MAX_TEXT, below, cells_of, check_memory, check_size, loads,
                                        tables, text)
 from arbiter_host.sources.pods import quantity

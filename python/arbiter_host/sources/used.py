@@ -15,11 +15,11 @@ from datetime import datetime, timezone
 from fractions import Fraction
 
 from arbiter import Host
-from arbiter_host import demands, looks, options as table, plain_files, units
-from arbiter_host.faults import HostFault, UsageFault
-from arbiter_host.names import shown
-from arbiter_host.owned import Owned
-from arbiter_host.sources import by_options, prometheus, samples, usage
+from arbiter_host.base import demands, options as table, plain_files, units
+from arbiter_host.base.faults import HostFault, UsageFault
+from arbiter_host.base.names import shown
+from arbiter_host.base.owned import Owned
+from arbiter_host.sources import by_options, looks, prometheus, samples, usage
 from arbiter_host.sources.measurable import Measurable
 from arbiter_host.sources.samples import History, Sample
 from arbiter_host.sources.usage import Used

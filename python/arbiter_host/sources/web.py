@@ -8,9 +8,9 @@ import urllib.request
 from functools import partial
 from typing import Any
 
-from arbiter_host import progress
-from arbiter_host.faults import HostFault, naming
-from arbiter_host.names import cut, shown
+from arbiter_host.base import progress
+from arbiter_host.base.faults import HostFault, naming
+from arbiter_host.base.names import cut, shown
 from arbiter_host.sources.data import SCHEMES, check_memory
 
 # Seconds that a server may be silent, and of a whole exchange; bytes of an answer, and of a piece.

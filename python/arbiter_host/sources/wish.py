@@ -8,12 +8,12 @@ from fractions import Fraction
 from typing import TYPE_CHECKING
 
 from arbiter import Host, Library
-from arbiter_host import demands, units
-from arbiter_host.faults import UsageFault
-from arbiter_host.model import Model, checked, fine, planned
+from arbiter_host.base import demands, units
+from arbiter_host.base.faults import UsageFault
+from arbiter_host.base.model import Model, checked, fine, planned
 
 if TYPE_CHECKING:
-    from arbiter_host.owned import Owned
+    from arbiter_host.base.owned import Owned
     from arbiter_host.sources.measurable import Measurable
 
 # How kubelet and runtimes name groups.

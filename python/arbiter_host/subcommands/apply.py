@@ -8,13 +8,14 @@ import time
 from collections.abc import Iterable, Iterator, Sequence
 from contextlib import contextmanager, suppress
 
-from arbiter_host import (apply, change, exports, load, names, options as table, output,
-                          plain_files, record)
-from arbiter_host import safe_files
-from arbiter_host.faults import HostFault, UsageFault
-from arbiter_host.options import Output
-from arbiter_host.output import emit
-from arbiter_host.plan import engine_of
+from arbiter_host import exports
+from arbiter_host.base import names, options as table, output, plain_files, safe_files
+from arbiter_host.base.faults import HostFault, UsageFault
+from arbiter_host.base.options import Output
+from arbiter_host.base.output import emit
+from arbiter_host.base.plan import engine_of
+from arbiter_host.setting import apply, record
+from arbiter_host.sources import change, load
 
 
 def print_steps(root: safe_files.Root, steps: Sequence[apply.Step]) -> None:

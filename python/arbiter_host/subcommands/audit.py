@@ -5,17 +5,17 @@ import argparse
 import os
 
 from arbiter import Library
-from arbiter_host import load, looks, options, progress, text
 from arbiter_host.audit import answer, intervals, ranges, unknown
 from arbiter_host.audit.answer import Ranked
 from arbiter_host.audit.causes import NOTHING
-from arbiter_host.faults import HostFault, UsageFault
-from arbiter_host.looks import Look, Times
-from arbiter_host.model import Model
-from arbiter_host.names import shown
-from arbiter_host.output import json_text, write_forms
-from arbiter_host.plan import Engine, engine_of
-from arbiter_host.sources import by_options, prometheus, used
+from arbiter_host.base import options, progress, text
+from arbiter_host.base.faults import HostFault, UsageFault
+from arbiter_host.base.model import Model
+from arbiter_host.base.names import shown
+from arbiter_host.base.output import json_text, write_forms
+from arbiter_host.base.plan import Engine, engine_of
+from arbiter_host.sources import by_options, load, looks, prometheus, used
+from arbiter_host.sources.looks import Look, Times
 from arbiter_host.subcommands.base import source_name
 
 

@@ -4,11 +4,13 @@ from __future__ import annotations
 import argparse
 from collections.abc import Sequence
 
-from arbiter_host import explain, load, names, text
-from arbiter_host.explain import View
-from arbiter_host.faults import UsageFault
-from arbiter_host.model import MAX_DEPTH, Model
-from arbiter_host.plan import Engine
+from arbiter_host.answers import explain
+from arbiter_host.answers.explain import View
+from arbiter_host.base import names, text
+from arbiter_host.base.faults import UsageFault
+from arbiter_host.base.model import MAX_DEPTH, Model
+from arbiter_host.base.plan import Engine
+from arbiter_host.sources import load
 
 
 def source_name(paths: Sequence[str]) -> str:

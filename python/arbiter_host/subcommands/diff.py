@@ -5,13 +5,15 @@ import argparse
 from collections.abc import Sequence
 
 from arbiter import Host
-from arbiter_host import change, choosing, diff, load, options as table, report
-from arbiter_host.faults import NoHost, NothingFound, UsageFault
+from arbiter_host.answers import diff, report
+from arbiter_host.base import options as table
+from arbiter_host.base.faults import NoHost, NothingFound, UsageFault
+from arbiter_host.base.model import Model
+from arbiter_host.base.names import shown
+from arbiter_host.base.output import json_text, write_forms
+from arbiter_host.base.plan import Engine, engine_of, plan
 from arbiter_host.fleet import questions
-from arbiter_host.model import Model
-from arbiter_host.names import shown
-from arbiter_host.output import json_text, write_forms
-from arbiter_host.plan import Engine, engine_of, plan
+from arbiter_host.sources import change, choosing, load
 from arbiter_host.subcommands.base import source_name, view_of
 
 

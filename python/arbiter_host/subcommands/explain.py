@@ -4,11 +4,13 @@ from __future__ import annotations
 import argparse
 from functools import cache
 
-from arbiter_host import choosing, explain, options as table, picture, placement, report
-from arbiter_host.explain import View
+from arbiter_host.answers import explain, picture, placement, report
+from arbiter_host.answers.explain import View
+from arbiter_host.base import options as table
+from arbiter_host.base.output import json_text, write_forms
+from arbiter_host.base.plan import Plan, engine_of, guarantees, plan
 from arbiter_host.fleet import questions
-from arbiter_host.output import json_text, write_forms
-from arbiter_host.plan import Plan, engine_of, guarantees, plan
+from arbiter_host.sources import choosing
 from arbiter_host.subcommands.base import loaded, source_name, view_of
 
 

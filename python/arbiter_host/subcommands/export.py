@@ -6,11 +6,11 @@ from collections.abc import Callable, Mapping
 from dataclasses import replace
 
 from arbiter import Library
-from arbiter_host import change, load, options as table
-from arbiter_host.model import Model
-from arbiter_host.output import say, write_file
-from arbiter_host.plan import engine_of
-from arbiter_host.sources import hostfile, script
+from arbiter_host.base import options as table
+from arbiter_host.base.model import Model
+from arbiter_host.base.output import say, write_file
+from arbiter_host.base.plan import engine_of
+from arbiter_host.sources import change, hostfile, load, script
 from arbiter_host.subcommands.base import source_name
 
 WRITERS: Mapping[str, Callable[[Model, Library], str]] = {

@@ -17,14 +17,16 @@ from fractions import Fraction
 from typing import TYPE_CHECKING
 
 from arbiter import Host, Library
-from arbiter_host import ends, hold, lines, looks, options, output, record, safe_files
-from arbiter_host.faults import HostFault, UsageFault
-from arbiter_host.model import MAX_CAPACITY, MAX_DEPTH
-from arbiter_host.plan import engine_of
-from arbiter_host.sources import by_options
+from arbiter_host.base import lines, options, output, safe_files
+from arbiter_host.base.faults import HostFault, UsageFault
+from arbiter_host.base.model import MAX_CAPACITY, MAX_DEPTH
+from arbiter_host.base.plan import engine_of
+from arbiter_host.hold import ends, hold
+from arbiter_host.setting import record
+from arbiter_host.sources import by_options, looks
 
 if TYPE_CHECKING:
-    from arbiter_host.metrics import File
+    from arbiter_host.top.metrics import File
 
 # The signals that end it in order: all but those that end no process, which Python ignores, or
 # which a fault raises.
@@ -133,7 +135,7 @@ class Service:
                            f" {len(line['groups'])} groups held, {line['served']:.0%} of the plan"
                            f" served, {line['unserved']} slices unserved")
         if self.file is not None:
-            from arbiter_host import metrics
+            from arbiter_host.top import metrics
             try:
                 self.file.put(metrics.Held(line, host))
             except HostFault as fault:
@@ -196,7 +198,7 @@ def metrics_file(asked: argparse.Namespace, stack: ExitStack) -> File | None:
     paths = [path for form, path in forms if form != "json"]
     if not paths:
         return None
-    from arbiter_host import metrics
+    from arbiter_host.top import metrics
     file = metrics.File(paths[-1])
     stack.callback(file.remove)
     return file
@@ -231,7 +233,7 @@ def run(asked: argparse.Namespace) -> None:
         stack.enter_context(service.begun())
         words = (engine, root, asked.source, host)
         if is_scheduled(asked, root):
-            from arbiter_host import scheduler
+            from arbiter_host.hold import scheduler
             loop: hold.Loop = scheduler.ScheduledLoop(
                 scheduler.Scheduler(asked.source), *words, None, ways, service.clock)
         else:

@@ -3,9 +3,9 @@ from __future__ import annotations
 
 import argparse
 
-from arbiter_host import load
-from arbiter_host.faults import UsageFault
+from arbiter_host.base.faults import UsageFault
 from arbiter_host.fleet import hosts, questions
+from arbiter_host.sources import load
 
 
 def run(options: argparse.Namespace) -> None:

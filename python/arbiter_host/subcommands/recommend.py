@@ -4,17 +4,18 @@ from __future__ import annotations
 import argparse
 from collections.abc import Sequence, Set
 
-from arbiter_host import change, choosing, load, options as table, output, recommend, text, units
-from arbiter_host.demands import Use
-from arbiter_host.faults import NothingFound, UsageFault
+from arbiter_host import recommend
+from arbiter_host.base import options as table, output, text, units
+from arbiter_host.base.demands import Use
+from arbiter_host.base.faults import NothingFound, UsageFault
+from arbiter_host.base.model import Model
+from arbiter_host.base.names import cut, few, short, shown
+from arbiter_host.base.output import Styled
+from arbiter_host.base.plan import Engine, engine_of
 from arbiter_host.fleet import hosts as cluster
 from arbiter_host.fleet.hosts import Fleet
-from arbiter_host.model import Model
-from arbiter_host.names import cut, few, short, shown
-from arbiter_host.output import Styled
-from arbiter_host.plan import Engine, engine_of
 from arbiter_host.recommend import Advised, Recommendation, SeenHost
-from arbiter_host.sources import by_options, kubernetes, used
+from arbiter_host.sources import by_options, change, choosing, kubernetes, load, used
 from arbiter_host.sources.data import loads
 from arbiter_host.sources.measurable import Measurable, measured
 from arbiter_host.sources.register import READERS

@@ -3,13 +3,14 @@ from __future__ import annotations
 
 import argparse
 
-from arbiter_host import choosing, load, options as table, output, progress, series
-from arbiter_host.faults import HostFault, UsageFault
+from arbiter_host.answers import series
+from arbiter_host.answers.series import Series
+from arbiter_host.base import options as table, output, progress
+from arbiter_host.base.faults import HostFault, UsageFault
+from arbiter_host.base.model import Model
+from arbiter_host.base.plan import Engine, engine_of
 from arbiter_host.fleet import questions
-from arbiter_host.model import Model
-from arbiter_host.plan import Engine, engine_of
-from arbiter_host.series import Series
-from arbiter_host.sources import by_options, used
+from arbiter_host.sources import by_options, choosing, load, used
 from arbiter_host.sources.usage import some
 from arbiter_host.subcommands.base import source_name
 

@@ -13,17 +13,19 @@ import time
 from collections.abc import Callable, Sequence
 from typing import TYPE_CHECKING
 
-from arbiter_host import (choosing, explain, load, looks, options, output, progress, top, viewer)
-from arbiter_host.explain import View
-from arbiter_host.faults import Alerted, HostFault, UsageFault, strerror
-from arbiter_host.model import PodNames
-from arbiter_host.names import shown
-from arbiter_host.plan import Plan, engine_of, plan
-from arbiter_host.sources import by_options, kubernetes
+from arbiter_host.answers import explain
+from arbiter_host.answers.explain import View
+from arbiter_host.base import options, output, progress
+from arbiter_host.base.faults import Alerted, HostFault, UsageFault, strerror
+from arbiter_host.base.model import PodNames
+from arbiter_host.base.names import shown
+from arbiter_host.base.plan import Plan, engine_of, plan
+from arbiter_host.sources import by_options, choosing, kubernetes, load, looks
 from arbiter_host.subcommands.base import view_of
+from arbiter_host.top import top, viewer
 
 if TYPE_CHECKING:
-    from arbiter_host.metrics import Figured, File
+    from arbiter_host.top.metrics import Figured, File
 
 # Seconds that the command of an alert has.
 SECONDS = 60
@@ -84,14 +86,14 @@ class Watch:
         self.figured: Figured | None = None
         self.file: File | None = None
         if asked.listen or file:
-            from arbiter_host import metrics
+            from arbiter_host.top import metrics
             self.figured = metrics.Figured()
             self.file = metrics.File(file) if file else None
 
     def listen(self) -> None:
         """Begins to answer, and says where."""
         if self.asked.listen and self.figured:
-            from arbiter_host import metrics
+            from arbiter_host.top import metrics
             address, port = metrics.serve(self.asked.listen, self.figured)
             where = f"[{address}]" if ":" in address else address
             output.say(f"http://{where}:{port}/metrics")

@@ -4,16 +4,18 @@ from __future__ import annotations
 import argparse
 from collections.abc import Sequence
 
-from arbiter_host import change, choosing, knobs, options as table, text, tune, units
-from arbiter_host.faults import NothingFound, UsageFault
-from arbiter_host.goals import Clash, Goal, Way
-from arbiter_host.knobs import Knob
-from arbiter_host.model import MAX_PROCESSORS
-from arbiter_host.names import short, shown
-from arbiter_host.output import json_text, write_forms
-from arbiter_host.plan import engine_of, plan
+from arbiter_host.base import options as table, text, units
+from arbiter_host.base.faults import NothingFound, UsageFault
+from arbiter_host.base.model import MAX_PROCESSORS
+from arbiter_host.base.names import short, shown
+from arbiter_host.base.output import json_text, write_forms
+from arbiter_host.base.plan import engine_of, plan
+from arbiter_host.sources import change, choosing
 from arbiter_host.subcommands.base import loaded
-from arbiter_host.tune import Tuned
+from arbiter_host.tune import knobs, tune
+from arbiter_host.tune.goals import Clash, Goal, Way
+from arbiter_host.tune.knobs import Knob
+from arbiter_host.tune.tune import Tuned
 
 # Demands under which goals are met.
 MEASURES = {False: "by today's demands", True: "whatever the others ask for"}

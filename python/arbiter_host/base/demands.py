@@ -1,0 +1,232 @@
+"""Demands from what was measured: usage, peak, 95th percentile, pressure, limit, request, busy."""
+from __future__ import annotations
+
+import math
+from collections.abc import Callable, Sequence
+from dataclasses import dataclass, field, replace
+from fractions import Fraction
+from typing import NamedTuple
+
+from arbiter import Host
+from arbiter_host.base import names, units
+from arbiter_host.base.faults import NothingFound, UsageFault
+from arbiter_host.base.model import Group, Model
+from arbiter_host.base.options import WANTS
+
+# Those that are taken from what was used.
+OF_USE = WANTS[:4]
+# The greatest part of the time that pressure is taken for: above it the estimate has no meaning.
+MOST_PRESSURE = Fraction(19, 20)
+# The place of a group among what a source has read.
+Place = tuple[int, int]
+# The seconds at which the first and the last sample was.
+Times = tuple[Fraction, Fraction]
+
+
+class CounterReading(NamedTuple):
+    """Counters of one group at one time; None where the file or the key is missing. `usage` and
+    `pressure` are microseconds, `pressure` the time in which some task waited."""
+
+    usage: int | None = None
+    periods: int | None = None
+    throttled: int | None = None
+    pressure: int | None = None
+
+
+@dataclass
+class Measured:
+    """What is known of one group's demand: readings, and thousandths of a CPU requested."""
+
+    readings: list[CounterReading] = field(default_factory=list)
+    request: Fraction | None = None
+    # Number of its tasks where it was read.
+    tasks: int | None = None
+    # Thousandths of a CPU that it used at one time or more, as others have measured it, and when.
+    told: tuple[Fraction, ...] = ()
+    times: Times | None = None
+
+
+@dataclass(frozen=True)
+class Use:
+    """What was seen of a group: thousandths in each sample, what it wanted at least where its limit
+    has throttled it, and when; None where that is not told."""
+
+    values: tuple[Fraction, ...]
+    wanted: Fraction = Fraction(0)
+    times: Times | None = None
+    # The groups of which it is, such as replicas of one container.
+    groups: int = 1
+    # The part of its periods in which it was throttled; None where that is not told.
+    throttled: Fraction | None = None
+
+    @property
+    def span(self) -> Fraction | None:
+        """The seconds from the first sample to the last."""
+        return None if self.times is None else self.times[1] - self.times[0]
+
+
+def together(uses: Sequence[Use]) -> Use:
+    """What was seen of several groups that have the same settings."""
+    times = [each.times for each in uses if each.times is not None]
+    return Use(tuple(value for each in uses for value in each.values),
+               max(each.wanted for each in uses),
+               (min(times)[0], max(last for _, last in times)) if times else None, len(uses))
+
+
+def rise(before: int | None, after: int | None) -> int | None:
+    """By how much a counter rose; None where a reading is missing or the counter fell."""
+    if before is None or after is None or after < before:
+        return None
+    return after - before
+
+
+def rises(readings: Sequence[CounterReading], key: str) -> list[int]:
+    """By how much a counter rose from each reading to the next; empty where one is missing."""
+    values = [getattr(reading, key) for reading in readings]
+    steps = [rise(one, two) for one, two in zip(values, values[1:])]
+    return [] if None in steps else [each for each in steps if each is not None]
+
+
+def used(measured: Measured, seconds: Fraction) -> list[Fraction]:
+    """Thousandths of a CPU that a group used from each reading to the next."""
+    if measured.told:
+        return list(measured.told)
+    return [units.thousandths_of_usage(usec, seconds)
+            for usec in rises(measured.readings, "usage")]
+
+
+def mean(values: Sequence[Fraction]) -> Fraction:
+    """The mean; 0 of none."""
+    return sum(values, Fraction(0)) / len(values) if values else Fraction(0)
+
+
+def percentile(values: Sequence[Fraction], percent: int) -> Fraction:
+    """The least value that so many percent of the values do not exceed; 0 of none."""
+    if not values:
+        return Fraction(0)
+    return sorted(values)[max(math.ceil(len(values) * percent / 100) - 1, 0)]
+
+
+def limit_of(group: Group, host: Host) -> Fraction:
+    """Thousandths of a CPU that the group's own limit allows, at most the host's."""
+    most = Fraction(1000 * host.processors)
+    return most if group.quota is None else min(Fraction(1000 * group.quota, group.period), most)
+
+
+def pressed(group: Group, measured: Measured, host: Host, seconds: Fraction) -> Fraction:
+    """What the group used, raised by the time in which it waited or was throttled.
+
+    Usage is divided by the part of the time without pressure. A throttled group wants at least
+    its limit, raised by its periods over those that were not throttled.
+    """
+    usage = mean(used(measured, seconds))
+    waited = sum(rises(measured.readings, "pressure"))
+    span = seconds * 10**6 * max(len(measured.readings) - 1, 1)
+    demand = usage / (1 - min(Fraction(waited) / span, MOST_PRESSURE))
+    periods = sum(rises(measured.readings, "periods"))
+    throttled = min(sum(rises(measured.readings, "throttled")), periods)
+    if throttled and group.quota is not None:
+        raised = limit_of(group, host) * Fraction(periods, max(periods - throttled, 1))
+        demand = max(demand, min(raised, Fraction(1000 * host.processors)))
+    return demand
+
+
+def use_of(group: Group, measured: Measured, host: Host, seconds: Fraction) -> Use | None:
+    """What was seen of a group. Its waiting does not count: it may be for others, not its limit."""
+    values = used(measured, seconds)
+    if not values:
+        return None
+    times = measured.times if measured.told else (Fraction(0), seconds * len(values))
+    periods, throttled = (sum(rises(measured.readings, key)) for key in ("periods", "throttled"))
+    part = Fraction(min(throttled, periods), periods) if periods else None
+    if not throttled:
+        return Use(tuple(values), times=times, throttled=part)
+    counted = replace(measured, readings=[each._replace(pressure=0) for each in measured.readings])
+    return Use(tuple(values), pressed(group, counted, host, seconds), times, throttled=part)
+
+
+def wanted(want: str, group: Group, measured: Measured, host: Host,
+           seconds: Fraction) -> Fraction | None:
+    """The demand by one rule, in thousandths of a CPU; None where nothing was read for it."""
+    if want == "limit":
+        return limit_of(group, host)
+    if want == "busy":
+        return Fraction(1000 * host.processors) if measured.tasks != 0 else Fraction(0)
+    if want == "request":
+        return measured.request
+    values = used(measured, seconds)
+    if not values:
+        return None
+    if want == "psi":
+        return pressed(group, measured, host, seconds)
+    return {"usage": mean(values), "peak": max(values), "p95": percentile(values, 95)}[want]
+
+
+def set_demands(model: Model, measured: dict[str, Measured], want: str, seconds: Fraction) -> None:
+    """Sets the demand of each group without children. A group that is known to request nothing, as
+    a pause container, is not meant to be busy."""
+    leaves = [path for path, below in model.children().items() if path != "." and not below]
+    idle = sum(each.tasks == 0 and each.request is None
+               for each in (measured[path] for path in leaves if path in measured))
+    if want == "busy" and idle:
+        model.notes.append(f"groups without a task, which ask for nothing: {idle} of {len(leaves)}"
+                           " (--want busy)")
+    for path in leaves:
+        group, counters = model.groups[path], measured.get(path, Measured())
+        group.request = counters.request
+        demand = wanted(want, group, counters, model.host, seconds)
+        if demand is None:
+            model.notes.append(f"{path}: nothing read for --want {want}: no demand")
+            continue
+        throttled = sum(rises(counters.readings, "throttled"))
+        if throttled and want in ("usage", "peak", "p95"):
+            periods = sum(rises(counters.readings, "periods"))
+            model.notes.append(f"{path}: throttled in {throttled} of {periods} periods: it wanted"
+                               " more than it used (--want psi)")
+        if want in OF_USE[:3] and demand > 1000 * model.host.processors:
+            model.notes.append(f"{path}: {units.decimal(demand, 0)}m used: more than the host has")
+        group.demand = demand
+        if counters.tasks:
+            needed = math.ceil(percentile(used(counters, seconds), 100) / 1000)
+            group.tasks = max(counters.tasks, needed)
+
+
+def stop(model: Model, paths: Sequence[str], why: str) -> None:
+    """Lets groups whose tasks cannot run ask for nothing, and tells it."""
+    for path in paths:
+        model.groups[path].demand = Fraction(0)
+    if paths:
+        model.notes.append(f"{why}: {names.listed(paths)}: it asks for nothing")
+
+
+def matching(model: Model, pattern: str) -> list[Group]:
+    """The groups of a path, a path's end, a title, or a pattern with `*` of these. In a pattern of
+    a path's end `*` stands for no slash. The fault where none is names some alike."""
+    shape, end = names.pattern(pattern), names.pattern_of_end(pattern)
+    ways: tuple[Callable[[Group], object], ...] = (
+        lambda each: pattern in (".", each.path, each.title) or shape.fullmatch(each.path),
+        lambda each: each.path.endswith(f"/{pattern}"),
+        lambda each: shape.fullmatch(each.title), lambda each: end.fullmatch(each.path))
+    for fits in ways:
+        groups = [each for each in model.groups.values() if fits(each)]
+        if groups:
+            return groups
+    part = pattern.strip("*/").lower()
+    like = [names.shown(path) for path, group in model.groups.items()
+            if part and part in f"{path} {group.title}".lower()]
+    there = f" (there is {names.few(like, 3)})" if like else ""
+    raise NothingFound(f"no group {names.shown(pattern)}{there}")
+
+
+def scale(model: Model, words: Sequence[str]) -> None:
+    """Multiplies demands: each word is GROUP=FACTOR, for the group and all below it."""
+    for word in words:
+        pattern, _, factor = word.rpartition("=")
+        parsed = units.number_and_unit(factor.removesuffix("x"))
+        if not pattern or parsed is None or parsed[1]:
+            raise UsageFault(f"--scale {names.shown(word)}: not GROUP=FACTOR")
+        tops = {group.path for group in matching(model, pattern)}
+        for group in model.groups.values():
+            if pattern == "." or any(group.path == top or group.path.startswith(top + "/")
+                                     for top in tops):
+                group.demand *= parsed[0]

@@ -1,0 +1,211 @@
+"""A host and its groups, in microseconds and thousandths of a CPU."""
+from __future__ import annotations
+
+from collections.abc import Sequence
+from contextlib import suppress
+from dataclasses import dataclass, field, replace
+from fractions import Fraction
+from typing import TYPE_CHECKING
+
+from arbiter import Host, Library, Refused, Row
+from arbiter_host.base import names, units
+from arbiter_host.base.faults import HostFault
+from arbiter_host.base.units import Slices
+
+if TYPE_CHECKING:
+    from arbiter_host.base.owned import Owned
+
+MAX_PROCESSORS = 64
+# Greatest capacity, in slices of one period, that the planner takes.
+MAX_CAPACITY = 64000
+MAX_GROUPS = 16384
+MAX_DEPTH = 64
+# Namespace, pod and container of a group; empty where it is of none.
+PodNames = tuple[str, str, str]
+NO_POD = ("", "", "")
+# Periods of measured use, the one with the finest slices first.
+FINE = (units.MAX_PERIOD, 500000, 200000)
+
+
+def checked(host: Host) -> Host:
+    """The host itself; a fault names the range of a number that is out of it."""
+    if not units.MIN_PERIOD <= host.period_us <= units.MAX_PERIOD:
+        raise HostFault(f"period {host.period_us}: not {units.MIN_PERIOD} to {units.MAX_PERIOD}"
+                        " microseconds", 2)
+    if not 1000 <= host.slice_us <= host.period_us or host.period_us % host.slice_us:
+        raise HostFault(f"slice {host.slice_us}: not 1000 microseconds to the period"
+                        f" {host.period_us}, which it divides", 2)
+    if not 1 <= host.processors <= MAX_CAPACITY:
+        raise HostFault(f"CPUs {host.processors}: not 1 to {MAX_CAPACITY}", 2)
+    return host
+
+
+def fine(library: Library, host: Host, sample: int = 0) -> Host:
+    """A host of as many CPUs with slices of 1 ms and a period of 1 s, or else the longest that can
+    be planned and divides a sample of so many microseconds. Use is in microseconds: a slice of 10m
+    would hide what is below it."""
+    for period in FINE:
+        with suppress(HostFault):
+            if sample % period == 0:
+                finer = Host(host.processors, period, 1000)
+                planned(library, finer)
+                return finer
+    return host
+
+
+def planned(library: Library, host: Host) -> Host:
+    """The host that the library plans in place of one of any number of CPUs, with its capacity."""
+    try:
+        return library.planned_host(host)
+    except Refused as refused:
+        raise HostFault(f"{host.processors} CPUs have {host.capacity} slices in a period, and the"
+                        f" planner takes {MAX_CAPACITY}, as 1 to {MAX_PROCESSORS} CPUs of 1 to 1000"
+                        " each: another slice has other numbers", 2) from refused
+
+
+def up_to_64_cpus(host: Host) -> Host:
+    """A host for calls whose answer depends on its period and slice, or on 64 CPUs at most."""
+    return replace(host, processors=min(host.processors, MAX_PROCESSORS))
+
+
+@dataclass(slots=True)
+class Group:
+    """One group below the root. Its quota, period and burst are microseconds.
+
+    `demand` is in thousandths of a CPU and 0 for a group with children. `tasks` bounds it: that
+    many CPUs at most are used at once. `saved` is what the group has left of earlier limits, in
+    slices. `title` is a name for people. `place` is the group's folder on its host, absolute or
+    below the top of the tree. It is `names.NOWHERE` where that is not known, and empty where the
+    path says it. `identity` is the device and inode of the folder that it was read from. `request`
+    is in thousandths of a CPU, and None where the source has none. `pod` has namespace, pod and
+    container as Kubernetes names them.
+    """
+
+    path: str
+    weight: int = units.DEFAULT_WEIGHT
+    quota: int | None = None
+    period: int = units.DEFAULT_PERIOD
+    burst: int = 0
+    demand: Fraction = Fraction(0)
+    tasks: int | None = None
+    saved: int = 0
+    title: str = ""
+    place: str = ""
+    identity: tuple[int, int] | None = None
+    request: Fraction | None = None
+    pod: PodNames = NO_POD
+
+    @property
+    def usable(self) -> Fraction:
+        """The demand that its tasks can use, in thousandths of a CPU."""
+        tasks, demand = self.tasks, self.demand
+        return demand if tasks is None else min(demand, Fraction(1000 * tasks))
+
+    @property
+    def max_words(self) -> str:
+        """Quota and period as `cpu.max` has them."""
+        return f"{'max' if self.quota is None else self.quota} {self.period}"
+
+    @property
+    def bandwidth(self) -> tuple[int | None, int, int, int]:
+        """The words of `Slices.limit`. What is saved up counts only with a burst."""
+        return self.quota, self.period, self.burst, self.saved if self.burst else 0
+
+
+@dataclass
+class Model:
+    """A host and its groups by path, each after its parent. The root has no entry."""
+
+    host: Host = field(default_factory=Host)
+    groups: dict[str, Group] = field(default_factory=dict)
+    # Parts that the source could not say or the model cannot hold, in words.
+    notes: list[str] = field(default_factory=list)
+    # Lines of a script that were refused, in words.
+    refused: list[str] = field(default_factory=list)
+    # Whether the source itself named the host.
+    names_host: bool = False
+    # Conversions that the source knows, which are those of its host.
+    slices: Slices | None = None
+    # The source as it was read, where people own settings of it.
+    owned: Owned | None = None
+
+    def add(self, group: Group) -> Group:
+        """Adds a group whose parent is there."""
+        parent = names.parent_path(group.path)
+        if parent != "." and parent not in self.groups:
+            raise HostFault(f"{names.shown(group.path)}: no group {names.shown(parent)} above it")
+        if group.path in self.groups:
+            raise HostFault(f"{names.shown(group.path)}: two groups of this path")
+        if group.path.count("/") >= MAX_DEPTH:
+            raise HostFault(f"{names.shown(group.path)}: more than {MAX_DEPTH} levels")
+        check_count(len(self.groups) + 1, "the groups")
+        self.groups[group.path] = group
+        return group
+
+    def children(self) -> dict[str, list[str]]:
+        """The paths of the children of each group and of the root, in order of creation."""
+        below: dict[str, list[str]] = {".": []}
+        for path in self.groups:
+            below[path] = []
+            below[names.parent_path(path)].append(path)
+        return below
+
+    def conversions(self, library: Library) -> Slices:
+        """Conversions for the host, those of the source if its host is the same."""
+        if self.slices is None or not self.slices.are_of(self.host):
+            self.slices = Slices(library, self.host)
+        return self.slices
+
+    def rows(self, library: Library) -> list[Row]:
+        """The rows that the planner takes, the root first."""
+        slices = self.conversions(library)
+        place, rows = {"": 0}, [Row(None, units.DEFAULT_WEIGHT, None, 0)]
+        for path, group in self.groups.items():
+            place[path] = len(rows)
+            demand = slices.demand(group.usable) if group.demand else 0
+            rows.append(Row(place[path.rpartition("/")[0]], group.weight,
+                            slices.limit(*group.bandwidth), demand))
+        return rows
+
+    def with_host(self, host: Host) -> Model:
+        """These groups on another host. Saved-up quota is kept in time, rounded down."""
+        groups = {path: replace(group, saved=group.saved * self.host.slice_us // host.slice_us)
+                  for path, group in self.groups.items()}
+        return replace(self, host=host, groups=groups)
+
+    def copy(self) -> Model:
+        """A copy of the model, whose groups can be changed."""
+        groups = {path: replace(group) for path, group in self.groups.items()}
+        return replace(self, groups=groups, notes=list(self.notes), refused=list(self.refused))
+
+
+def bound_notes(paths: Sequence[str]) -> list[str]:
+    """A warning of groups that keep to CPUs of their own, if there are any."""
+    return [f"bound to CPUs: {names.listed(paths)}: each keeps to its own CPUs, so what others"
+            " leave idle does not reach it"] if paths else []
+
+
+class TooMany(HostFault):
+    """More groups than the planner takes."""
+
+
+def check_count(many: int, what: str) -> None:
+    """A fault where so many groups below the root are more than the planner takes."""
+    if many >= MAX_GROUPS:
+        raise TooMany(f"{what}: more than {MAX_GROUPS} groups with the root")
+
+
+def check_settings(group: Group) -> None:
+    """A fault where a setting is out of the kernel's range."""
+    for what, value, least, most in (
+            ("weight", group.weight, units.MIN_WEIGHT, units.MAX_WEIGHT),
+            ("period", group.period, units.MIN_PERIOD, units.MAX_PERIOD),
+            ("burst", group.burst, 0, units.MAX_QUOTA),
+            ("quota", group.quota, units.MIN_QUOTA, units.MAX_QUOTA),
+            ("tasks", group.tasks, 0, 10**9)):
+        if value is not None and not least <= value <= most:
+            raise HostFault(f"{what} {value}: not {least} to {most}")
+    if group.quota is not None and group.burst > group.quota:
+        raise HostFault(f"burst {group.burst}: above the quota {group.quota}")
+    if group.demand.numerator < 0:
+        raise HostFault("a demand is 0 or more")

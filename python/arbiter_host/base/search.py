@@ -1,0 +1,38 @@
+"""Searches over whole numbers and over changes, whatever it is that is asked of them."""
+from __future__ import annotations
+
+from collections.abc import Callable, Sequence
+from typing import TypeVar
+
+from arbiter_host.base import progress
+
+T = TypeVar("T")
+
+
+def least(low: int, high: int, reaches: Callable[[int], bool]) -> int:
+    """The least number from `low` to `high` that reaches, by halving.
+
+    Each number above one that reaches does too. `high` is taken to, and is not tried.
+    """
+    while low < high:
+        middle = (low + high) // 2
+        low, high = (low, middle) if reaches(middle) else (middle + 1, high)
+    return high
+
+
+def least_of(parts: Sequence[tuple[int, int]], reaches: Callable[[int], bool]) -> int | None:
+    """The least number of some parts that reaches, where in each part a greater one does too."""
+    return next((least(low, high, reaches) for low, high in parts if reaches(high)), None)
+
+
+def needed(changes: Sequence[T], meets: Callable[[Sequence[T]], bool], what: str) -> list[T]:
+    """The changes of which none can be left out: each is left out where the others meet so too."""
+    kept, tried = list(changes), -1
+    while len(kept) != tried:
+        tried = len(kept)
+        with progress.bar(what, len(kept)) as step:
+            for each in list(kept):
+                rest = [other for other in kept if other != each]
+                kept = rest if meets(rest) else kept
+                step()
+    return kept

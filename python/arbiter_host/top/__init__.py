@@ -1,0 +1,1 @@
+"""A host planned again and again: live, alerts, metrics."""

@@ -1,0 +1,268 @@
+"""The figures of a round as OpenMetrics, by prometheus_client: in a file, or at a loopback port."""
+from __future__ import annotations
+
+import ipaddress
+import os
+import socket
+import socketserver
+import threading
+import time
+from collections.abc import Callable, Iterable, Iterator, Sequence
+from contextlib import closing, contextmanager, suppress
+from dataclasses import replace
+from fractions import Fraction
+from typing import Any
+from wsgiref.simple_server import WSGIRequestHandler, WSGIServer, make_server
+
+from arbiter import Host
+from prometheus_client import CollectorRegistry, make_wsgi_app
+from prometheus_client.core import GaugeMetricFamily
+from prometheus_client.openmetrics.exposition import generate_latest
+from prometheus_client.registry import Collector
+
+from arbiter_host.base.atomic_files import CHANGED, Place, collected_folder, faults, place_of
+from arbiter_host.base.faults import HostFault, UsageFault, strerror
+from arbiter_host.base.names import shown
+from arbiter_host.base.units import MAX_DEMAND
+from arbiter_host.top.top import POD_LABELS, Alert, GroupFigures
+
+# First lines of a file.
+MARK = "# HELP arbiter_"
+# Seconds in which a reader has to ask, and those in which it has to take the answer.
+SECONDS = 5
+# The key of a request's environment that has the time of its reader.
+TIME = "arbiter.time"
+# The names of the metrics of groups, the figures that they are, parts of one, and what they say.
+GROUPS = (
+    ("arbiter_plan_gets_cpus", "plan", 1000, "CPUs that the plan gives a group."),
+    ("arbiter_plan_wants_cpus", "want", 1000, "CPUs that a group wants."),
+    ("arbiter_got_cpus", "got", 1000, "CPUs that a group used."),
+    ("arbiter_off_cpus", "off", 1000, "CPUs that a group used above what the plan gives it."),
+    ("arbiter_throttled_ratio", "throttled", 1,
+     "Part of the periods in which a group was throttled, 0 to 1."),
+    ("arbiter_starved", "is_starved", 1,
+     "1 if a group wants something and the plan gives it nothing."),
+)
+OTHERS = ("arbiter_alert", "arbiter_round_timestamp_seconds")
+NAMES = (*(name for name, *_ in GROUPS), *OTHERS)
+# Keys of a group in the line of a round of a loop, and what the gauge is.
+HELD = {
+    "want": "CPUs that a group asked for in the last round; +Inf for all.",
+    "plan": "CPUs that the plan of the last round gives a group.",
+    "used": "CPUs that a group used in the last round.",
+    "limit": "CPUs of the limit of a group for the next round; +Inf for none.",
+    "unserved": "CPUs of the plan that stood which a hungry group was not given.",
+}
+# Flags of a group there, and what the gauge is.
+FLAGS = {
+    "hungry": "1 if a group would have used more in the last round.",
+    "guess": "1 if it is a guess whether a group would have used more.",
+}
+# Numbers of a round, and what the gauge is.
+ROUND = {
+    "round": ("rounds", "Rounds since the loop began."),
+    "missed": ("missed_rounds", "Rounds missed before the last one."),
+    "written": ("written_groups", "Groups that were written in the last round."),
+    "held": ("held_groups", "Groups that have another limit than their own."),
+    "served": ("served_ratio", "Part of the plan of the last round that was served, 0 to 1."),
+}
+
+
+def gauge(name: str, words: str, values: Iterable[tuple[Sequence[str], Any]],
+          labels: Sequence[str] = ("group", *POD_LABELS)) -> GaugeMetricFamily:
+    """A gauge with labels, whose values have no control character; no sample for None."""
+    family = GaugeMetricFamily(name, words, labels=labels)
+    for texts, value in values:
+        if value is not None:
+            family.add_metric([shown(each) for each in texts], float(value))
+    return family
+
+
+class Figured(Collector):
+    """The figures of the last round of `top`. They are replaced as a whole."""
+
+    def __init__(self) -> None:
+        self.last: tuple[Sequence[GroupFigures], Sequence[Alert], float] = ((), (), 0.0)
+
+    def put(self, figures: Sequence[GroupFigures], alerts: Sequence[Alert]) -> None:
+        self.last = (figures, alerts, time.time())
+
+    def collect(self) -> Iterable[GaugeMetricFamily]:
+        figures, alerts, at = self.last
+        for name, key, parts, words in GROUPS:
+            values = [((each.path, *each.pod), getattr(each, key)) for each in figures]
+            yield gauge(name, words, ((labels, None if value is None else value / parts)
+                                      for labels, value in values))
+        yield gauge(OTHERS[0], "1 for each alert that holds.",
+                    (((each.condition, each.group, *each.pod), 1) for each in alerts),
+                    ("alert", "group", *POD_LABELS))
+        if at:
+            yield GaugeMetricFamily(OTHERS[1], "When the last round was.", value=at)
+
+
+class Held(Collector):
+    """The line of a round of `hold`, on a host."""
+
+    def __init__(self, line: dict[str, Any], host: Host) -> None:
+        self.line, self.one = line, Fraction(host.slice_us, host.period_us)
+        self.at = time.time()
+
+    def collect(self) -> Iterable[GaugeMetricFamily]:
+        groups: dict[str, dict[str, Any]] = self.line["groups"]
+        for key, words in HELD.items():
+            yield gauge(f"arbiter_hold_{key}_cpus", words, (
+                ((path,), float("inf") if each[key] in (None, MAX_DEMAND) else each[key] * self.one)
+                for path, each in groups.items()), ("group",))
+        for key, words in FLAGS.items():
+            yield gauge(f"arbiter_hold_{key}", words,
+                        (((path,), each[key]) for path, each in groups.items()), ("group",))
+        for key, (name, words) in ROUND.items():
+            yield GaugeMetricFamily(f"arbiter_hold_{name}", words, value=self.line[key])
+        yield GaugeMetricFamily("arbiter_hold_round_timestamp_seconds", "When the last round was.",
+                                value=self.at)
+
+
+def text_of(collector: Collector) -> bytes:
+    """The metrics as OpenMetrics."""
+    text: bytes = generate_latest(collector)  # type: ignore[no-untyped-call]
+    return text
+
+
+class File:
+    """A file of a textfile collector that has the last round, whole or not at all. Everybody may
+    read it. It is in a folder that no other user changes, and replaces no file that is not ours."""
+
+    def __init__(self, path: str) -> None:
+        self.path = os.path.abspath(path)
+        with self.opened():
+            pass
+
+    @contextmanager
+    def opened(self) -> Iterator[Place]:
+        """Where it is written."""
+        place = place_of(self.path, collected_folder)
+        # (what a kill leaves under the one other name is replaced)
+        part = f".{place.name}.part"
+        with closing(replace(place, part=part, mode=0o644, is_synced=False)) as place:
+            with faults(self.path):
+                place.check_ours(self.path, MARK, f"has no metrics of arbiterctl{CHANGED}")
+                yield place
+
+    def put(self, collector: Collector) -> None:
+        """Puts metrics in place of the last."""
+        with self.opened() as place:
+            place.put(text_of(collector))
+
+    def remove(self) -> None:
+        with self.opened() as place, suppress(FileNotFoundError):
+            os.unlink(place.name, dir_fd=place.folder)
+
+
+class Handler(WSGIRequestHandler):
+    """Answers one request, and logs none."""
+
+    def log_message(self, format: str, *words: Any) -> None:
+        pass
+
+
+class Patience:
+    """The time that a reader has. One that takes longer is cut off."""
+
+    def __init__(self, request: socket.socket) -> None:
+        self.request, self.timer = request, threading.Timer(0, self.cut_off)
+
+    def cut_off(self) -> None:
+        """Ends what a reader sends and takes. One that is closed has ended."""
+        with suppress(OSError):
+            self.request.shutdown(socket.SHUT_RDWR)
+
+    def begin(self) -> None:
+        self.timer = threading.Timer(SECONDS, self.cut_off)
+        self.timer.daemon = True
+        self.timer.start()
+
+    def end(self) -> None:
+        self.timer.cancel()
+
+
+class Server(WSGIServer):
+    """Answers one request after another, and looks up no name."""
+
+    def server_bind(self) -> None:
+        """Binds the address as it is."""
+        socketserver.TCPServer.server_bind(self)
+        self.server_name, self.server_port = "localhost", self.server_address[1]
+        self.setup_environ()
+
+    def process_request(self, request: Any, client_address: Any) -> None:
+        """Answers one request, of a reader that has some time."""
+        time_ = self.base_environ[TIME] = Patience(request)
+        time_.begin()
+        try:
+            super().process_request(request, client_address)
+        finally:
+            time_.end()
+
+    def handle_error(self, request: Any, client_address: Any) -> None:
+        """A reader that went away is no fault of the server."""
+
+
+class Server6(Server):
+    """A server for IPv6."""
+
+    address_family = socket.AF_INET6
+
+
+def loopback(host: str) -> str:
+    """The loopback address that a name means; empty for all other names."""
+    bare = "127.0.0.1" if host == "localhost" else host.removeprefix("[").removesuffix("]")
+    try:
+        return bare if ipaddress.ip_address(bare).is_loopback else ""
+    except ValueError:
+        return ""
+
+
+def address_of(text: str) -> tuple[str, int]:
+    """A loopback address and a port, 0 to 65535. All others are refused."""
+    host, colon, port = text.rpartition(":")
+    bare = loopback(host)
+    if not (colon and bare and port.isascii() and port.isdigit() and int(port) < 65536):
+        raise UsageFault(f"--listen {shown(text)}: not a loopback address and a port, such as"
+                         " 127.0.0.1:9101")
+    return bare, int(port)
+
+
+def guarded(collector: Collector) -> Callable[..., Any]:
+    """Answers `GET /metrics` of a loopback name alone, so that no page of a browser reaches it."""
+    registry = CollectorRegistry(auto_describe=False)
+    registry.register(collector)
+    app = make_wsgi_app(registry)
+
+    def answer(environ: dict[str, Any], start: Callable[..., Any]) -> Any:
+        host = str(environ.get("HTTP_HOST", "")).lower()
+        name = host.rpartition(":")[0] if ":" in host.rpartition("]")[2] else host
+        if not loopback(name):
+            start("403 Forbidden", [("Content-Type", "text/plain")])
+            return [b"not a loopback name\n"]
+        if environ["PATH_INFO"] != "/metrics" or environ["REQUEST_METHOD"] != "GET":
+            start("404 Not Found", [("Content-Type", "text/plain")])
+            return [b"/metrics\n"]
+        # The time to make the answer is none of the reader's.
+        environ[TIME].end()
+        body = app(environ, start)
+        environ[TIME].begin()
+        return body
+
+    return answer
+
+
+def serve(text: str, collector: Collector) -> tuple[str, int]:
+    """Begins to answer at a loopback address. Returns the address and the port."""
+    address, port = address_of(text)
+    kind = Server6 if ":" in address else Server
+    try:
+        server = make_server(address, port, guarded(collector), kind, Handler)
+    except OSError as error:
+        raise HostFault(f"--listen {shown(text)}: {strerror(error)}") from error
+    threading.Thread(target=server.serve_forever, daemon=True).start()
+    return address, int(server.server_port)

@@ -1,0 +1,184 @@
+"""Goals of groups of a plan: what each is to get at least, and settings that meet all of them."""
+from __future__ import annotations
+
+from collections import Counter
+from collections.abc import Callable, Sequence
+from dataclasses import dataclass
+from fractions import Fraction
+from typing import NamedTuple
+
+from arbiter_host.base import demands, search, units
+from arbiter_host.base.faults import HostFault, UsageFault, naming
+from arbiter_host.base.model import Model
+from arbiter_host.base.names import shown
+from arbiter_host.base.plan import Plan, Planned, plan, walk
+
+NO_CHANGE = "all goals are met as it stands: nothing changes"
+# At most so many changes are left out one by one.
+MOST_LEFT = 64
+# What is said of changes of which each is needed.
+NEEDED = "; none of the changes can be left out"
+
+
+class Goal(NamedTuple):
+    """What a group is to get at least, in slices of one period."""
+
+    group: Planned
+    amount: int
+    # Thousandths of a CPU, as it was asked for.
+    asked: Fraction
+
+
+class NewSetting(NamedTuple):
+    """A setting of a group before and after, as it is written."""
+
+    path: str
+    key: str
+    now: str
+    then: str
+
+
+class Clash(NamedTuple):
+    """A group, and the goals of it and below it, which no weights that may change meet together."""
+
+    group: Planned
+    goals: tuple[Goal, ...]
+
+
+@dataclass(frozen=True)
+class Way:
+    """Settings that meet all goals, with their accepted plan."""
+
+    changes: tuple[NewSetting, ...]
+    plan: Plan
+    # What each goal's group gets then: by the plan, or guaranteed.
+    amounts: tuple[int, ...]
+    # What is known of these settings, for people.
+    told: str
+
+    @property
+    def words(self) -> list[str]:
+        """The words of `--set` that make the changes."""
+        return [f"{each.path}.{each.key}={each.then}" for each in self.changes]
+
+
+def with_weights(model: Model, weights: Sequence[int]) -> Model:
+    """The model with other weights, one for each row."""
+    after = model.copy()
+    for group, weight in zip(after.groups.values(), weights[1:], strict=True):
+        group.weight = weight
+    return after
+
+
+@dataclass(frozen=True)
+class Goals:
+    """Goals of groups of a plan, and the rows whose settings stay."""
+
+    before: Plan
+    goals: tuple[Goal, ...]
+    is_guaranteed: bool
+    kept: frozenset[int] = frozenset()
+
+    @property
+    def rows(self) -> frozenset[int]:
+        return frozenset(goal.group.row for goal in self.goals)
+
+    @property
+    def paths(self) -> frozenset[int]:
+        """The rows of goals' groups and of those above them."""
+        return frozenset(each.row for goal in self.goals
+                         for each in (goal.group, *self.before.above(goal.group)))
+
+    @property
+    def others(self) -> list[Planned]:
+        """The groups without children that have no goal, nor one above them."""
+        inside = {group.row for group in walk([goal.group for goal in self.goals])}
+        return [group for group in self.before.groups[1:]
+                if not group.children and group.row not in inside]
+
+    @property
+    def column(self) -> list[int]:
+        """The slices that each row is to get at least, 0 for none."""
+        amounts = {goal.group.row: goal.amount for goal in self.goals}
+        return [amounts.get(row, 0) for row in range(len(self.before.groups))]
+
+    @property
+    def may(self) -> list[bool]:
+        """Whether the weight of each row may change: of goals' groups, and of those above them
+        unless such weights follow from requests of containers."""
+        source = self.before.model.owned
+        has_requests = source is not None and "request" in source.keys
+        may = (self.rows if has_requests else self.paths) - self.kept
+        return [row in may for row in range(len(self.before.groups))]
+
+    @property
+    def needs(self) -> list[int]:
+        """The slices that each row has to get at least for the goals of it and below it."""
+        needs, below = self.column, [0] * len(self.before.groups)
+        for group in reversed(self.before.groups):
+            needs[group.row] = max(needs[group.row], below[group.row])
+            below[group.parent or 0] += needs[group.row]
+        return needs
+
+    def amount(self, after: Plan, row: int) -> int:
+        """What a goal of a group is measured by in a plan."""
+        return after.guaranteed(row) if self.is_guaranteed else after.groups[row].gets
+
+    def amounts(self, after: Plan) -> tuple[int, ...]:
+        return tuple(self.amount(after, goal.group.row) for goal in self.goals)
+
+    def short(self, after: Plan) -> int | None:
+        """The place of the first goal that a plan does not meet."""
+        return next((place for place, goal in enumerate(self.goals)
+                     if self.amount(after, goal.group.row) < goal.amount), None)
+
+    def are_met(self, after: Plan) -> bool:
+        return self.short(after) is None
+
+    def plan_of(self, model: Model) -> Plan:
+        return plan(self.before.engine, model)
+
+    def plan(self, weights: Sequence[int]) -> Plan:
+        return self.plan_of(with_weights(self.before.model, weights))
+
+    def needed(self, rows: Sequence[int], plan_with: Callable[[Sequence[int]], Plan],
+               what: str) -> tuple[Sequence[int], str]:
+        """The rows of which no change can be left out, and what is known of them then. Of many
+        none is tried."""
+        if len(rows) > MOST_LEFT:
+            return rows, ""
+        return search.needed(rows, lambda some: self.are_met(plan_with(some)), what), NEEDED
+
+    def way(self, after: Plan, changes: Sequence[NewSetting], told: str) -> Way:
+        """Settings whose accepted plan has to meet all goals."""
+        place = self.short(after)
+        if place is not None:
+            raise HostFault(f"{shown(self.goals[place].group.path)}: the accepted plan does not"
+                            " meet its goal")
+        return Way(tuple(changes), after, self.amounts(after), told if changes else NO_CHANGE)
+
+
+def goal_of(word: str) -> tuple[str, Fraction]:
+    """The pattern of groups and the thousandths of a CPU of a word `GROUP=AMOUNT`."""
+    pattern, equals, amount = word.rpartition("=")
+    if not (equals and pattern and amount):
+        raise UsageFault(f"--goal {shown(word)}: not GROUP=AMOUNT, such as web=1.5cpu")
+    if pattern == ".":
+        raise UsageFault(f"--goal {shown(word)}: the host has no weight: name a group")
+    with naming(f"--goal {shown(word)}", UsageFault):
+        thousandths = units.parse_cpu(amount)
+    if thousandths == 0:
+        raise UsageFault(f"--goal {shown(word)}: an amount of 0 needs nothing")
+    return pattern, thousandths
+
+
+def goals_of(before: Plan, words: Sequence[str]) -> tuple[Goal, ...]:
+    """The goals that words name, one for each group that matches, in the order of the words."""
+    slices, groups = before.model.conversions(before.engine.library), before.by_path()
+    goals = [Goal(groups[each.path], slices.demand(thousandths), thousandths)
+             for pattern, thousandths in map(goal_of, words)
+             for each in demands.matching(before.model, pattern)]
+    for path, many in Counter(goal.group.path for goal in goals).items():
+        if many > 1:
+            raise UsageFault(f"--goal: {shown(path)} has two goals: name it once")
+    return tuple(goals)

@@ -1,0 +1,162 @@
+"""Settings that people own, such as requests, with which goals are met.
+
+They are raised one after another over accepted plans. A limit that is in the way is raised with
+what weighs its group.
+"""
+from __future__ import annotations
+
+from collections.abc import Sequence
+from dataclasses import dataclass, replace
+from functools import partial
+
+from arbiter_host.base import owned, search
+from arbiter_host.base.model import Model
+from arbiter_host.base.names import shown
+from arbiter_host.base.owned import Owned, Range, Setting
+from arbiter_host.base.plan import Plan
+from arbiter_host.tune.goals import Clash, Goal, Goals, NewSetting, Way
+
+# At most so many settings are raised one by one.
+MOST_RAISES = 200
+RAISED = "one after another, each the least beside the others; not proved to be the least"
+LIFTED = "; a limit that is in the way is raised too"
+
+
+@dataclass(frozen=True)
+class Raised:
+    """Settings of a source that weigh some rows, and limits of these; and the plan with them."""
+
+    goals: Goals
+    source: Owned
+    settings: dict[int, tuple[Setting, ...]]
+
+    @property
+    def every(self) -> list[Setting]:
+        return [each for some in self.settings.values() for each in some]
+
+    @property
+    def model(self) -> Model:
+        return owned.remade(self.goals.before.model, self.source, self.every)
+
+    def plan(self) -> Plan:
+        return self.goals.plan_of(self.model)
+
+    def only(self, rows: Sequence[int]) -> Raised:
+        return replace(self, settings={row: self.settings[row] for row in rows})
+
+    def plan_with(self, rows: Sequence[int]) -> Plan:
+        return self.only(rows).plan()
+
+    def with_value(self, row: int, of: Range, value: int) -> Raised:
+        setting = Setting(self.goals.before.groups[row].path, of.key, of.written(value))
+        others = [each for each in self.settings.get(row, ()) if each.key != of.key]
+        return replace(self, settings={**self.settings, row: (*others, setting)})
+
+    def ranges(self, row: int) -> list[Range]:
+        """The values of the settings of a row, beside the others."""
+        changed = self.source.changed(self.every)
+        return changed.ranges(list(changed.plain.groups)[row - 1])
+
+    def least(self, goal: Goal, row: int, of: Range) -> int | None:
+        """The least value of a setting of a row that meets one goal."""
+        return search.least_of(of.parts, lambda each: self.goals.amount(
+            self.with_value(row, of, each).plan(), goal.group.row) >= goal.amount)
+
+    def row_of(self, goal: Goal) -> int | str:
+        """The row of the setting that a goal can be met by, or why there is none."""
+        meant, where = self.source.meant(goal.group.path), shown(goal.group.path)
+        if len(meant) != 1:
+            return f"{where} has no such setting of its own"
+        row = self.goals.before.by_path()[meant[0]].row
+        if row in self.goals.kept:
+            return f"{where} falls short, and its setting is kept"
+        return row
+
+    def raised(self, goal: Goal) -> Raised | str:
+        """The same with the least value that meets one goal, or why there is none."""
+        row = self.row_of(goal)
+        if isinstance(row, str):
+            return row
+        of = self.ranges(row)[0]
+        value = self.least(goal, row, of)
+        if value is not None:
+            return self.with_value(row, of, value)
+        return self.lifted(goal, row) or (
+            f"{shown(goal.group.path)}: no {of.key} reaches its goal ({of.most})")
+
+    def lifted(self, goal: Goal, row: int) -> Raised | None:
+        """The same with the least value that meets one goal under the greatest limit, and then the
+        least limit beside it; None where the row has no limit, or none helps."""
+        limit = self.ranges(row)[1]
+        if limit.now == "-" or not limit.parts:
+            return None
+        wide = self.with_value(row, limit, limit.parts[-1][1])
+        if self.goals.amount(wide.plan(), goal.group.row) < goal.amount:
+            of = wide.ranges(row)[0]
+            value = wide.least(goal, row, of)
+            if value is None:
+                return None
+            wide = wide.with_value(row, of, value)
+        limit = wide.ranges(row)[1]
+        most = wide.least(goal, row, limit)
+        return None if most is None else wide.with_value(row, limit, most)
+
+    def weighed(self, weights: Sequence[int]) -> Raised | None:
+        """The same with the least settings that give groups some weights at least, and no other
+        group another weight. None where a group that changes has no such setting."""
+        known = self
+        for group, weight in zip(self.goals.before.groups, weights):
+            if weight == group.weight:
+                continue
+            if not self.source.has(group.path) or "request" in self.source.keys:
+                return None
+            of = self.source.weighing(group.path)
+            value = search.least_of(of.parts, partial(known.weighs, group.row, of, weight))
+            if value is None:
+                return None
+            known = known.with_value(group.row, of, value)
+        return known
+
+    def weighs(self, row: int, of: Range, weight: int, value: int) -> bool:
+        """Whether a value of the setting of a row gives it a weight at least."""
+        after = self.with_value(row, of, value).model
+        return list(after.groups.values())[row - 1].weight >= weight
+
+    def changes(self) -> list[NewSetting]:
+        return [NewSetting(path, key, of.now, value)
+                for _, some in sorted(self.settings.items()) for path, key, value in some
+                for of in self.source.ranges(path) if of.key == key and of.now != value]
+
+
+def raised(start: Raised) -> Raised | str:
+    """Settings that are raised one after another until all goals are met."""
+    for _ in range(MOST_RAISES):
+        place = start.goals.short(start.plan())
+        if place is None:
+            return start
+        more = start.raised(start.goals.goals[place])
+        if isinstance(more, str):
+            return more
+        start = more
+    return f"goals are not met after {MOST_RAISES} raises"
+
+
+def by_settings(goals: Goals, weights: Way | Clash) -> Way | str | None:
+    """Settings that people own and that meet all goals, or why none were found; None where the
+    source has none."""
+    source = goals.before.model.owned
+    if source is None:
+        return None
+    start = Raised(goals, source, {})
+    if isinstance(weights, Way):
+        start = start.weighed(weights.plan.weights) or start
+    known = raised(start)
+    if isinstance(known, str):
+        return known
+    rows, more = goals.needed(sorted(known.settings), known.plan_with, "settings")
+    known = known.only(rows)
+    after, is_lifted = known.plan(), source.keys[1] in {each.key for each in known.every}
+    told = RAISED + more + (LIFTED if is_lifted else "")
+    if isinstance(weights, Way) and after.weights == weights.plan.weights and not is_lifted:
+        told = weights.told
+    return goals.way(after, known.changes(), told)

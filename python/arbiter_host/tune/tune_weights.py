@@ -1,0 +1,67 @@
+"""Weights of goals' groups and of groups above them under which goals are met.
+
+The C library answers them, by a call whose contract is exact: they are the least from the root
+down, and there is one answer. Where weights allow it, each other group keeps half of what it has.
+"""
+from __future__ import annotations
+
+from collections.abc import Mapping
+from dataclasses import replace
+
+from arbiter_host.base import units
+from arbiter_host.base.plan import asking, walk
+from arbiter_host.tune.goals import Clash, Goals, NewSetting, Way
+
+MEET = "proved: from the root down the least weights that meet the goals"
+LEAST, LOWER = f"{MEET}; none is lowered", f"{MEET}; none that lower no weight do"
+HALF = "leave each other group half of what it gets"
+
+
+def own_weights(goals: Goals, keeps: Mapping[int, int] = {}) -> list[int] | Clash:
+    """The weight of each row where all goals are met, or goals that no weights meet together. Some
+    rows keep slices, as by goals of their own."""
+    before = goals.before
+    column = [max(amount, keeps.get(row, 0)) for row, amount in enumerate(goals.column)]
+    with asking("tune"):
+        answer = before.engine.library.tune(before.planned_host, before.columns, column, goals.may,
+                                            goals.is_guaranteed)
+    if isinstance(answer, list):
+        return answer
+    group = before.groups[answer]
+    inside = {each.row for each in walk([group])}
+    return Clash(group, tuple(goal for goal in goals.goals if goal.group.row in inside))
+
+
+def halves(goals: Goals) -> dict[int, int]:
+    """Half of what each other group gets, rounded up: by the plan, or whatever the others ask for.
+
+    The others' greatest demands leave a group the least. So one plan tells all guarantees.
+    """
+    before = goals.before
+    amounts = before.answer.amounts
+    if goals.is_guaranteed:
+        busy = before.engine.plan(before.planned_host, before.columns.asking([
+            0 if group.children else units.MAX_DEMAND for group in before.groups]))
+        amounts = [min(each) for each in zip(busy.amounts, before.answer.figures.mosts)]
+    return {group.row: (amounts[group.row] + 1) // 2 for group in goals.others}
+
+
+def by_weights(goals: Goals, keeps: Mapping[int, int] = {}) -> Way | Clash:
+    """The same as settings with their accepted plan."""
+    answer = own_weights(goals, keeps)
+    if isinstance(answer, Clash):
+        return answer
+    changes = [NewSetting(group.path, "weight", str(group.weight), str(weight))
+               for group, weight in zip(goals.before.groups, answer) if weight != group.weight]
+    is_lower = any(then < now for now, then in zip(goals.before.weights, answer))
+    return goals.way(goals.plan(answer), changes, LOWER if is_lower else LEAST)
+
+
+def best_weights(goals: Goals) -> Way | Clash:
+    """The same where each other group keeps half of what it gets, or else where weights do not
+    allow that."""
+    half = by_weights(goals, halves(goals))
+    if isinstance(half, Way):
+        return replace(half, told=half.told.replace(MEET, f"{MEET} and {HALF}"))
+    way = by_weights(goals)
+    return replace(way, told=f"{way.told}; none {HALF}") if isinstance(way, Way) else way
