@@ -9,29 +9,29 @@ pages=(share/man/*.1) pages_place=share/man/man1
 # The checker that is proved in Coq. It is installed where Coq was there to make it.
 checker=out/independent/arbiter-check
 
-# Makes the checker, if Coq and the source are there. Otherwise it names what is missing.
+# Makes the checker, if Coq and the source are there. Otherwise it names what is missing, and removes
+# a checker that may be of other sources.
 make_checker() {
   [ -x independent/build ] || return 0
   if ! command -v coqc >/dev/null || ! ocamlfind query zarith >/dev/null 2>&1; then
+    rm -f -- "$checker"
     echo "build: no arbiter-check without Coq: apt-get install $coq_packages" >&2
     return 0
   fi
   independent/build "${checker%/*}" >&2
 }
 
-# The scheduler of `hold --by scheduler`, where clang, bpftool and libbpf were there to make it.
+# The scheduler of `hold --by scheduler`. It is installed where what makes it was there.
 scheduler=out/scheduler/arbiter-scheduler
-libbpf=/usr/include/bpf/libbpf_version.h
-scheduler_packages='clang bpftool libbpf-dev libelf-dev zlib1g-dev make gcc'
 
-# Makes the scheduler, if what compiles it is there. Otherwise it names what is missing.
+# Makes the scheduler, if what compiles it is there and new enough. Otherwise it says what lacks, and
+# removes a scheduler that may be of other sources.
 make_scheduler() {
+  local lacks
   [ -f scheduler/Makefile ] || return 0
-  # (Debian has bpftool in a folder of root's PATH, and 1.4 in backports)
-  local PATH=$PATH:/usr/sbin tool missing='' older='MINOR_VERSION [0-3]$'
-  for tool in clang bpftool make gcc; do command -v "$tool" >/dev/null || missing=yes; done
-  if [ -n "$missing" ] || [ ! -e "$libbpf" ] || grep -q "$older" "$libbpf"; then
-    echo "build: no arbiter-scheduler without libbpf 1.4: apt-get install $scheduler_packages" >&2
+  if ! lacks=$(scheduler/needs); then
+    rm -f -- "$scheduler"
+    echo "build: no arbiter-scheduler: $lacks" >&2
     return 0
   fi
   make -C scheduler OUT="$PWD/${scheduler%/*}" >&2

@@ -182,6 +182,13 @@ def each(function, items) -> list:
         return list(pool.map(function, items, chunksize=size))
 
 
+def scheduler_lacks() -> str:
+    """What the making of scheduler/ lacks here, in one line; empty where it lacks nothing."""
+    ended = run([ROOT / "scheduler/needs"])
+    same(ended.status in (0, 1) and not ended.err, True, f"scheduler/needs: {ended}")
+    return ended.out.decode().strip()
+
+
 # Refused calls
 
 

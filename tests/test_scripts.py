@@ -886,7 +886,8 @@ def test_shellcheck():
     if not shutil.which("shellcheck"):
         pytest.skip("no shellcheck")
     scripts = [ROOT / name for name in ("arbiter", "build", "test")]
-    ended = run(["shellcheck", "-x", *scripts, *sorted((ROOT / "scripts").glob("*.sh"))], cwd=ROOT)
+    scripts += [ROOT / "scheduler/needs", *sorted((ROOT / "scripts").glob("*.sh"))]
+    ended = run(["shellcheck", "-x", *scripts], cwd=ROOT)
     same((ended.status, ended.out, ended.err), (0, b"", b""), "shellcheck")
 
 

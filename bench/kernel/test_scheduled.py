@@ -6,7 +6,6 @@ It needs the newest kernel of Debian's backports, which is used where it was unp
 """
 import json
 import os
-import shutil
 from pathlib import Path
 
 import pytest
@@ -18,6 +17,7 @@ from kernel.planned import use
 from laboratory import (compare, endured, held, held_page, outside, readings, scheduled_page,
                         traced)
 from laboratory.__main__ import SCENARIOS
+from support import scheduler_lacks
 
 SPAN = layout.Span(seconds=3, settle=1, has_grid=False)
 NAMES = ("two-three", "two-pinned")
@@ -34,8 +34,7 @@ WATCHDOG = 20
 @pytest.fixture(scope="module", name="newest")
 def newest_kernel():
     """The newest kernel; a skip where it or a tool is missing."""
-    lacks = packages.missing() or ", ".join(
-        name for name in ("clang", "bpftool", "make") if not shutil.which(name))
+    lacks = packages.missing() or scheduler_lacks()
     if lacks:
         pytest.skip(lacks)
     there = list(packages.cache_folder().glob(f"linux-image-{packages.NEWEST}.*"))
