@@ -1,18 +1,32 @@
 /* The scheduler's rule and queues (rule.h, queues.h of scheduler/), compiled for this machine,
    over a model of CPUs with ticks and of tasks that work, sleep and wake.
 
-       simulated SEED MS CPUS GROUP..
+       simulated [-q] [-p MS] [-j PERCENT] [-o US] SEED MS CPUS GROUP..
 
-   A GROUP is `KIND,AMOUNT,LIMIT_US,TASKS,ON_US,OFF_US,PHASE_US,CPU`, and the next row. Its tasks
-   always want (`a`), work for ON_US of a CPU and sleep for OFF_US (`w`), or want for ON_US of each
-   ON_US and OFF_US from PHASE_US on (`t`). They keep to a CPU, or to none if it is -1. The limit is
-   in 100 ms, 0 for none. Prints the steps as `arbiter-scheduler --trace` does, and `used ROW NS` of
-   each.  */
+   A GROUP is `KIND,AMOUNT,LIMIT_US,TASKS,ON_US,OFF_US,PHASE_US,CPU` and words behind colons: the
+   next row. Its tasks always want (`a`), work for ON_US of a CPU and sleep for OFF_US (`w`), do so
+   as a new task each time (`f`), or want for ON_US of each ON_US and OFF_US from PHASE_US on (`t`).
+   They keep to a CPU, to the CPUs of a mask (`mHEX`), or to none if it is -1. The limit is in 100
+   ms, 0 for none. Words are `g=` the guarantee in thousandths of a CPU, `nice=`, and `in=`: the
+   group with a limit that it is in. Such a one is `l,LIMIT_US,IN`, the first of them number 1.
+   A GROUP that begins with `+` has more tasks of the row before.
+
+   -q tells no steps; -p gives a plan each MS, of amounts that are up to -j PERCENT off; -o holds the
+   end of each slice up by up to US, as work of the kernel does.
+
+   Prints the steps as `arbiter-scheduler --trace` does. Then of each row `used ROW NS`, `lacks ROW
+   NS`: the most that a window lacked of the guarantee, or of a CPU for each task that wants;
+   `over ROW NS`: the most that a window was over the limit; `delay ROW MEDIAN_NS NS`: how long who
+   woke waited, and 99 of 100. `inside GROUP NS NS` has the use and the excess of a group with a
+   limit, `task ROW AT NS` the use of a task. `stalled ROW NS` is the end by the kernel's watchdog.
+ */
+#define _GNU_SOURCE
 #include <stdbool.h>
 #include <stdint.h>
 #include <stdio.h>
 #include <stdlib.h>
 #include <string.h>
+#include <unistd.h>
 
 /* What kernel.h has for programs of BPF.  */
 #define ARBITER_KERNEL_H
@@ -36,7 +50,13 @@ struct bpf_spin_lock { int is_held; };
 /* A tick of 250 a second, and how long an interrupt takes to reach a CPU.  */
 #define TICK (4 * MILLI)
 #define SIGNAL (2 * MICRO)
-#define MOST 64
+/* After so long in the queue of a scheduler the kernel ends it.  */
+#define WATCHDOG (TIMEOUT_MS * MILLI)
+#define MOST_JOBS 30000
+#define MOST_CORES 64
+#define MOST_ROWS 1024
+#define MOST_GROUPS 256
+#define MOST_DELAYS 100000
 #define NONE UINT64_MAX
 
 enum way { ASLEEP, READY, ON_CPU };
@@ -45,10 +65,13 @@ struct job {
     u32 number, row, cpu;
     char kind;
     bool is_bound;
+    int nice;
     enum way way;
-    u64 on, off, phase;
+    u64 mask, on, off, phase;
     /* Its processor time, what it still works for, and when it wakes.  */
     u64 runtime, left, wakes_at;
+    /* When it woke, if it has not run since then, and when it came into its queue.  */
+    u64 woke, ready;
 };
 
 struct core {
@@ -57,10 +80,29 @@ struct core {
     u64 since, tick, kick;
 };
 
-static struct job jobs[MOST];
-static struct core cores[MOST];
-static u32 job_count, core_count, row_count = 1;
-static u64 now, seed;
+/* The greatest rise of a number from any time to a later one.  */
+struct window {
+    double now, least, most;
+};
+
+/* A row, or a group with a limit, as it was asked for, and what was seen of it.  */
+struct seen {
+    u64 amount, limit, used;
+    /* The group that it is in; 0 for none.  */
+    u32 in;
+    s32 wants;
+    double guarantee;
+    struct window lacks, over;
+    u32 delay_count, delays[MOST_DELAYS];
+};
+
+static struct job jobs[MOST_JOBS];
+static struct core cores[MOST_CORES];
+static struct seen rows_seen[MOST_ROWS], groups_seen[MOST_GROUPS];
+static u32 job_count, core_count, row_count = 1, group_count = 1;
+static u64 now, counted, seed, first_wake = NONE;
+/* The options -p, -j, -o.  */
+static u64 plan_every = NONE, jitter, overrun;
 
 static u64 chance(u64 below) {
     seed = seed * 6364136223846793005ULL + 1442695040888963407ULL;
@@ -69,7 +111,7 @@ static u64 chance(u64 below) {
 
 /* Prints the steps that were noted, as the loader does.  */
 static void tell_steps(struct on_cpu *here) {
-    for (u32 at = 0; at < here->steps; at++) {
+    for (u32 at = 0; has_trace && at < here->steps; at++) {
         struct event *each = &here->noted[at];
         unsigned long long used = each->used_ns;
         if (each->kind == EVENT_WAKE)
@@ -97,8 +139,13 @@ static void enqueue(struct job *job, u32 cpu, bool wakes) {
     struct on_cpu *here = on_cpu(cpu);
     u32 own, other = MOST_CPUS;
 
+    job->ready = now;
     arrive(here, job->number, job->row, job->runtime, now);
-    push(here, job->number, job->is_bound ? CPU_QUEUES + job->cpu : job->row, now);
+    push(here, job->number,
+         job->mask       ? SOME_QUEUE
+         : job->is_bound ? CPU_QUEUES + job->cpu
+                         : job->row,
+         now);
     play(job->row);
     own = idle_for(job->number, job->cpu);
     if (own == MOST_CPUS && wakes)
@@ -112,12 +159,22 @@ static void enqueue(struct job *job, u32 cpu, bool wakes) {
     }
 }
 
+/* Notes how long a task waited that woke.  */
+static void note_delay(struct job *job) {
+    struct seen *row = &rows_seen[job->row];
+
+    if (job->woke && row->delay_count < MOST_DELAYS)
+        row->delays[row->delay_count++] = now - job->woke;
+    job->woke = 0;
+}
+
 /* As plan_dispatch, and what the kernel does then.  */
 static void dispatch(u32 cpu, bool goes) {
     struct core *core = &cores[cpu];
     struct job *last = core->job;
     struct on_cpu *on = on_cpu(cpu);
     u32 before = goes ? last->number : 0, found = choose(cpu, now);
+    s64 slice = SLICE_NS;
 
     if (before && goes_on(before, found, last->runtime, now)) {
         arrive(on, before, last->row, last->runtime, now);
@@ -134,9 +191,10 @@ static void dispatch(u32 cpu, bool goes) {
     }
     if (found) {
         core->job = &jobs[found - 1];
+        note_delay(core->job);
         core->job->way = ON_CPU;
         core->job->cpu = cpu;
-        core->slice = SLICE_NS;
+        core->slice = slice;
         core->since = now;
     }
 }
@@ -154,21 +212,61 @@ static u64 ends_at(struct core *core) {
 
     if (!job || job->kind == 'a')
         return NONE;
-    if (job->kind == 'w')
+    if (job->kind != 't')
         return core->since + job->left;
     place = place_in_turn(job);
     return place < job->on ? now + job->on - place : now;
 }
 
+static void rise(struct window *window, double by) {
+    window->now += by;
+    if (window->now < window->least)
+        window->least = window->now;
+    if (window->now - window->least > window->most)
+        window->most = window->now - window->least;
+}
+
+/* What a row was owed of its guarantee, or was allowed by its limit, in the time that passed. */
+static void count_windows(double passed) {
+    for (u32 row = 1; row < row_count; row++) {
+        struct seen *each = &rows_seen[row];
+        double rate = each->wants < each->guarantee ? each->wants : each->guarantee;
+        rise(&each->lacks, rate * passed);
+        if (each->limit)
+            rise(&each->over, -passed * each->limit / LIMIT_PERIOD_NS);
+    }
+    for (u32 group = 1; group < group_count; group++)
+        rise(&groups_seen[group].over, -passed * groups_seen[group].limit / LIMIT_PERIOD_NS);
+}
+
+/* Counts what a task used.  */
+static void count_use(struct job *job, u64 passed) {
+    struct seen *row = &rows_seen[job->row];
+
+    job->runtime += passed;
+    job->left -= passed < job->left ? passed : job->left;
+    row->used += passed;
+    row->lacks.now -= passed;
+    row->over.now += passed;
+    for (u32 group = row->in; group; group = groups_seen[group].in) {
+        groups_seen[group].used += passed;
+        groups_seen[group].over.now += passed;
+    }
+}
+
 /* Counts the time since the last event.  */
-static void count(struct core *core) {
-    u64 passed = now - core->since;
-    core->since = now;
-    if (!core->job)
-        return;
-    core->job->runtime += passed;
-    core->slice -= passed;
-    core->job->left -= passed < core->job->left ? passed : core->job->left;
+static void count(void) {
+    for (u32 cpu = 0; cpu < core_count; cpu++) {
+        struct core *core = &cores[cpu];
+        u64 passed = now - core->since;
+        core->since = now;
+        if (!core->job)
+            continue;
+        core->slice -= passed;
+        count_use(core->job, passed);
+    }
+    count_windows(now - counted);
+    counted = now;
 }
 
 /* A task has no more work: it sleeps.  */
@@ -176,19 +274,24 @@ static void end_work(u32 cpu) {
     struct job *job = cores[cpu].job;
     u64 both = job->on + job->off;
 
-    job->wakes_at = job->kind == 'w' ? now + job->off : now + both - place_in_turn(job);
+    job->wakes_at = job->kind != 't' ? now + job->off : now + both - place_in_turn(job);
     job->wakes_at += chance(20) * MICRO;
+    if (job->wakes_at < first_wake)
+        first_wake = job->wakes_at;
     job->way = ASLEEP;
+    rows_seen[job->row].wants--;
     leave(on_cpu(cpu), job->number, job->runtime, now);
     tell_steps(on_cpu(cpu));
     dispatch(cpu, false);
 }
 
-/* As begin_period: each 100 ms leaves that were stopped may run again.  */
+/* As on_beat: each 100 ms leaves that were stopped may run again.  */
 static void begin_period(void) {
     for (u32 row = 0; row < row_count; row++) {
         struct leaf *leaf = leaf_of(row);
         bool was_stopped = leaf->is_stopped;
+        if (leaf->ready > 0 && is_late(queue_at(row)->first, now))
+            late_row = row;
         if (!leaf->limit_ns)
             continue;
         leaf->spent_ns -= leaf->spent_ns < leaf->limit_ns ? leaf->spent_ns : leaf->limit_ns;
@@ -203,47 +306,96 @@ static void begin_period(void) {
             kick(cpu);
 }
 
+/* The kernel ends a scheduler whose task waits for too long.  */
+static bool is_stalled(void) {
+    for (u32 at = 0; at < job_count; at++) {
+        if (jobs[at].way != READY || now <= jobs[at].ready + WATCHDOG)
+            continue;
+        printf("stalled %u %llu\n", jobs[at].row, (unsigned long long)now);
+        return true;
+    }
+    return false;
+}
+
+/* As `take_plan`: each row's amount, up to `jitter` hundredths off.  */
+static void give_plan(void) {
+    for (u32 row = 1; row < row_count; row++) {
+        u64 amount = rows_seen[row].amount * (100 - jitter + chance(2 * jitter + 1)) / 100;
+        leaf_of(row)->amount = amount ? amount : 1;
+    }
+    start_clocks(row_count);
+}
+
 static u64 next_event(u64 beat) {
-    u64 next = beat;
+    u64 next = beat < first_wake ? beat : first_wake;
     for (u32 cpu = 0; cpu < core_count; cpu++) {
         struct core *core = &cores[cpu];
         u64 ends = ends_at(core), first = core->tick < core->kick ? core->tick : core->kick;
         first = ends < first ? ends : first;
         next = first < next ? first : next;
     }
-    for (u32 at = 0; at < job_count; at++)
-        if (jobs[at].way == ASLEEP && jobs[at].wakes_at < next)
-            next = jobs[at].wakes_at;
     return next > now ? next : now;
 }
 
 static void wake_jobs(void) {
+    if (first_wake > now)
+        return;
+    first_wake = NONE;
     for (u32 at = 0; at < job_count; at++) {
         struct job *job = &jobs[at];
-        if (job->way != ASLEEP || job->wakes_at > now)
+        if (job->way != ASLEEP)
             continue;
+        if (job->wakes_at > now) {
+            first_wake = job->wakes_at < first_wake ? job->wakes_at : first_wake;
+            continue;
+        }
         job->way = READY;
+        job->woke = now;
         job->left = job->on;
+        rows_seen[job->row].wants++;
         enqueue(job, job->cpu, true);
     }
 }
 
 static void ticks(void) {
     for (u32 cpu = 0; cpu < core_count; cpu++) {
-        if (cores[cpu].tick > now)
+        struct core *core = &cores[cpu];
+        if (core->tick > now)
             continue;
-        cores[cpu].tick += TICK;
-        if (cores[cpu].job && cores[cpu].slice <= 0)
+        core->tick += TICK;
+        if (!core->job || core->slice > 0)
+            continue;
+        if (overrun && core->kick == NONE)
+            core->kick = now + chance(overrun) + SIGNAL;
+        else
             kick(cpu);
     }
 }
 
+/* The CPUs whose task has ended, or that look for another.  */
+static void run_cores(void) {
+    for (u32 cpu = 0; cpu < core_count; cpu++) {
+        struct core *core = &cores[cpu];
+        if (ends_at(core) <= now)
+            end_work(cpu);
+        if (core->kick > now)
+            continue;
+        core->kick = NONE;
+        if (!core->job || core->slice <= 0)
+            dispatch(cpu, core->job != NULL);
+    }
+}
+
+/* Returns when the time is over, or the kernel's watchdog has ended the scheduler.  */
 static void simulate(u64 until) {
-    u64 beat = now + LIMIT_PERIOD_NS;
-    while ((now = next_event(beat)) < until) {
+    u64 beat = now + LIMIT_PERIOD_NS, plan = plan_every;
+    while ((now = next_event(beat < plan ? beat : plan)) < until) {
         bool is_tick_first = chance(2);
-        for (u32 cpu = 0; cpu < core_count; cpu++)
-            count(&cores[cpu]);
+        count();
+        if (now >= plan) {
+            give_plan();
+            plan += plan_every;
+        }
         if (is_tick_first)
             ticks();
         wake_jobs();
@@ -252,72 +404,171 @@ static void simulate(u64 until) {
         if (beat <= now) {
             begin_period();
             beat += LIMIT_PERIOD_NS;
+            if (is_stalled())
+                return;
         }
-        for (u32 cpu = 0; cpu < core_count; cpu++) {
-            struct core *core = &cores[cpu];
-            if (ends_at(core) <= now)
-                end_work(cpu);
-            if (core->kick > now)
-                continue;
-            core->kick = NONE;
-            if (!core->job || core->slice <= 0)
-                dispatch(cpu, core->job != NULL);
-        }
+        run_cores();
     }
-    for (u32 cpu = 0; cpu < core_count; cpu++)
-        count(&cores[cpu]);
+    now = until;
+    count();
 }
 
-static int add_group(const char *text) {
-    unsigned long long amount, limit, tasks, on, off, phase;
-    int cpu;
-    char kind;
-
-    if (sscanf(text, "%c,%llu,%llu,%llu,%llu,%llu,%llu,%d", &kind, &amount, &limit, &tasks, &on,
-               &off, &phase, &cpu) != 8 || job_count + tasks > MOST)
-        return 0;
-    leaf_of(row_count)->amount = amount;
-    leaf_of(row_count)->limit_ns = limit * MICRO;
-    for (; tasks; tasks--) {
-        struct job *job = &jobs[job_count++];
-        *job = (struct job){ .number = job_count, .row = row_count, .kind = kind,
-                             .is_bound = cpu >= 0, .cpu = cpu >= 0 ? (u32)cpu : chance(core_count),
-                             .on = on * MICRO, .off = off * MICRO, .phase = phase * MICRO };
-        job->wakes_at = now + (kind == 't' ? phase : chance(200)) * MICRO;
+/* The words behind the colons of a group.  */
+static bool read_words(char *words, struct seen *row, int *nice) {
+    for (char *word; (word = strsep(&words, ":"));) {
+        char *value = strchr(word, '=');
+        if (!value)
+            return false;
+        *value++ = 0;
+        if (strcmp(word, "g") == 0)
+            row->guarantee = strtod(value, NULL) / 1000;
+        else if (strcmp(word, "in") == 0)
+            row->in = atoi(value);
+        else if (strcmp(word, "nice") == 0)
+            *nice = atoi(value);
+        else
+            return false;
     }
-    row_count++;
-    return 1;
+    return true;
+}
+
+static bool add_limited(const char *text) {
+    unsigned long long limit;
+    u32 in;
+
+    if (sscanf(text, "l,%llu,%u", &limit, &in) != 2 || group_count == MOST_GROUPS)
+        return false;
+    groups_seen[group_count].limit = limit * MICRO;
+    groups_seen[group_count++].in = in;
+    return true;
+}
+
+static void add_jobs(struct job model, u64 count_of_jobs) {
+    for (; count_of_jobs; count_of_jobs--) {
+        struct job *job = &jobs[job_count++];
+        *job = model;
+        job->number = job_count;
+        if (!job->is_bound)
+            job->cpu = chance(core_count);
+        job->wakes_at = model.kind == 't' || model.phase ? model.phase : chance(200) * MICRO;
+        if (job->wakes_at < first_wake)
+            first_wake = job->wakes_at;
+        masks[job->number].words[0] = job->mask;
+    }
+}
+
+static bool add_group(char *text) {
+    unsigned long long amount, limit, tasks, on, off, phase;
+    char kind, *colon = strchr(text, ':'), cpu[32];
+    bool is_more = *text == '+';
+    u32 row = row_count - is_more;
+    struct job model = { .row = row };
+
+    if (*text == 'l')
+        return add_limited(text);
+    if (colon)
+        *colon++ = 0;
+    if (sscanf(text + is_more, "%c,%llu,%llu,%llu,%llu,%llu,%llu,%31s", &kind, &amount, &limit,
+               &tasks, &on, &off, &phase, cpu) != 8
+        || job_count + tasks > MOST_JOBS || row == MOST_ROWS)
+        return false;
+    if (!is_more)
+        rows_seen[row] = (struct seen){ .amount = amount, .limit = limit * MICRO };
+    if (colon && !read_words(colon, &rows_seen[row], &model.nice))
+        return false;
+    model.kind = kind;
+    model.mask = *cpu == 'm' ? strtoull(cpu + 1, NULL, 16) : 0;
+    model.is_bound = !model.mask && atoi(cpu) >= 0;
+    model.cpu = model.is_bound ? atoi(cpu) : 0;
+    model.on = on * MICRO;
+    model.off = off * MICRO;
+    model.phase = phase * MICRO;
+    add_jobs(model, tasks);
+    row_count += !is_more;
+    return true;
+}
+
+static int by_length(const void *one, const void *other) {
+    u32 a = *(const u32 *)one, b = *(const u32 *)other;
+    return (a > b) - (a < b);
+}
+
+/* Nanoseconds, but none below 0.  */
+static unsigned long long whole(double ns) {
+    return ns > 0 ? (unsigned long long)ns : 0;
+}
+
+static void tell_found(void) {
+    for (u32 row = 0; row < row_count; row++) {
+        struct seen *each = &rows_seen[row];
+        u32 delays = each->delay_count;
+        printf("used %u %llu\n", row, (unsigned long long)each->used);
+        if (each->guarantee > 0)
+            printf("lacks %u %llu\n", row, whole(each->lacks.most));
+        if (each->limit)
+            printf("over %u %llu\n", row, whole(each->over.most));
+        qsort(each->delays, delays, sizeof *each->delays, by_length);
+        if (delays)
+            printf("delay %u %u %u\n", row, each->delays[delays / 2],
+                   each->delays[(u64)delays * 99 / 100]);
+    }
+    for (u32 group = 1; group < group_count; group++)
+        printf("inside %u %llu %llu\n", group, (unsigned long long)groups_seen[group].used,
+               whole(groups_seen[group].over.most));
+    for (u32 at = 0; at < job_count && job_count <= 64; at++)
+        printf("task %u %u %llu\n", jobs[at].row, at, (unsigned long long)jobs[at].runtime);
+}
+
+/* Sets the options. Returns the first word after them; 0 if one is unknown.  */
+static int set_options(int count_of_words, char **words) {
+    has_trace = true;
+    for (int option; (option = getopt(count_of_words, words, "+qp:j:o:")) >= 0;) {
+        if (option == 'q')
+            has_trace = false;
+        else if (option == 'p')
+            plan_every = strtoull(optarg, NULL, 10) * MILLI;
+        else if (option == 'j')
+            jitter = strtoull(optarg, NULL, 10);
+        else if (option == 'o')
+            overrun = strtoull(optarg, NULL, 10) * MICRO;
+        else
+            return 0;
+    }
+    return optind;
 }
 
 int main(int count_of_words, char **words) {
-    u64 length = count_of_words > 4 ? strtoull(words[2], NULL, 10) * MILLI : 0;
+    int first = set_options(count_of_words, words);
+    u64 length, off = jitter;
 
-    core_count = length ? atoi(words[3]) : 0;
-    if (core_count == 0 || core_count > MOST)
+    if (!first || count_of_words < first + 4)
         return 2;
-    seed = strtoull(words[1], NULL, 10);
+    seed = strtoull(words[first], NULL, 10);
+    length = strtoull(words[first + 1], NULL, 10) * MILLI;
+    core_count = atoi(words[first + 2]);
+    if (length == 0 || core_count == 0 || core_count > MOST_CORES)
+        return 2;
     for (u32 node = 0; node < 2 * MOST_LEAVES; node++)
         winners[node] = NOBODY;
-    has_trace = true;
     cpus_there = cpus_online = core_count;
     leaf_of(0)->amount = 1;
-    for (int at = 4; at < count_of_words; at++)
+    for (int at = first + 3; at < count_of_words; at++)
         if (!add_group(words[at]))
             return 2;
     for (u32 cpu = 0; cpu < core_count; cpu++) {
         cores[cpu] = (struct core){ .tick = TICK + cpu * MICRO, .kick = NONE };
         set_idle(on_cpu(cpu), true);
     }
-    start_clocks(row_count);
-    printf("processors %u\nslice %llu\n", 2 * core_count, SLICE_NS);
-    for (u32 row = 0; row < row_count; row++)
+    for (u32 row = 1; row < row_count; row++)
+        leaf_of(row)->limit_ns = rows_seen[row].limit;
+    jitter = 0;
+    give_plan();
+    jitter = off;
+    if (has_trace)
+        printf("processors %u\nslice %llu\n", 2 * core_count, SLICE_NS);
+    for (u32 row = 0; has_trace && row < row_count; row++)
         printf("leaf %u %llu\n", row, (unsigned long long)leaf_of(row)->amount);
     simulate(length);
-    for (u32 row = 0; row < row_count; row++) {
-        u64 used = 0;
-        for (u32 at = 0; at < job_count; at++)
-            used += jobs[at].row == row ? jobs[at].runtime : 0;
-        printf("used %u %llu\n", row, (unsigned long long)used);
-    }
+    tell_found();
     return 0;
 }
