@@ -27,7 +27,7 @@ from arbiter_host.base import safe_files  # noqa: E402
 from arbiter_host.base.plan import Engine  # noqa: E402
 from arbiter_host.hold import hold  # noqa: E402
 from arbiter_host.setting import record  # noqa: E402
-from arbiter_host.sources import hunger  # noqa: E402
+from arbiter_host.sources import task_times  # noqa: E402
 
 GROUPS = [500, 4096, 16383]
 HOST = Host(64, 1000000, 1000)
@@ -80,7 +80,7 @@ def main() -> None:
     engine = Engine(Library(sys.argv[1]))
     numbers = [int(word) for word in sys.argv[2:]] or GROUPS
     folder = tempfile.mkdtemp(dir="/dev/shm")
-    hunger.PROC = f"{folder}/none"
+    task_times.PROC = f"{folder}/none"
     try:
         print("groups", "first", *PARTS, sep="\t")
         for groups in numbers:

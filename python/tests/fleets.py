@@ -53,7 +53,7 @@ def of(path, **words):
 
 def asked(path, calls, action="explain", workers=0, **words):
     """The answers of the hosts of a path by name, and the hosts that have none."""
-    options = SimpleNamespace(library=calls.path, workers=workers, scheduler=None, verbose=False)
+    options = SimpleNamespace(library=calls.path, workers=workers, dask=None, verbose=False)
     job = Job(action, dict(READING), library=calls.path, **words)
     found, missing = questions.asked(options, job, of(path))
     return {host.name: host.answer for host in found}, dict(missing)

@@ -13,7 +13,7 @@ from arbiter import Host
 from arbiter_host.base import safe_files
 from arbiter_host.hold import hold
 from arbiter_host.setting import record
-from arbiter_host.sources import hunger, looks
+from arbiter_host.sources import task_times, readings
 from places import PACKAGE
 
 TWO = Host(2, 100000, 1000)
@@ -35,7 +35,7 @@ class World:
         self.lacks = lacks
         self.counters = {}
         # (the tasks of these groups are none of this machine)
-        hunger.PROC = str(folder / "proc")
+        task_times.PROC = str(folder / "proc")
         trees.root2(self.tree)
         for path, weight, maximum in groups:
             self.add(path, weight, maximum)
@@ -91,7 +91,7 @@ class World:
         return hold.Loop(engine, safe_files.Root(str(self.tree)), str(self.tree), TWO, kept,
                          clock=lambda: self.now, **words)
 
-    def run(self, loop, *steps, times=looks.Times(number=None)):
+    def run(self, loop, *steps, times=readings.Times(number=None)):
         """Rounds, a step before each. Returns the lines and what stood at each line."""
         self.after, lines = list(steps), []
 

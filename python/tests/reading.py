@@ -2,7 +2,7 @@
 from fractions import Fraction
 
 from arbiter_host.sources import containers, hostfile, kubernetes, script, slurm, systemd
-from arbiter_host.sources.wish import Wish
+from arbiter_host.sources.source_options import SourceOptions
 
 
 class Planner:
@@ -17,8 +17,8 @@ class Planner:
 def wish_of(host=None, **words):
     """The wish for a host, where one is given."""
     if host is None:
-        return Wish(Planner(), **words)
-    return Wish(Planner(), host.processors, host.period_us, host.slice_us, **words)
+        return SourceOptions(Planner(), **words)
+    return SourceOptions(Planner(), host.processors, host.period_us, host.slice_us, **words)
 
 
 def pods(files, host, library, **words):

@@ -13,7 +13,7 @@ from arbiter_host.base import safe_files
 from arbiter_host.base.faults import HostFault
 from arbiter_host.setting import apply
 from arbiter_host.setting.apply import By, Change, Settings
-from arbiter_host.sources import cgroups, looks
+from arbiter_host.sources import cgroups, readings
 from hypothesis import HealthCheck, given, settings
 from hypothesis import strategies as st
 
@@ -347,7 +347,7 @@ def test_places_of_an_import(folder):
     trees.root2(folder / "t")
     trees.group2(folder / "t/a b", OLD.weight, OLD.maximum, OLD.burst)
     before = cgroups.read([str(folder / "t")], Host(2, 100000, 1000),
-                          looks.Times(Fraction(1, 1000)))
+                          readings.Times(Fraction(1, 1000)))
     after = before.copy()
     after.groups["a%20b"].weight = 5
     found, left = apply.changes(before, after, safe_files.Root(str(folder / "t")))

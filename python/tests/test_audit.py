@@ -18,7 +18,7 @@ from arbiter_host.audit.intervals import Cell, Interval
 from arbiter_host.base.demands import CounterReading
 from arbiter_host.base.faults import HostFault
 from arbiter_host.base.model import Group, Model, fine
-from arbiter_host.sources import hunger, looks, prometheus
+from arbiter_host.sources import task_times, readings, prometheus
 from laboratory import firm, kept
 from places import PACKAGE
 
@@ -158,7 +158,7 @@ def test_holes(ctl, folder):
     assert groups["came"]["used_millicpu"] == [None, 100]
     assert groups["went"]["used_millicpu"] == [100, None]
     assert groups["fell"]["used_millicpu"] == [None, 200]
-    assert groups["fell"]["holes"] == {"0": looks.FELL} and groups["fell"]["intervals"] == 1
+    assert groups["fell"]["holes"] == {"0": readings.FELL} and groups["fell"]["intervals"] == 1
     assert "groups that came or went, left out there: 2: came (1), went (1)" in err
     assert "groups whose counters fell, left out there: 1: fell (1)" in err
     assert "groups or settings changed in intervals: 2" in err
@@ -198,8 +198,8 @@ class World:
 
 def looked(world, clock=None, sleep=None, number=4):
     """Looks at a tree, one each 5 s."""
-    return intervals.collected(looks.looks_at(
-        [str(world.top)], ONE, looks.Times(Fraction(5), number), True,
+    return intervals.collected(readings.readings_of(
+        [str(world.top)], ONE, readings.Times(Fraction(5), number), True,
         clock or (lambda: world.now), sleep or world.sleep), number)
 
 
@@ -209,7 +209,7 @@ def test_live(folder, engine, monkeypatch):
     a is the same, and its task was seen: it ran for 2 s and waited for 3 s of each 5, so it wants
     200m / 0.4 = 500m. The single CPU has 1000 slices: 500 for each.
     """
-    monkeypatch.setattr(hunger, "PROC", str(folder / "proc"))
+    monkeypatch.setattr(task_times, "PROC", str(folder / "proc"))
     found = looked(World(folder))
     assert [each.name for each in found] == ["0 s", "5 s", "10 s", "15 s"]
     audit = intervals.audited(engine, found, None, set(), lambda: None)
@@ -230,7 +230,7 @@ def test_a_group_made_again_is_another(folder, engine):
             world.put(round(world.now / 5))
 
     audit = intervals.audited(engine, looked(world, sleep=sleep), None, set(), lambda: None)
-    assert [each.holes for each in audit.intervals] == [{}, {"a": looks.CAME}, {}]
+    assert [each.holes for each in audit.intervals] == [{}, {"a": readings.CAME}, {}]
 
 
 def test_a_clock_that_goes_back(folder, engine):
@@ -239,7 +239,7 @@ def test_a_clock_that_goes_back(folder, engine):
     clock = iter([0, 0, 5, 5, 5, 5, 0, 0, 1, 1, 1, 1])
     with pytest.raises(HostFault, match="the clock went back between two looks"):
         looked(world, lambda: next(clock), lambda _: None)
-    found = list(looks.looks_at([str(world.top)] * 2, ONE, looks.Times(Fraction(5))))
+    found = list(readings.readings_of([str(world.top)] * 2, ONE, readings.Times(Fraction(5))))
     found[1].at = Fraction(0)
     with pytest.raises(HostFault, match="the clock went back"):
         intervals.audited(engine, found, None, set(), lambda: None)
@@ -254,7 +254,7 @@ def test_each_group_has_its_own_time(folder, engine):
         calls.append(None)
         return world.now + len(calls)
 
-    tree = looks.Tree(str(world.top), ONE, clock)
+    tree = readings.Tree(str(world.top), ONE, clock)
     found = [tree.look()]
     world.now, before = 10.0, len(calls)
     world.put(2)
@@ -438,7 +438,7 @@ def test_a_range_by_hand(ctl, serve):
     assert groups["web"]["demand_millicpu"] == [666.666667, 400]
     assert groups["web"]["plan_millicpu"] == [500, 400]
     assert groups["db"]["used_millicpu"] == [1000, None]
-    assert groups["db"]["holes"] == {"1": looks.CAME}
+    assert groups["db"]["holes"] == {"1": readings.CAME}
     assert [each["from"] for each in found["intervals"]] == ["1000", "1060"]
     assert {each["query"] for each in asked} == set(ranges.METRICS.values())
     assert all(each["step"] == "60s" for each in asked)
@@ -470,7 +470,7 @@ def test_limits_and_tasks_of_a_range(serve):
     model = Model(TWO)
     model.add(Group("web"))
     server = ranges.Prometheus(url, "", prometheus.QueryRange("1000", "1120", 60))
-    found, notes = ranges.looks(server, model)
+    found, notes = ranges.readings_of(server, model)
     assert [each.model.groups["web"].quota for each in found] == [50000, 50000, 70000]
     assert [each.tasks for each in found] == [{"web": 3}, {"web": 3}, {"web": 4}]
     found = intervals.collected(found)
@@ -481,7 +481,7 @@ def test_tasks_of_the_source(engine):
     """Where none were counted the tasks are those of the source: 5 of 2 CPUs are wanted by one."""
     model = Model(TWO)
     model.add(Group("a", tasks=1))
-    seen = [looks.Look(Fraction(at), model, {"a": {"": looks.Counted(
+    seen = [readings.TreeReading(Fraction(at), model, {"a": {"": readings.Counted(
         CounterReading(usec(0.5 * at), 0, 0, usec(0.9 * at)))}}) for at in (0, 1)]
     cells = intervals.audited(engine, seen, None, set(), lambda: None).intervals[0].cells
     assert (cells["a"].demand, cells["a"].tasks, cells["a"].planned) == (5000, 1, 1000)
@@ -527,7 +527,8 @@ def test_docker_and_folders(serve):
         ({"id": "/system.slice/docker-1.scope", "name": "db"}, values(0, 6)),
         ({"id": "/docker/2", "name": "db"}, values(0, 12)),
         ({"id": "/cache"}, values(0, 18)))})
-    found, _ = ranges.looks(ranges.Prometheus(url, "", prometheus.QueryRange("1", "2", 60)), model)
+    server = ranges.Prometheus(url, "", prometheus.QueryRange("1", "2", 60))
+    found, _ = ranges.readings_of(server, model)
     risen = {path: next(iter(each.values())).reading.usage
              for path, each in found[1].counted.items()}
     assert risen == {"web": 6 * SECOND, "db": 12 * SECOND, "cache": 18 * SECOND}
@@ -555,10 +556,10 @@ def kept_look(at, model, runs):
         wants = float(model.groups[path].usable) / 1000
         had = [run["groups"][path][1] for run in runs[:at]]
         waited = sum(max(0, 1 - each / wants) for each in had)
-        counted[path] = {"": looks.Counted(CounterReading(usec(sum(had) * span), 0, 0,
+        counted[path] = {"": readings.Counted(CounterReading(usec(sum(had) * span), 0, 0,
                                                    usec(waited * span)))}
     tasks = {path: model.groups[path].tasks for path in counted}
-    return looks.Look(Fraction(at * span), model, counted, tasks)
+    return readings.TreeReading(Fraction(at * span), model, counted, tasks)
 
 
 def kept_audit(engine, name):
@@ -752,7 +753,7 @@ def test_too_many_looks(folder, monkeypatch):
     world = World(folder)
     monkeypatch.setattr(intervals, "MOST_COUNTED", 5)
     with pytest.raises(HostFault, match="3 looks at 2 groups are too many"):
-        intervals.collected(looks.looks_at([str(world.top)] * 3, TWO, looks.Times()))
+        intervals.collected(readings.readings_of([str(world.top)] * 3, TWO, readings.Times()))
     # Before the first interval is waited for.
     with pytest.raises(HostFault, match="61 looks at 2 groups are too many"):
         looked(world, number=61)

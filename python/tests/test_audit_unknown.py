@@ -6,7 +6,7 @@ import pytest
 from arbiter_host.answers import placement
 from arbiter_host.audit import causes, unknown
 from arbiter_host.base.demands import CounterReading
-from arbiter_host.sources import hunger, looks
+from arbiter_host.sources import task_times, readings
 from test_audit import TWO, cell, interval
 
 
@@ -23,7 +23,7 @@ PLAIN = ("20", "0")
 
 def task(ran, sleeps=5, rank=PLAIN):
     """A task that ran for so many hundredths of a second."""
-    return hunger.TaskTimes(ran * 10**7, 0, sleeps, rank)
+    return task_times.TaskTimes(ran * 10**7, 0, sleeps, rank)
 
 
 @pytest.mark.parametrize("used, tasks, why", [
@@ -38,9 +38,9 @@ def task(ran, sleeps=5, rank=PLAIN):
     (0, [task(0, 99)], ""), (90, [], "")])
 def test_tasks_that_are_not_known(used, tasks, why):
     """Hundredths of a CPU that a group used in a second, and its tasks."""
-    none = {number: hunger.TaskTimes(0, 0) for number, _ in enumerate(tasks)}
+    none = {number: task_times.TaskTimes(0, 0) for number, _ in enumerate(tasks)}
     risen = CounterReading(usage=used * 10**4)
-    assert unknown.of_tasks(looks.Span(risen, Fraction(1), none, dict(enumerate(tasks)))) == why
+    assert unknown.of_tasks(readings.Span(risen, Fraction(1), none, dict(enumerate(tasks)))) == why
 
 
 def test_placement_is_not_told_where_it_is_not_known(monkeypatch):

@@ -11,7 +11,7 @@ from arbiter_host.base.model import Model
 from arbiter_host.base.owned import Setting
 from arbiter_host.base.plan import plan
 from arbiter_host.fleet import hosts
-from arbiter_host.sources import cgroups, hostfile, looks, samples, script
+from arbiter_host.sources import cgroups, hostfile, readings, samples, script
 from hypothesis import HealthCheck, example, given, settings
 from hypothesis import strategies as st
 
@@ -181,4 +181,4 @@ def test_cgroups(tmp_path_factory, engine, texts):
     for name, data in texts.items():
         (folder / "a" / name).write_bytes(data)
     planned(engine, holds(engine, lambda: cgroups.read([str(folder)] * 2, HOST,
-                                                       looks.Times(Fraction(1)), "psi")))
+                                                       readings.Times(Fraction(1)), "psi")))

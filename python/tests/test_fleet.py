@@ -318,7 +318,7 @@ def test_what_is_one_host(folder):
     ("diff", "a", "--set", "x.CPUWeight=0"), ("diff", "a", "--set", "x.cpus=-1"),
     ("diff", "a", "--set", "x.cpu-shares=1"), ("diff", "a", "a", "--set", "x.weight=1"),
     ("place", "a"), ("replay", "a"), ("explain", "a", "--workers", "-1"),
-    ("explain", "a", "--workers", "1", "--scheduler", "tcp://x"), ("explain", "a", "-g", "x"),
+    ("explain", "a", "--workers", "1", "--dask", "tcp://x"), ("explain", "a", "-g", "x"),
     ("explain", "a", "--used", "a/host-00000.script"), ("explain", "a", "-o", "svg")])
 def test_words_that_are_refused(folder, monkeypatch, capsys, words):
     """Status 2, before anything is asked of a host."""

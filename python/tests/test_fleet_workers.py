@@ -295,7 +295,7 @@ def test_dask_answers_as_one(ctl, folder, site):
     hosts = fleets.make(folder / "hosts", 60, 12)
     site.add("honest")
     alone = ctl.run("explain", hosts, "--workers", "0", *JSON)[0]
-    run = begun(ctl, "explain", hosts, "--scheduler", site.address, *JSON)
+    run = begun(ctl, "explain", hosts, "--dask", site.address, *JSON)
     time.sleep(1)
     assert sockets.listening(run.pid) == []
     status, out, err = ended(run)
@@ -307,7 +307,7 @@ def test_a_killed_worker_of_dask(ctl, folder, site):
     hosts = fleets.make(folder / "hosts", 60, 12)
     alone = ctl.run("explain", hosts, "--workers", "0", *JSON)[0]
     site.add("hung", "honest")
-    run = begun(ctl, "explain", hosts, "--scheduler", site.address, *JSON)
+    run = begun(ctl, "explain", hosts, "--dask", site.address, *JSON)
     assert site.processes["hung"].stdout.readline() == "begun\n"
     site.processes["hung"].kill()
     status, out, err = ended(run)
@@ -320,7 +320,7 @@ def test_a_wrong_worker_of_dask(ctl, folder, site, mode, told):
     """Each host that it answered is named."""
     hosts = fleets.make(folder / "hosts", 8, 12)
     site.add(mode)
-    status, out, err = ended(begun(ctl, "explain", hosts, "--scheduler", site.address, *JSON))
+    status, out, err = ended(begun(ctl, "explain", hosts, "--dask", site.address, *JSON))
     found = json.loads(out)
     assert status == 1 and found["answered"] == 0 and len(found["not_answered"]) == 8
     assert all(told in each["why"] for each in found["not_answered"]), err
@@ -330,7 +330,7 @@ def test_a_scheduler_that_goes_away(ctl, folder, site):
     """Each host is answered or named."""
     hosts = fleets.make(folder / "hosts", 160, 100)
     site.add("honest", "hung")
-    run = begun(ctl, "explain", hosts, "--scheduler", site.address, *JSON)
+    run = begun(ctl, "explain", hosts, "--dask", site.address, *JSON)
     assert site.processes["hung"].stdout.readline() == "begun\n"
     site.processes["scheduler"].kill()
     site.processes["hung"].kill()
@@ -347,7 +347,7 @@ def test_a_scheduler_that_goes_away(ctl, folder, site):
 
 def test_a_scheduler_without_workers(ctl, folder, site):
     hosts = fleets.make(folder / "hosts", 2, 4)
-    _, err = ctl.run("explain", hosts, "--scheduler", site.address, status=1)
+    _, err = ctl.run("explain", hosts, "--dask", site.address, status=1)
     assert "it has no worker" in err
 
 
@@ -384,7 +384,7 @@ def test_a_scheduler_with_tls(ctl, folder):
     site = Site(ctl.environment, "tls")
     try:
         site.add("honest")
-        words = ["explain", hosts, *JSON, "--scheduler"]
+        words = ["explain", hosts, *JSON, "--dask"]
         alone = ctl.run("explain", hosts, "--workers", "0", *JSON)[0]
         assert ctl.run(*words, site.address)[0] == alone
         ctl.environment = bare
@@ -400,5 +400,5 @@ def test_an_address_of_no_scheduler(ctl, folder):
     """One line, status 1."""
     pytest.importorskip("distributed")
     hosts = fleets.make(folder / "hosts", 2, 4)
-    out, err = ctl.run("explain", hosts, "--scheduler", "tcp://127.0.0.1:1", status=1)
+    out, err = ctl.run("explain", hosts, "--dask", "tcp://127.0.0.1:1", status=1)
     assert out == "" and err.startswith("arbiterctl: tcp://127.0.0.1:1: ")

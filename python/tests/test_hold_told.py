@@ -19,9 +19,9 @@ from arbiter_host.base import safe_files
 from arbiter_host.base.faults import HostFault
 from arbiter_host.base.model import Group, Model
 from arbiter_host.hold import hold
-from arbiter_host.hold.ends import MOST_ROUNDS, Ends, Shadow
+from arbiter_host.hold.harm import MOST_ROUNDS, Harm, Shadow
 from arbiter_host.setting import apply
-from arbiter_host.sources import hunger
+from arbiter_host.sources import task_times
 from arbiter_host.subcommands.hold import Notifier, Service
 from arbiter_host.top import metrics
 from held import FREE, TWO, World, content, limit, said, started
@@ -135,25 +135,25 @@ def test_a_leaf_that_gets_children_and_weights(world, engine, folder):
 ])
 def test_tasks_at_both_readings(before, now, seen):
     """What each did is told of those alone that were there at both."""
-    one, two = ({number: hunger.TaskTimes(*task) for number, task in found.items()}
+    one, two = ({number: task_times.TaskTimes(*task) for number, task in found.items()}
                 for found in (before, now))
-    assert list(hunger.rises(one, two)) == seen
+    assert list(task_times.rises(one, two)) == seen
 
 
 def test_tasks_are_read(folder, monkeypatch):
     """Of a list those that are there; a list of a group may have no number, and many."""
-    monkeypatch.setattr(hunger, "PROC", str(folder))
+    monkeypatch.setattr(task_times, "PROC", str(folder))
     for number, text in ((12, "5 6 7\n"), (13, "nonsense\n"), (15, "8 9 1\n")):
         (folder / str(number)).mkdir()
         (folder / str(number) / "schedstat").write_text(text)
-    assert hunger.tasks("12\n13\n14\n0\nx\n15\n") == {12: (5, 6, 0, ()), 15: (8, 9, 0, ())}
+    assert task_times.tasks("12\n13\n14\n0\nx\n15\n") == {12: (5, 6, 0, ()), 15: (8, 9, 0, ())}
     # a name with a bracket and blanks, nice 19 and SCHED_BATCH; the other task has gone
     (folder / "12/stat").write_text(f"12 (a) b) S {' '.join(['0'] * 14)} 39 19"
                                     f" {' '.join(['0'] * 21)} 3 0 0\n")
     (folder / "12/status").write_text("Name:\ta\nvoluntary_ctxt_switches:\t41\nnonvoluntary: 7\n")
-    assert hunger.tasks("12\n15\n", True) == {12: (5, 6, 41, ("39", "3")), 15: (8, 9, 0, ())}
-    monkeypatch.setattr(hunger, "MOST_TASKS", 2)
-    assert hunger.tasks("12\n13\n15\n") == {12: (5, 6, 0, ())}
+    assert task_times.tasks("12\n15\n", True) == {12: (5, 6, 41, ("39", "3")), 15: (8, 9, 0, ())}
+    monkeypatch.setattr(task_times, "MOST_TASKS", 2)
+    assert task_times.tasks("12\n13\n15\n") == {12: (5, 6, 0, ())}
 
 
 @pytest.fixture
@@ -224,7 +224,7 @@ def test_many_tasks_are_read_whole(folder):
     (folder / "g").mkdir()
     (folder / "g/cgroup.threads").write_text("".join(f"{number}\n" for number in range(5000)))
     root = safe_files.Root(str(folder))
-    assert len(root.read("g", "cgroup.threads", hunger.MOST_TEXT).split()) == 5000
+    assert len(root.read("g", "cgroup.threads", task_times.MOST_TEXT).split()) == 5000
     root.close()
 
 
@@ -328,9 +328,9 @@ def test_limits_that_go_back_and_forth(world, engine, folder, capsys):
     assert "a: its limit went back and forth for 60 rounds" in capsys.readouterr().err
     assert len(world.run(world.loop(engine), *[step] * 70)) == 70
     for limits in ([50] * 70, [100, 90] * 35, [*range(50, 120)], [50, 90, None] * 23):
-        ends = Ends(200)
+        ends = Harm(200)
         assert {ends.swung({"a": limit}) for limit in limits} == {None}
-    ends = Ends(200)
+    ends = Harm(200)
     assert [ends.swung({"a": limit}) for limit in [None, 50] * 31] == [None] * 61 + ["a"]
 
 
@@ -352,13 +352,13 @@ def of_round(held, used, plan, hungry=True, guess=False):
 ])
 def test_a_loop_that_does_harm_ends(free, last, why):
     """It is judged by so many rounds under limits, and not by those in which nobody was held."""
-    ends = Ends(200)
+    ends = Harm(200)
     # (nobody lacked anything in the first two rounds)
     assert [ends.take(of_round(*each, 100)) for each in ((0, 9), (0, 9), (1, free))] == [""] * 3
     assert [ends.take(last) for _ in range(MOST_ROUNDS - 1)] == [""] * (MOST_ROUNDS - 1)
     told = ends.take(last)
     assert told.startswith(why) and bool(told) == bool(why)
-    few = Ends(200)
+    few = Harm(200)
     assert {few.take({**last, "held": 0}) for _ in range(2 * MOST_ROUNDS)} == {""}
 
 

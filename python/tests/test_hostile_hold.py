@@ -18,7 +18,7 @@ from arbiter_host.base.faults import HostFault
 from arbiter_host.hold import hold
 from arbiter_host.setting import apply, record
 from arbiter_host.setting.apply import By, Change, Settings
-from arbiter_host.sources import looks
+from arbiter_host.sources import readings
 from arbiter_host.subcommands import apply as applying, hold as holding
 from held import FREE, SECOND, World, begun, content, limit, said, started
 from places import PACKAGE
@@ -198,7 +198,7 @@ def test_a_tenant_shuts_its_files(engine, capsys):
                            lambda: shut(0, "cpu.stat"), lambda: None, lambda: shut(0, "."),
                            lambda: None, lambda: shut(0o755, ".", "cpu.stat", "cpu.max"),
                            lambda: None]
-            hold.run(loop, looks.Times(number=None), world.wait, lines.append)
+            hold.run(loop, readings.Times(number=None), world.wait, lines.append)
         finally:
             os.seteuid(0)
     assert [sorted(line["groups"]) for line in lines] == [
@@ -236,7 +236,7 @@ def test_a_tenant_names_a_group_as_kubelets(world, engine, folder, capsys):
 def test_own_group_by_another_path(world, engine, folder, monkeypatch):
     """It is known by what it is, so also in a tree that is mounted elsewhere."""
     (folder / "cgroup").symlink_to(world.tree)
-    monkeypatch.setattr(looks, "HOST_TREE", str(folder / "cgroup"))
+    monkeypatch.setattr(readings, "HOST_TREE", str(folder / "cgroup"))
     monkeypatch.setattr(hold.cgroup2, "file_text", lambda *_: "0::/a\n")
     own = hold.own_group()
     monkeypatch.undo()
@@ -498,12 +498,12 @@ def test_who_asks_for_the_lock_stops_no_loop(folder):
 def test_a_real_tree_by_another_path(folder, monkeypatch):
     """A tree is the host's if its device is: there is one lock for all paths to it."""
     root = safe_files.Root(str(folder))
-    for place, is_real in ((looks.HOST_TREE, False), ("/proc", False), (folder / "none", False),
+    for place, is_real in ((readings.HOST_TREE, False), ("/proc", False), (folder / "none", False),
                            (folder, True), (folder.parent, True)):
-        monkeypatch.setattr(looks, "HOST_TREE", str(place))
+        monkeypatch.setattr(readings, "HOST_TREE", str(place))
         assert holding.is_real(root) == is_real, place
     (folder / "other").mkdir()
-    monkeypatch.setattr(looks, "HOST_TREE", str(folder / "other"))
+    monkeypatch.setattr(readings, "HOST_TREE", str(folder / "other"))
     assert holding.is_real(root)
 
 

@@ -9,7 +9,7 @@ from arbiter_host.answers import explain
 from arbiter_host.base import options as table, text
 from arbiter_host.base.faults import UsageFault
 from arbiter_host.fleet import report
-from arbiter_host.sources import looks
+from arbiter_host.sources import readings
 from arbiter_host.sources.register import READERS
 from arbiter_host.subcommands import SUMMARIES
 
@@ -123,8 +123,8 @@ def test_no_effect_on_a_form_is_refused(words, said):
 
 
 def test_readings():
-    assert looks.times_of("10x1s") == (1, 10)
-    assert looks.times_of("x5min") == (300, None)
+    assert readings.times_of("10x1s") == (1, 10)
+    assert readings.times_of("x5min") == (300, None)
     for words in ("10", "x", "0x1s", "10001x1s", "-1x1s"):
         with pytest.raises(UsageFault):
-            looks.times_of(words)
+            readings.times_of(words)

@@ -16,7 +16,7 @@ from arbiter_host.base.faults import HostFault, UsageFault
 from arbiter_host.base.owned import Setting, remade
 from arbiter_host.base.plan import plan
 from arbiter_host.sources import change
-from arbiter_host.tune import knobs
+from arbiter_host.tune import single_settings
 from arbiter_host.tune.goals import Goals, goals_of
 from hypothesis import HealthCheck, given, settings
 from hypothesis import strategies as st
@@ -346,13 +346,13 @@ def test_no_lesser_request_reaches(engine, data, slices):
 
     before = plan(engine, model)
     goals = Goals(before, goals_of(before, [f"{path}={10 * slices}m"]), False)
-    found = [knob for knob in knobs.each_of(goals) if knob.is_owned]
-    for of, knob in zip(model.owned.ranges(path), found, strict=True):
+    found = [single for single in single_settings.each_of(goals) if single.is_owned]
+    for of, single in zip(model.owned.ranges(path), found, strict=True):
         values = range(of.parts[0][0], of.parts[-1][1] + 1) if of.parts else ()
-        if knob.least is None:
+        if single.least is None:
             assert all(gets(of.key, value) < slices for value in values[::9])
         else:
-            least = int(knob.least[:-1])
+            least = int(single.least[:-1])
             assert gets(of.key, least) >= slices and least in values
             lesser = range(values[0], least)
             assert all(gets(of.key, value) < slices for value in {*lesser[::3], *lesser[-20:]})

@@ -8,7 +8,7 @@ from arbiter_host.answers import explain
 from arbiter_host.base.faults import HostFault
 from arbiter_host.base.model import Group, Model
 from arbiter_host.base.plan import Engine, asking, guarantees, plan
-from arbiter_host.tune import knobs
+from arbiter_host.tune import single_settings
 from arbiter_host.tune.goals import Goals, goals_of
 
 
@@ -82,10 +82,10 @@ def test_explain_follows_the_library(answering):
                      "b": ("limit above", "limit of a above: weight 100 of 200", "a")}
 
 
-def knobs_of(engine, model):
+def singles_of(engine, model):
     """The settings alone with which a gets 550m."""
     before = plan(engine, model)
-    return knobs.each_of(Goals(before, goals_of(before, ["a=550m"]), False))
+    return single_settings.each_of(Goals(before, goals_of(before, ["a=550m"]), False))
 
 
 def test_answers_follow_the_library(answering):
@@ -94,16 +94,16 @@ def test_answers_follow_the_library(answering):
     model = two_groups()
     found = plan(engine, model)
     assert guarantees(found, found.groups[1:]) == [7, 7]
-    knobs = knobs_of(engine, model)
-    assert [(knob.least, knob.plan is None) for knob in knobs] == (
+    singles = singles_of(engine, model)
+    assert [(single.least, single.plan is None) for single in singles] == (
         [(5000, False), (None, True), (None, True)])
-    assert knobs[0].plan.by_path()["a"].gets == 20
+    assert single_settings[0].plan.by_path()["a"].gets == 20
 
 
 def test_a_value_that_does_not_reach_is_no_answer(answering):
     """A least value is shown only if its accepted plan gives the group the amount."""
     with pytest.raises(HostFault, match="weight 100: the accepted plan does not reach"):
-        knobs_of(answering(least_weight=100), two_groups())
+        singles_of(answering(least_weight=100), two_groups())
 
 
 def test_refusals_are_faults(engine):

@@ -68,7 +68,7 @@ def test_repeated_periods_are_periods(engine, quota, burst, before, after, perio
     wants = [[0, demand, 8] for demand in (before, after, before)]
 
     def cells(samples, count):
-        asked = series.Asked(model.host, [".", "a", "b"], series.settings_of(model),
+        asked = series.ReplayRows(model.host, [".", "a", "b"], series.settings_of(model),
                              array("Q", sum(samples, [])), array("Q", [0, 0, 0]), count)
         return asked.cells(engine, asked.paths, lambda: None)
 

@@ -17,7 +17,7 @@ from arbiter_host.base import demands, plain_files, units
 from arbiter_host.base.faults import HostFault
 from arbiter_host.base.model import Group, Model
 from arbiter_host.base.plan import plan
-from arbiter_host.sources import cgroups, hostfile, kubernetes, looks, script
+from arbiter_host.sources import cgroups, hostfile, kubernetes, readings, script
 from hypothesis import HealthCheck, given, settings
 from hypothesis import strategies as st
 from places import PACKAGE
@@ -296,7 +296,7 @@ def test_faults_of_json(text, words):
 # cgroups
 
 # A thousandth of a second from one reading to the next.
-QUICK = looks.Times(Fraction(1, 1000))
+QUICK = readings.Times(Fraction(1, 1000))
 
 
 def copies(folder, **groups):
@@ -307,7 +307,7 @@ def copies(folder, **groups):
             counters = {key: entry[key] * factor for key in ("usage", "periods", "throttled",
                                                              "waited") if key in entry}
             trees.group2(folder / copy / name.replace("__", "/"), **{**entry, **counters})
-    return [str(folder / "a"), str(folder / "b")], looks.Times(Fraction(10))
+    return [str(folder / "a"), str(folder / "b")], readings.Times(Fraction(10))
 
 
 def test_cgroup2(folder):

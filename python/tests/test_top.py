@@ -21,7 +21,7 @@ from arbiter import Host
 from arbiter_host.base.faults import HostFault, UsageFault
 from arbiter_host.base.model import Group, Model
 from arbiter_host.base.plan import plan
-from arbiter_host.sources import looks
+from arbiter_host.sources import readings
 from arbiter_host.top import metrics, top
 from places import PACKAGE
 from prometheus_client.openmetrics import parser
@@ -49,7 +49,7 @@ class World:
         trees.group2(self.top / name, weight, maximum, 0, usage, threads=2, **counters)
 
     def tree(self, engine, want="psi"):
-        return top.Watched(engine, looks.Tree(str(self.top), TWO, lambda: self.now), want)
+        return top.Watched(engine, readings.Tree(str(self.top), TWO, lambda: self.now), want)
 
     def later(self):
         """web used 5 s and was throttled in 40 of 100 periods; batch used 12 s and waited 2 s."""
@@ -137,7 +137,7 @@ def test_turns_leave_rounds_out():
     def sleep(seconds):
         now[0] += seconds
 
-    for _ in looks.turns(looks.Times(Fraction(10), 5), lambda: now[0], sleep, 1):
+    for _ in readings.turns(readings.Times(Fraction(10), 5), lambda: now[0], sleep, 1):
         at.append(now[0])
         now[0] += 25 if len(at) == 2 else 1
     assert at == [10, 20, 50, 60]
@@ -304,7 +304,7 @@ def test_names_are_asked_again(engine, folder):
         return {NGINX: ("prod", "web", "c")} if len(asked) > 1 else {}
 
     warned = []
-    watched = top.Watched(engine, looks.Tree(str(tree), TWO, lambda: 0.0), "busy", ask,
+    watched = top.Watched(engine, readings.Tree(str(tree), TWO, lambda: 0.0), "busy", ask,
                           warned.append)
     names = []
     for at in range(6):

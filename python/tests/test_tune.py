@@ -18,7 +18,7 @@ from arbiter_host.base import demands, progress
 from arbiter_host.base.faults import HostFault
 from arbiter_host.base.model import Group, Model
 from arbiter_host.base.plan import Engine, plan
-from arbiter_host.sources import change, choosing
+from arbiter_host.sources import change, selection
 from arbiter_host.tune import goals as goals_, other_limits, tune, tune_settings, tune_weights
 from arbiter_host.tune.goals import Clash
 from hypothesis import HealthCheck, given, settings
@@ -598,7 +598,7 @@ def test_no_change_can_be_left_out(engine, model, goals, is_guaranteed, chosen):
     """
     before = plan(engine, model)
     words = [f"{path}={200 * slices}m" for path, slices in goals]
-    found = tune.tune(before, words, is_guaranteed, choosing.with_below(model, chosen) or None)
+    found = tune.tune(before, words, is_guaranteed, selection.with_below(model, chosen) or None)
     if found.best is None:
         return
     changes_, kept = found.best.changes, goals_kept(found)

@@ -31,7 +31,7 @@ _arbiterctl() {
                 --unit) mapfile -t COMPREPLY < <(compgen -W "cpu m % slices us" -- "$word") ;;
                 --rank) mapfile -t COMPREPLY < <(compgen -W "least-loss most-left" -- "$word") ;;
                 --workers) ;;
-                --scheduler) ;;
+                --dask) ;;
                 --from) mapfile -t COMPREPLY < <(compgen -W "script toml json cgroup kubernetes systemd docker slurm" -- "$word") ;;
                 --want) mapfile -t COMPREPLY < <(compgen -W "usage peak p95 psi limit request busy" -- "$word") ;;
                 --scale) ;;
@@ -47,7 +47,7 @@ _arbiterctl() {
                 --slice) ;;
                 --library) ;;
                 *)
-                    [[ $word == -* ]] && mapfile -t COMPREPLY < <(compgen -W "-g --group -n --namespace -l --selector -o --output --state --sort --depth --unit --all --guaranteed -v --verbose --rank --workers --scheduler --from --want --scale --read --used --range --step --query --node --node-weights --strict --cpus --period --slice --library -h --help" -- "$word")
+                    [[ $word == -* ]] && mapfile -t COMPREPLY < <(compgen -W "-g --group -n --namespace -l --selector -o --output --state --sort --depth --unit --all --guaranteed -v --verbose --rank --workers --dask --from --want --scale --read --used --range --step --query --node --node-weights --strict --cpus --period --slice --library -h --help" -- "$word")
                     ;;
             esac
             ;;
@@ -61,7 +61,7 @@ _arbiterctl() {
                 --unit) mapfile -t COMPREPLY < <(compgen -W "cpu m % slices us" -- "$word") ;;
                 --set) ;;
                 --workers) ;;
-                --scheduler) ;;
+                --dask) ;;
                 --from) mapfile -t COMPREPLY < <(compgen -W "script toml json cgroup kubernetes systemd docker slurm" -- "$word") ;;
                 --want) mapfile -t COMPREPLY < <(compgen -W "usage peak p95 psi limit request busy" -- "$word") ;;
                 --scale) ;;
@@ -77,7 +77,7 @@ _arbiterctl() {
                 --slice) ;;
                 --library) ;;
                 *)
-                    [[ $word == -* ]] && mapfile -t COMPREPLY < <(compgen -W "-g --group -n --namespace -l --selector -o --output --sort --unit --all -v --verbose --set --workers --scheduler --from --want --scale --read --used --range --step --query --node --node-weights --strict --cpus --period --slice --library -h --help" -- "$word")
+                    [[ $word == -* ]] && mapfile -t COMPREPLY < <(compgen -W "-g --group -n --namespace -l --selector -o --output --sort --unit --all -v --verbose --set --workers --dask --from --want --scale --read --used --range --step --query --node --node-weights --strict --cpus --period --slice --library -h --help" -- "$word")
                     ;;
             esac
             ;;
@@ -144,7 +144,7 @@ _arbiterctl() {
                 -o|--output) mapfile -t COMPREPLY < <(compgen -W "text json csv html svg" -- "$word") ;;
                 --unit) mapfile -t COMPREPLY < <(compgen -W "cpu m % slices us" -- "$word") ;;
                 --workers) ;;
-                --scheduler) ;;
+                --dask) ;;
                 --from) mapfile -t COMPREPLY < <(compgen -W "script toml json cgroup kubernetes systemd docker slurm" -- "$word") ;;
                 --want) mapfile -t COMPREPLY < <(compgen -W "usage peak p95 psi limit request busy" -- "$word") ;;
                 --scale) ;;
@@ -161,7 +161,7 @@ _arbiterctl() {
                 --slice) ;;
                 --library) ;;
                 *)
-                    [[ $word == -* ]] && mapfile -t COMPREPLY < <(compgen -W "-g --group -n --namespace -l --selector -o --output --unit --all -v --verbose --workers --scheduler --from --want --scale --read --used --range --step --query --map --node --node-weights --strict --cpus --period --slice --library -h --help" -- "$word")
+                    [[ $word == -* ]] && mapfile -t COMPREPLY < <(compgen -W "-g --group -n --namespace -l --selector -o --output --unit --all -v --verbose --workers --dask --from --want --scale --read --used --range --step --query --map --node --node-weights --strict --cpus --period --slice --library -h --help" -- "$word")
                     ;;
             esac
             ;;
@@ -248,7 +248,7 @@ _arbiterctl() {
                 --pod|--pods) ;;
                 --rank) mapfile -t COMPREPLY < <(compgen -W "least-loss most-left" -- "$word") ;;
                 --workers) ;;
-                --scheduler) ;;
+                --dask) ;;
                 --from) mapfile -t COMPREPLY < <(compgen -W "script toml json cgroup kubernetes systemd docker slurm" -- "$word") ;;
                 --want) mapfile -t COMPREPLY < <(compgen -W "usage peak p95 psi limit request busy" -- "$word") ;;
                 --scale) ;;
@@ -264,7 +264,7 @@ _arbiterctl() {
                 --slice) ;;
                 --library) ;;
                 *)
-                    [[ $word == -* ]] && mapfile -t COMPREPLY < <(compgen -W "-o --output --all -v --verbose --pod --pods --rank --workers --scheduler --from --want --scale --read --used --range --step --query --node --node-weights --strict --cpus --period --slice --library -h --help" -- "$word")
+                    [[ $word == -* ]] && mapfile -t COMPREPLY < <(compgen -W "-o --output --all -v --verbose --pod --pods --rank --workers --dask --from --want --scale --read --used --range --step --query --node --node-weights --strict --cpus --period --slice --library -h --help" -- "$word")
                     ;;
             esac
             ;;

@@ -10,13 +10,13 @@ from arbiter_host.answers import explain
 from arbiter_host.answers.explain import View
 from arbiter_host.base import text
 from arbiter_host.base.names import cut, short, shown, tail
-from arbiter_host.base.plan import Plan, Planned
+from arbiter_host.base.plan import Plan, PlannedGroup
 from arbiter_host.base.text import WIDE, Reasoned
 
 HEADS = ("gets", "then", "change", "wants", "then")
 
 
-def facts(plan: Plan, group: Planned | None) -> tuple[Any, ...] | None:
+def facts(plan: Plan, group: PlannedGroup | None) -> tuple[Any, ...] | None:
     """What is compared of a group, in thousandths of a CPU: hosts may have other slices."""
     if group is None:
         return None
@@ -31,7 +31,7 @@ class Pair:
 
     path: str
     plans: tuple[Plan, Plan]
-    groups: tuple[Planned | None, Planned | None]
+    groups: tuple[PlannedGroup | None, PlannedGroup | None]
 
     @property
     def differs(self) -> bool:

@@ -11,17 +11,17 @@ from arbiter_host.answers.placement import Outlook
 from arbiter_host.base import text
 from arbiter_host.base.model import MAX_DEPTH, NO_POD
 from arbiter_host.base.names import cut, last_name, listed, short, shown, tail, width
-from arbiter_host.base.plan import Explanation, Plan, Planned, walk
+from arbiter_host.base.plan import Explanation, Plan, PlannedGroup, walk
 from arbiter_host.base.text import BAR_HEAD, LEAST_NAME, WIDE, Reasoned
 
-ONLY: dict[str, Callable[[Planned], bool]] = {
+ONLY: dict[str, Callable[[PlannedGroup], bool]] = {
     "starved": lambda group: group.is_starved,
     "throttled": lambda group: group.is_throttled,
     "hurt": lambda group: group.gets < group.want,
     "asking": lambda group: group.want > 0,
     "tasks": lambda group: group.is_cut_by_tasks,
 }
-SORTS: dict[str, Callable[[Planned], Any]] = {
+SORTS: dict[str, Callable[[PlannedGroup], Any]] = {
     "lack": lambda group: group.gets - group.want,
     "gets": lambda group: -group.gets,
     "wants": lambda group: -group.want,
@@ -63,33 +63,33 @@ class View(NamedTuple):
         """Whether groups are a list of paths and no tree."""
         return bool(self.only)
 
-    def is_folded(self, group: Planned) -> bool:
+    def is_folded(self, group: PlannedGroup) -> bool:
         """Whether what is below a group is not shown."""
         return group.depth >= self.depth or group.path in self.folded
 
-    def has(self, group: Planned) -> bool:
+    def has(self, group: PlannedGroup) -> bool:
         """Whether a group is among those that are chosen."""
         return self.chosen is None or group.path in self.chosen
 
-    def amounts(self, group: Planned) -> dict[str, int | None]:
+    def amounts(self, group: PlannedGroup) -> dict[str, int | None]:
         """The slices of a group that are shown, by their heads."""
         owed = {} if self.guaranteed is None else {"guaranteed": self.guaranteed.get(group.row)}
         return {"gets": group.gets, "wants": group.want, "limit": group.limit, **owed}
 
-    def cells(self, plan: Plan, group: Planned) -> dict[str, str]:
+    def cells(self, plan: Plan, group: PlannedGroup) -> dict[str, str]:
         """The same as text, in the unit."""
         return {head: text.amount(plan, slices, self.unit)
                 for head, slices in self.amounts(group).items()}
 
 
-def why(plan: Plan, group: Planned, is_wide: bool) -> str:
+def why(plan: Plan, group: PlannedGroup, is_wide: bool) -> str:
     """The reason of a group, after its marks."""
     words = plan.reason(group).words if is_wide else narrow(plan, group)
     whole = "; ".join([*marks(plan, group), words])
     return whole if is_wide else starred(whole)
 
 
-def marks(plan: Plan, group: Planned) -> list[str]:
+def marks(plan: Plan, group: PlannedGroup) -> list[str]:
     """What a group suffers from: `starved`, and whether it counts as throttled."""
     found = ["starved"] if group.is_starved else []
     if group.is_throttled_elsewhere:
@@ -99,7 +99,7 @@ def marks(plan: Plan, group: Planned) -> list[str]:
     return found
 
 
-def asking_one(group: Planned) -> Planned:
+def asking_one(group: PlannedGroup) -> PlannedGroup:
     """The group whose amounts a row has: the one container of a pod, and else the group itself.
 
     So it is of any group with one child. Of a pod, containers that ask for nothing do not count.
@@ -110,27 +110,27 @@ def asking_one(group: Planned) -> Planned:
     return group if one.children else one
 
 
-def tighter(group: Planned, one: Planned) -> Planned:
+def tighter(group: PlannedGroup, one: PlannedGroup) -> PlannedGroup:
     """That of both whose limit is lower, which is the limit of their row."""
     is_group = group.limit is not None and (one.limit is None or group.limit < one.limit)
     return group if is_group else one
 
 
-def row_name(group: Planned, one: Planned) -> str:
+def row_name(group: PlannedGroup, one: PlannedGroup) -> str:
     """The last name of a group, with that of the container that its row shows."""
     paths = dict.fromkeys([group.path, one.path])
     return " / ".join("the host" if path == "." else short(shown(last_name(path)))
                       for path in paths)
 
 
-def row_reason(plan: Plan, group: Planned, one: Planned) -> Explanation:
+def row_reason(plan: Plan, group: PlannedGroup, one: PlannedGroup) -> Explanation:
     """The reason of a row: that of a pod where its one container has all that the pod gets."""
     reason = plan.reason(one)
     is_by_pod = reason.cause not in (None, one.path) and not reason.active_weight
     return plan.reason(group) if is_by_pod else reason
 
 
-def narrow(plan: Plan, group: Planned) -> str:
+def narrow(plan: Plan, group: PlannedGroup) -> str:
     reason = plan.reason(group)
     part = f" {reason.weight}/{reason.active_weight}" if reason.active_weight else ""
     if reason.name == "limit above":
@@ -139,7 +139,7 @@ def narrow(plan: Plan, group: Planned) -> str:
     return words.get(reason.name, reason.name) + part
 
 
-def label(group: Planned, view: View, depth: int) -> str:
+def label(group: PlannedGroup, view: View, depth: int) -> str:
     """The name of a group: in a tree its last name, indented; in a list, and at the top of what was
     chosen, its path."""
     if group.parent is None:
@@ -152,7 +152,7 @@ def label(group: Planned, view: View, depth: int) -> str:
     return "  " * depth + short(shown(last_name(group.path))) + more + people
 
 
-def line_of(plan: Plan, group: Planned, view: View, depth: int) -> Reasoned:
+def line_of(plan: Plan, group: PlannedGroup, view: View, depth: int) -> Reasoned:
     """The line of a group that stands so deep in the tree that is shown."""
     cells = list(view.cells(plan, group).values())
     if view.width >= WIDE:
@@ -169,12 +169,12 @@ def starred(words: str) -> str:
     return words.replace(ELSEWHERE, "throttled*")
 
 
-def ordered(groups: Sequence[Planned], view: View) -> list[Planned]:
+def ordered(groups: Sequence[PlannedGroup], view: View) -> list[PlannedGroup]:
     """Groups in the order asked for; that of creation without one."""
     return sorted(groups, key=SORTS[view.sort]) if view.sort else list(groups)
 
 
-def below(group: Planned, view: View) -> list[Planned]:
+def below(group: PlannedGroup, view: View) -> list[PlannedGroup]:
     """The children of a group that are shown. Those that ask for nothing are left out, unless all
     are asked for."""
     if view.is_folded(group):
@@ -182,7 +182,7 @@ def below(group: Planned, view: View) -> list[Planned]:
     return ordered([each for each in group.children if each.want > 0 or view.everything], view)
 
 
-def tops(plan: Plan, view: View) -> list[Planned]:
+def tops(plan: Plan, view: View) -> list[PlannedGroup]:
     """The groups at the top of the tree that is shown."""
     if view.chosen is None:
         return [plan.root]
@@ -190,7 +190,7 @@ def tops(plan: Plan, view: View) -> list[Planned]:
     return ordered([each for each in chosen if not view.has(plan.groups[each.parent or 0])], view)
 
 
-def family(plan: Plan, view: View) -> list[Planned]:
+def family(plan: Plan, view: View) -> list[PlannedGroup]:
     """The groups of a page or a picture in the order of the tree: those chosen, and all above."""
     rows = {0, *(each.row for group in plan.groups if view.has(group)
                  for each in (group, *plan.above(group)))}
@@ -198,24 +198,24 @@ def family(plan: Plan, view: View) -> list[Planned]:
             if group.row in rows]
 
 
-def rows(plan: Plan, view: View) -> list[Planned]:
+def rows(plan: Plan, view: View) -> list[PlannedGroup]:
     """The groups of a page or a picture that have a row: a container may be in that of its pod."""
     ones = {one.row for group in plan.groups if (one := asking_one(group)) is not group}
     return [group for group in family(plan, view) if group.row not in ones]
 
 
-def size(group: Planned) -> int:
+def size(group: PlannedGroup) -> int:
     """The number of groups from a group on down."""
     return sum(1 for _ in walk([group]))
 
 
-def is_one_of(group: Planned, view: View) -> bool:
+def is_one_of(group: PlannedGroup, view: View) -> bool:
     """Whether a group is chosen, deep enough, and in one of the states asked for."""
     return (group.depth <= view.depth and view.has(group)
             and (not view.only or any(ONLY[name](group) for name in view.only)))
 
 
-def shown_groups(plan: Plan, view: View) -> Iterator[tuple[Planned, int]]:
+def shown_groups(plan: Plan, view: View) -> Iterator[tuple[PlannedGroup, int]]:
     """The groups of the table in its order, and how deep each stands in it."""
     if view.is_flat:
         yield from ((each, 0) for each in ordered(plan.groups, view) if is_one_of(each, view))
@@ -245,7 +245,7 @@ def limiting(plan: Plan, unit: str) -> str:
     return listed(groups, 8) or "the demands alone"
 
 
-def span(plan: Plan, group: Planned, outlook: Outlook) -> tuple[int, int] | None:
+def span(plan: Plan, group: PlannedGroup, outlook: Outlook) -> tuple[int, int] | None:
     """The range of what a group may be given by where its tasks run, in slices of one period; None
     for one that is firm: it has its plan wherever they run."""
     bounds, host = outlook.ranges[group.path], plan.model.host
@@ -330,7 +330,7 @@ def amounts(plan: Plan, slices: int | None) -> dict[str, Any] | None:
             "usec": slices * plan.model.host.slice_us}
 
 
-def range_data(plan: Plan, group: Planned, outlook: Outlook) -> dict[str, Any] | None:
+def range_data(plan: Plan, group: PlannedGroup, outlook: Outlook) -> dict[str, Any] | None:
     """Whether a group is firm, or its range; None where that is not known."""
     if group.path not in outlook.ranges:
         return None
@@ -350,7 +350,7 @@ def with_placement(plan: Plan, data: dict[str, Any], outlook: Outlook) -> dict[s
     return {**data, "placement": {"not_known": why, "grain": round(outlook.grain, 4)}}
 
 
-def group_data(plan: Plan, group: Planned, view: View) -> dict[str, Any]:
+def group_data(plan: Plan, group: PlannedGroup, view: View) -> dict[str, Any]:
     reason, own = plan.reason(group), group.group
     above = plan.groups[group.parent].path if group.parent is not None else None
     shown_ = {head: amounts(plan, slices) for head, slices in view.amounts(group).items()}

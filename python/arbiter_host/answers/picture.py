@@ -13,7 +13,7 @@ from arbiter_host.answers.explain import View
 from arbiter_host.base import svg, text
 from arbiter_host.base.faults import HostFault
 from arbiter_host.base.names import cut
-from arbiter_host.base.plan import Plan, Planned
+from arbiter_host.base.plan import Plan, PlannedGroup
 
 ROW, INDENT, BARS, EDGE, HEAD = 20, 14, 400, 16, 70
 NAME_CELLS, NOTE_CELLS = 48, 128
@@ -28,9 +28,9 @@ class Entry:
     """One row: a group in words, and the places of the rows right below it. `one` has its amounts:
     the one container of a pod, else the group itself. `tight` has its limit."""
 
-    group: Planned
-    one: Planned
-    tight: Planned
+    group: PlannedGroup
+    one: PlannedGroup
+    tight: PlannedGroup
     name: str
     note: str
     title: str
@@ -38,7 +38,7 @@ class Entry:
     below: list[int] = field(default_factory=list)
 
 
-def entry_of(plan: Plan, group: Planned, view: View) -> Entry:
+def entry_of(plan: Plan, group: PlannedGroup, view: View) -> Entry:
     one = explain.asking_one(group) if group.depth < view.depth else group
     tight, cells = explain.tighter(group, one), view.cells(plan, one)
     more = "" if tight.limit is None or one.parent is None else (

@@ -12,7 +12,7 @@ from arbiter_host.answers.explain import View, asking_one
 from arbiter_host.base import text
 from arbiter_host.base.html import bar, rendered
 from arbiter_host.base.names import below, common_parent, last_name, parent_path, short, shown
-from arbiter_host.base.plan import Plan, Planned
+from arbiter_host.base.plan import Plan, PlannedGroup
 
 # Trees of at most so many groups are open when the page is.
 OPEN_GROUPS = 150
@@ -22,7 +22,7 @@ KINDS = {"green": "up", "red": "down"}
 Row = dict[str, Any]
 
 
-def title_of(group: Planned) -> str:
+def title_of(group: PlannedGroup) -> str:
     """The name for people, where it tells more than the group's own name and those above it."""
     name = last_name(group.path).replace(":", "/")
     is_told = f"/{group.title}".replace(":", "/").endswith(f"/{name}")
@@ -35,7 +35,7 @@ def within(path: str, prefix: str) -> str:
     return "" if above == "." else short(shown(above))
 
 
-def row(plan: Plan, group: Planned, view: View) -> Row:
+def row(plan: Plan, group: PlannedGroup, view: View) -> Row:
     """The cells of a group, or of a pod with its one container, and what the search reads."""
     one = asking_one(group)
     tight = explain.tighter(group, one)

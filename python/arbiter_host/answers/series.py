@@ -137,7 +137,7 @@ def sample_periods(usec: int, period: int) -> int:
 
 
 @dataclass
-class Asked:
+class ReplayRows:
     """What samples ask of a host: its groups, the demands of each in each sample, and the periods
     of a sample."""
 
@@ -181,7 +181,7 @@ def settings_of(model: Model) -> QuotaColumns:
 
 
 def asked_of(engine: Engine, model: Model, history: History, unit: str, path_of: Mapping[str, str],
-             periods: int) -> Asked:
+             periods: int) -> ReplayRows:
     """The samples of a history. Columns of no path are left out."""
     model, asked = model.copy(), array("Q")
     slices = model.conversions(engine.library)
@@ -190,7 +190,7 @@ def asked_of(engine: Engine, model: Model, history: History, unit: str, path_of:
         asked.extend([0, *(slices.demand(group.usable) if group.demand else 0
                            for group in model.groups.values())])
     carries = array("Q", [0, *(group.saved for group in model.groups.values())])
-    return Asked(checked(model.host), [".", *model.groups], settings_of(model), asked, carries,
+    return ReplayRows(checked(model.host), [".", *model.groups], settings_of(model), asked, carries,
                     periods)
 
 

@@ -1,4 +1,4 @@
-"""Intervals between looks: what each leaf used and wanted, and the accepted plan of that."""
+"""Intervals between readings: what each leaf used and wanted, and the accepted plan of that."""
 from __future__ import annotations
 
 import math
@@ -14,37 +14,37 @@ from arbiter_host.base.faults import HostFault
 from arbiter_host.base.model import Group, Model
 from arbiter_host.base.names import shown
 from arbiter_host.base.plan import Engine, Plan, asking, plan
-from arbiter_host.sources.looks import CAME, Look, Span, between
+from arbiter_host.sources.readings import CAME, TreeReading, Span, between
 from arbiter_host.sources.usage import some
 
 AWAY = "groups while nothing was measured"
-# Groups times looks. A look at a group takes about a kilobyte.
+# Groups times readings. A look at a group takes about a kilobyte.
 MOST_COUNTED = 400_000
 
 
-def collected(seen: Iterable[Look], count: int = 0) -> list[Look]:
-    """Looks as a list, of which so many are to come. Equal settings are kept once, and looks at
+def collected(seen: Iterable[TreeReading], count: int = 0) -> list[TreeReading]:
+    """Readings as a list, of which so many are to come. Equal settings are kept once, and those of
     a tree are named by the seconds since the first."""
     def settings_of(model: Model) -> list[tuple[object, ...]]:
         return [(path, each.weight, each.quota, each.period, each.burst)
                 for path, each in model.groups.items()]
 
-    looks_: list[Look] = []
+    found: list[TreeReading] = []
     for each in seen:
         if not each.model.groups:
             raise HostFault("no groups with the cpu controller are below this folder")
-        if looks_ and each.at <= looks_[-1].at:
+        if found and each.at <= found[-1].at:
             raise HostFault("the clock went back between two looks: begin again")
-        if looks_ and settings_of(looks_[-1].model) == settings_of(each.model):
-            notes = dict.fromkeys([*looks_[-1].model.notes, *each.model.notes])
-            each.model, each.model.notes = looks_[-1].model, list(notes)
-        looks_.append(each)
-        many = max(count, len(looks_))
+        if found and settings_of(found[-1].model) == settings_of(each.model):
+            notes = dict.fromkeys([*found[-1].model.notes, *each.model.notes])
+            each.model, each.model.notes = found[-1].model, list(notes)
+        found.append(each)
+        many = max(count, len(found))
         if many * len(each.model.groups) > MOST_COUNTED:
             raise HostFault(f"{many} looks at {len(each.model.groups)} groups are too many: take"
                             " fewer readings, or a longer --step")
-        each.name = each.name or f"{units.decimal(each.at - looks_[0].at, 1)} s"
-    return looks_
+        each.name = each.name or f"{units.decimal(each.at - found[0].at, 1)} s"
+    return found
 
 
 @dataclass(frozen=True)
@@ -83,7 +83,7 @@ class Cell(Off):
 
 @dataclass(frozen=True)
 class Interval:
-    """What was between two looks: the leaves measured at both, and why others were not."""
+    """What was between two readings: the leaves measured at both, and why others were not."""
 
     name: str
     seconds: Fraction
@@ -133,7 +133,7 @@ def with_demands(model: Model, cells: Mapping[str, Cell]) -> Model:
     return after
 
 
-def unplanned_of(one: Look, two: Look, cells: Mapping[str, Cell]) -> Fraction | None:
+def unplanned_of(one: TreeReading, two: TreeReading, cells: Mapping[str, Cell]) -> Fraction | None:
     """What the whole used above what its leaves did."""
     whole = between(one, two, ".") if "." in one.counted else CAME
     if isinstance(whole, str):
@@ -141,9 +141,9 @@ def unplanned_of(one: Look, two: Look, cells: Mapping[str, Cell]) -> Fraction | 
     return max(whole.used - sum(each.used for each in cells.values()), Fraction(0))
 
 
-def interval_of(engine: Engine, one: Look, two: Look, want: str | None,
+def interval_of(engine: Engine, one: TreeReading, two: TreeReading, want: str | None,
                 away: bool) -> tuple[Interval, Plan | None]:
-    """The interval between two looks, and its plan; none where no leaf was measured at both. The
+    """The interval between two readings, and its plan; none where no leaf was measured at both. The
     settings are those of its end."""
     model, cells, holes = two.model, dict[str, Cell](), dict[str, str]()
     for path, below in model.children().items():
@@ -177,8 +177,8 @@ def told_holes(intervals: Sequence[Interval]) -> list[str]:
             for why, counts in reasons.items()]
 
 
-def notes_of(seen: Sequence[Look], intervals: Sequence[Interval]) -> list[str]:
-    """What is told of all looks and intervals."""
+def notes_of(seen: Sequence[TreeReading], intervals: Sequence[Interval]) -> list[str]:
+    """What is told of all readings and intervals."""
     notes = told_holes(intervals)
     if all(each.reading.pressure is None for look in seen for of_path in look.counted.values()
            for each in of_path.values()):
@@ -196,9 +196,9 @@ def notes_of(seen: Sequence[Look], intervals: Sequence[Interval]) -> list[str]:
     return notes
 
 
-def audited(engine: Engine, seen: Sequence[Look], want: str | None, away: set[int],
+def audited(engine: Engine, seen: Sequence[TreeReading], want: str | None, away: set[int],
             tick: Callable[[], None]) -> Audit:
-    """The plan beside what was used, from each look to the next. `away` has the places of looks
+    """The plan beside what was used, from each look to the next. `away` has the places of readings
     before which nothing was measured."""
     if len(seen) < 2:
         raise HostFault("one look alone: an interval is from one to the next. Take more readings,"

@@ -13,7 +13,7 @@ from arbiter_host.base.faults import HostFault, UsageFault
 from arbiter_host.base.model import Model
 from arbiter_host.base.names import cut, last_name, shown
 from arbiter_host.sources import prometheus
-from arbiter_host.sources.looks import Counted, Look
+from arbiter_host.sources.readings import Counted, TreeReading
 from arbiter_host.sources.samples import time_name
 from arbiter_host.sources.usage import some
 
@@ -35,7 +35,7 @@ SCALES = {"usage": 10**6, "pressure": 10**6, "at": 1000}
 SELECTOR = re.compile(r'\{(?:[^{}"]|"(?:[^"\\]|\\.)*")*\}')
 # Greatest value of a counter that is read: above it a float has no whole microseconds.
 MOST = 2.0**53
-# Steps that may pass between two looks: with more the server was away.
+# Steps that may pass between two readings: with more the server was away.
 MOST_STEPS = Fraction(3, 2)
 # Labels of a series, without its metric.
 Labels = frozenset[tuple[str, str]]
@@ -195,15 +195,15 @@ def with_limits(model: Model, limits: Mapping[str, tuple[int, int]]) -> Model:
     return replace(model, groups=groups)
 
 
-def looks(server: Prometheus, model: Model) -> tuple[list[Look], list[str]]:
-    """The looks at the groups of a model, and what is told of the series."""
+def readings_of(server: Prometheus, model: Model) -> tuple[list[TreeReading], list[str]]:
+    """The readings of the groups of a model, and what is told of the series."""
     measured, notes = fetched(server, model)
     models: dict[frozenset[object], Model] = {}
     made = []
     for at in sorted({at for labels in measured.leaves for at in measured.series["usage"][labels]}):
         limits = measured.limits(at)
         same = models.setdefault(frozenset(limits.items()), with_limits(model, limits))
-        look = Look(Fraction(at, 1000), same, name=time_name(str(at // 1000)))
+        look = TreeReading(Fraction(at, 1000), same, name=time_name(str(at // 1000)))
         for labels, path in measured.leaves.items():
             if at in measured.series["usage"][labels]:
                 look.counted.setdefault(path, {})[labels] = measured.counted(labels, at)
@@ -214,8 +214,8 @@ def looks(server: Prometheus, model: Model) -> tuple[list[Look], list[str]]:
     return made, notes
 
 
-def gaps(seen: Sequence[Look]) -> set[int]:
-    """The places of looks before which the server was away: more than a step passed."""
+def gaps(seen: Sequence[TreeReading]) -> set[int]:
+    """The places of readings before which the server was away: more than a step passed."""
     passed = [two.at - one.at for one, two in zip(seen, seen[1:])]
     least = min(passed, default=Fraction(0))
     return {place for place, each in enumerate(passed, 1) if each > MOST_STEPS * least}

@@ -4,8 +4,8 @@ from __future__ import annotations
 import re
 from collections.abc import Iterable
 
-from arbiter_host.sources import hunger
-from arbiter_host.sources.looks import Span
+from arbiter_host.sources import task_times
+from arbiter_host.sources.readings import Span
 
 # The last kernel with which the model was measured.
 LAST = (6, 12)
@@ -30,7 +30,7 @@ def of_tasks(span: Span) -> str:
     passed, used = int(span.seconds * 10**9), 1000 * (span.risen.usage or 0)
     if not span.after or LEAST * used < passed:
         return ""
-    rises = list(hunger.rises(span.before, span.after))
+    rises = list(task_times.rises(span.before, span.after))
     busy = [each for each in rises if LEAST * each.ran >= passed]
     if 2 * sum(each.ran for each in rises) < used:
         return FORKS

@@ -209,7 +209,7 @@ TABLE = (
            kinds=(HOSTS,)),
     Option(("--workers",), "workers", "many hosts", MANY, "processes of this machine (default: one"
            " for each processor; 0 for this process alone)", "N", is_number=True, kinds=(HOSTS,)),
-    Option(("--scheduler",), "scheduler", "many hosts", MANY, "a running scheduler of Dask, such as"
+    Option(("--dask",), "dask", "many hosts", MANY, "a running scheduler of Dask, such as"
            " tls://host:8786", "ADDRESS", kinds=(HOSTS,)),
     Option(("--from",), "kind", "source", READ, "what the source is (default: found from its name"
            " and its first bytes)", choices=KINDS),

@@ -94,7 +94,7 @@ def engine_of(path: str | None = None, changes: bool = False) -> Engine:
 
 
 @dataclass(slots=True)
-class Planned:
+class PlannedGroup:
     """One group of a plan. Row 0 is the root, whose limit is the capacity."""
 
     row: int
@@ -111,7 +111,7 @@ class Planned:
     # Sum of the weights of its children that can use a slice, and their number.
     active_weight: int
     active: int
-    children: list[Planned] = field(default_factory=list)
+    children: list[PlannedGroup] = field(default_factory=list)
     depth: int = 0
 
     @property
@@ -160,7 +160,7 @@ class Plan:
     """The plan of the next period of a model, accepted by the proved check."""
 
     model: Model
-    groups: list[Planned]
+    groups: list[PlannedGroup]
     answer: Answer = field(repr=False)
     engine: Engine = field(repr=False)
 
@@ -171,11 +171,11 @@ class Plan:
         return f"{'library' if library.is_proved else 'checked build'} {library.path}"
 
     @property
-    def root(self) -> Planned:
+    def root(self) -> PlannedGroup:
         return self.groups[0]
 
     @property
-    def limiting(self) -> list[Planned]:
+    def limiting(self) -> list[PlannedGroup]:
         return [self.groups[row] for row in self.answer.limiting]
 
     @property
@@ -201,10 +201,10 @@ class Plan:
         host = self.model.host
         return slices * host.slice_us * 1000 / host.period_us
 
-    def by_path(self) -> dict[str, Planned]:
+    def by_path(self) -> dict[str, PlannedGroup]:
         return {group.path: group for group in self.groups}
 
-    def above(self, group: Planned) -> Iterator[Planned]:
+    def above(self, group: PlannedGroup) -> Iterator[PlannedGroup]:
         """The groups above a group, without the root, the nearest first."""
         while group.parent:
             group = self.groups[group.parent]
@@ -230,11 +230,11 @@ class Plan:
         with asking("guarantee"):
             return self.engine.library.guarantee(self.planned_host, self.columns, row)
 
-    def reason(self, group: Planned) -> Explanation:
+    def reason(self, group: PlannedGroup) -> Explanation:
         return self.explanations[group.row]
 
 
-def explained(plan_: Plan, group: Planned) -> Explanation:
+def explained(plan_: Plan, group: PlannedGroup) -> Explanation:
     kind, above = plan_.reasons[group.row]
     if kind is Kind.NOTHING_ASKED:
         return Explanation("nothing asked", "nothing asked")
@@ -252,7 +252,7 @@ def explained(plan_: Plan, group: Planned) -> Explanation:
     return by_weight(plan_, group, plan_.groups[above or 0])
 
 
-def by_weight(plan_: Plan, group: Planned, cut: Planned) -> Explanation:
+def by_weight(plan_: Plan, group: PlannedGroup, cut: PlannedGroup) -> Explanation:
     """The reason of a group that gets the part of its weight below a limit."""
     above = plan_.groups[group.parent or 0]
     name = words = "the host is full"
@@ -264,8 +264,8 @@ def by_weight(plan_: Plan, group: Planned, cut: Planned) -> Explanation:
     return Explanation(name, words, cut.path, group.weight, above.active_weight)
 
 
-def walk(tops: Sequence[Planned], below: Callable[[Planned], Sequence[Planned]] =
-         lambda group: group.children) -> Iterator[Planned]:
+def walk(tops: Sequence[PlannedGroup], below: Callable[[PlannedGroup], Sequence[PlannedGroup]] =
+         lambda group: group.children) -> Iterator[PlannedGroup]:
     """Groups from some on down, each right before those that `below` gives of it."""
     waiting = list(reversed(tops))
     while waiting:
@@ -274,10 +274,10 @@ def walk(tops: Sequence[Planned], below: Callable[[Planned], Sequence[Planned]] 
         waiting += reversed(below(group))
 
 
-def planned_of(model: Model, answer: Answer) -> list[Planned]:
+def planned_of(model: Model, answer: Answer) -> list[PlannedGroup]:
     entries: list[tuple[str, Group | None]] = [(".", None), *model.groups.items()]
     rows, figures = answer.columns, answer.figures
-    groups = [Planned(place, path, parent if place else None, weight,
+    groups = [PlannedGroup(place, path, parent if place else None, weight,
                       None if limit == NO_LIMIT else limit, demand, gets, group, want, bool(tight),
                       active_weight, active)
               for place, ((path, group), parent, weight, limit, demand, gets, want, tight,
@@ -304,7 +304,7 @@ def plan(engine: Engine, model: Model) -> Plan:
     return plan_of(engine, model, model.rows(engine.library))
 
 
-def guarantees(before: Plan, chosen: Sequence[Planned]) -> list[int]:
+def guarantees(before: Plan, chosen: Sequence[PlannedGroup]) -> list[int]:
     """What each of some groups gets whatever the groups that are not under it ask for, in slices.
     """
     owed = []

@@ -12,7 +12,7 @@ from arbiter_host.base import search, units
 from arbiter_host.base.atomic_files import Document
 from arbiter_host.exports import Differing, Draft, head
 from arbiter_host.sources.containers import COMPOSE, ContainerSource, service_of
-from arbiter_host.sources.data import number, table, text
+from arbiter_host.sources.data import number, table, text_field
 
 NAME = re.compile(r"[a-zA-Z0-9][a-zA-Z0-9_.-]{0,100}")
 
@@ -84,7 +84,7 @@ def documents(draft: Draft) -> list[Document]:
     for path, container in containers.items():
         project, service = service_of(container)
         if path not in changed and service in projects.get(project, {}):
-            draft.refuse(text(container, "Name").strip("/"),
+            draft.refuse(text_field(container, "Name").strip("/"),
                          f"is of the service {service} too, and does not change")
     return [document(project, services, words[project]) for project, services in projects.items()]
 

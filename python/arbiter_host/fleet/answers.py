@@ -16,7 +16,7 @@ from arbiter.columns import column
 from arbiter_host.answers import series
 from arbiter_host.base.faults import HostFault
 from arbiter_host.base.model import Group, Model, checked
-from arbiter_host.base.plan import Engine, Plan, Planned, plan_of
+from arbiter_host.base.plan import Engine, Plan, PlannedGroup, plan_of
 from arbiter_host.fleet.work import Job, Sent, SentRows
 
 # Most groups that an answer names for one reason.
@@ -58,7 +58,7 @@ def accepted(engine: Engine, host: Host, sent: SentRows) -> Plan:
     return plan_of(engine, model, rows)
 
 
-def leaves(plan: Plan) -> list[Planned]:
+def leaves(plan: Plan) -> list[PlannedGroup]:
     """The groups without children, in which demands are."""
     return [each for each in plan.groups[1:] if not each.children]
 
@@ -134,7 +134,7 @@ def placed(job: Job, plans: Iterator[Plan], told: dict[str, Any]) -> dict[str, A
 def replayed(engine: Engine, host: Host, sent: Sent) -> dict[str, Any]:
     """The sums of each group over all samples."""
     (groups,), told = sent.plans, sent.told
-    asked = series.Asked(
+    asked = series.ReplayRows(
         host, groups.paths,
         QuotaColumns(*(column(kind, each, "settings")
                    for kind, each in zip(SETTINGS, groups.columns, strict=True))),

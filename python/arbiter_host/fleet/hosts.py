@@ -14,7 +14,7 @@ from arbiter_host.base import demands, names
 from arbiter_host.base.faults import HostFault, UsageFault, strerror
 from arbiter_host.fleet.work import HostFile
 from arbiter_host.sources import kubernetes, load, pods
-from arbiter_host.sources.data import below as value_below, loads, table, text
+from arbiter_host.sources.data import field as value_below, loads, table, text_field
 from arbiter_host.sources.usage import Used, of_metrics, some
 
 NODE = re.compile(rb'"kind"\s*:\s*"Node"')
@@ -55,7 +55,7 @@ class Fleet:
         return {each.shape: each for each in reversed(self.pending)}
 
 
-def below(folder: str) -> list[str] | None:
+def field(folder: str) -> list[str] | None:
     """The paths of all files below a folder, without hidden ones; None for a tree of cgroups."""
     def refuse(error: OSError) -> None:
         raise HostFault(f"{names.shown(str(error.filename))}: {strerror(error)}") from error
@@ -104,12 +104,12 @@ def fleet_in(options: argparse.Namespace, files: Sequence[load.Opened],
         return None
     if more:
         for name, bytes_ in files:
-            if bytes_ is None and below(name):
+            if bytes_ is None and field(name):
                 raise UsageFault(f"{names.shown(name)}: many hosts are one source, with no other"
                                  " beside it")
         return None
     if data is None:
-        paths = below(path)
+        paths = field(path)
         return Fleet(named(paths, path)) if paths else None
     is_meant = options.kind in (None, "kubernetes") and not options.node
     items = items_of(path, data) if is_meant else []
@@ -136,7 +136,7 @@ def of_cluster(word: str, items: Sequence[dict[str, Any]], used: Sequence[Used] 
         raise UsageFault(f"{names.shown(word)}: two nodes of one name")
     pending, lost = list[dict[str, Any]](), list[dict[str, Any]]()
     for pod in filter(kubernetes.is_pod, items):
-        place = text(table(pod, "spec"), "nodeName")
+        place = text_field(table(pod, "spec"), "nodeName")
         if place in of_node:
             of_node[place].append(pod)
         elif not kubernetes.has_ended(pod):
@@ -173,7 +173,7 @@ def metrics_of(used: Sequence[Used], want: str) -> dict[str, dict[str, Any]]:
 
 
 def name_of(node: dict[str, Any]) -> str:
-    return text(table(node, "metadata"), "name")
+    return text_field(table(node, "metadata"), "name")
 
 
 def title(pod: dict[str, Any]) -> str:

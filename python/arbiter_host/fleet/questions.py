@@ -100,8 +100,8 @@ def workers_of(options: argparse.Namespace, fleet: Fleet) -> int:
     from arbiter_host.fleet import pool  # (one host needs none)
     if options.workers is not None and not 0 <= options.workers <= pool.MOST_WORKERS:
         raise UsageFault(f"--workers: 0 to {pool.MOST_WORKERS}")
-    if options.workers is not None and options.scheduler is not None:
-        raise UsageFault("--scheduler has its own workers: no --workers")
+    if options.workers is not None and options.dask is not None:
+        raise UsageFault("--dask has its own workers: no --workers")
     most: int = (os.cpu_count() or 1) if options.workers is None else options.workers
     return 0 if len(fleet.hosts) == 1 else min(most, len(fleet.hosts))
 
@@ -121,7 +121,7 @@ def asked(options: argparse.Namespace, job: Job, fleet: Fleet,
             except HostFault as fault:
                 missing[host.name] = fault.message
 
-    replies = pool.replies(workers, options.scheduler, job, files())
+    replies = pool.replies(workers, options.dask, job, files())
     with progress.bar("hosts", len(fleet.hosts)) as tick, closing(replies):
         for name, sent in replies:
             try:

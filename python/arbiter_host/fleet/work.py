@@ -74,7 +74,7 @@ class Sent(NamedTuple):
     told: dict[str, Any]
 
 
-Asked = tuple[list[SentRows], dict[str, Any]]
+SentPlans = tuple[list[SentRows], dict[str, Any]]
 
 
 def sent(model: Model, columns: Columns) -> SentRows:
@@ -86,7 +86,7 @@ def rows(engine: Engine, *models: Model) -> list[SentRows]:
     return [sent(each, Columns.of(each.rows(engine.library))) for each in models]
 
 
-def explained(_: Job, model: Model, engine: Engine) -> Asked:
+def explained(_: Job, model: Model, engine: Engine) -> SentPlans:
     return rows(engine, model), {"notes": len(model.notes), "refused": len(model.refused)}
 
 
@@ -103,7 +103,7 @@ def matched(model: Model, words: Sequence[str]) -> tuple[list[str], set[str]]:
     return fitting, paths
 
 
-def compared(job: Job, model: Model, engine: Engine) -> Asked:
+def compared(job: Job, model: Model, engine: Engine) -> SentPlans:
     words, paths = matched(model, job.sets)
     return rows(engine, model, change.changed(model, words)), {"matched": sorted(paths)}
 
@@ -141,7 +141,7 @@ def pod_of(job: Job, name: str, data: bytes, model: Model, engine: Engine) -> Mo
     return load.of_bytes(options, name, data, engine)
 
 
-def placed(job: Job, model: Model, engine: Engine) -> Asked:
+def placed(job: Job, model: Model, engine: Engine) -> SentPlans:
     """The rows without a pod, and those with each by itself."""
     models, pods = [model], list[dict[str, Any]]()
     for name, data in job.pods:
@@ -154,7 +154,7 @@ def placed(job: Job, model: Model, engine: Engine) -> Asked:
     return rows(engine, *models), {"pods": pods}
 
 
-def replayed(job: Job, model: Model, engine: Engine, history: History) -> Asked:
+def replayed(job: Job, model: Model, engine: Engine, history: History) -> SentPlans:
     """The groups with their settings, and the demands of all samples."""
     missing: list[str] = []
     path_of = series.targets(model, history.columns, job.mapping,

@@ -26,12 +26,12 @@ from arbiter_host.base.model import MAX_DEPTH, Group, Model, TooMany, planned, u
 from arbiter_host.base.names import shown
 from arbiter_host.base.plan import Engine, asking, fault_of
 from arbiter_host.base.safe_files import Gone, Identity, Root
-from arbiter_host.hold.ends import Ends, Sums, served
+from arbiter_host.hold.harm import Harm, Sums, served
 from arbiter_host.setting import apply
 from arbiter_host.setting.apply import BURST, MAXIMUM, WEIGHT, Back, By, Change, Settings
 from arbiter_host.setting.record import Record
-from arbiter_host.sources import cgroup2, hunger, looks
-from arbiter_host.sources.looks import Counted, Times
+from arbiter_host.sources import cgroup2, task_times, readings
+from arbiter_host.sources.readings import Counted, Times
 from arbiter_host.sources.pods import kubelets
 
 # What is told of a round.
@@ -114,7 +114,7 @@ class WriteFault(HostFault):
 def own_folder() -> str:
     """The folder of the group in which this process runs."""
     path = re.search(r"^0::(/.*)$", cgroup2.file_text("/proc/self", "cgroup") or "", re.M)
-    return f"{looks.HOST_TREE}{path.group(1)}" if path else ""
+    return f"{readings.HOST_TREE}{path.group(1)}" if path else ""
 
 
 def own_group() -> Identity | None:
@@ -168,7 +168,7 @@ class Crowded(Exception):
     """More groups of another user than are held one by one."""
 
 
-class HeldTree(looks.Tree):
+class HeldTree(readings.Tree):
     """The tree of a loop, which reads itself what is counted, and what stands in a group that is
     open. The topmost group of another user and those below it are a part of the tree. It is held as
     one group from the time on when it has too many groups, or takes too long."""
@@ -184,7 +184,7 @@ class HeldTree(looks.Tree):
         self.part: Group | None = None
         self.last, self.slow = 0, set[Identity | None]()
 
-    def look(self) -> looks.Look:
+    def look(self) -> readings.TreeReading:
         """A look at all groups. Where there are too many in all, fewer of others are held."""
         while True:
             self.parts = {}
@@ -202,14 +202,14 @@ class HeldTree(looks.Tree):
         self.whole |= slow & self.slow
         self.slow = slow
 
-    def add(self, look: looks.Look, entry: os.DirEntry[str], above: str, depth: int,
+    def add(self, look: readings.TreeReading, entry: os.DirEntry[str], above: str, depth: int,
             taken: set[str]) -> bool:
         """Adds one group and those below it."""
         if self.part and len(look.model.groups) >= self.last:
             raise Crowded
         return super().add(look, entry, above, depth, taken)
 
-    def add_below(self, look: looks.Look, group: Group, depth: int) -> bool:
+    def add_below(self, look: readings.TreeReading, group: Group, depth: int) -> bool:
         """Adds the groups below one, unless they are a part that is held as one."""
         if self.part or not depth or not is_of_others(group.place):
             return super().add_below(look, group, depth)
@@ -229,7 +229,7 @@ class HeldTree(looks.Tree):
                         " they take too long to read: they are held as one"]
         return False
 
-    def read(self, look: looks.Look, group: Group, entry: os.DirEntry[str]) -> bool:
+    def read(self, look: readings.TreeReading, group: Group, entry: os.DirEntry[str]) -> bool:
         """Reads a group. One that is open has others below it where its folder has more links."""
         if self.part:
             self.parts[group.path] = self.part
@@ -239,10 +239,10 @@ class HeldTree(looks.Tree):
         group.identity = kept.identity
         return os.fstat(self.loop.root.kept[kept.folder]).st_nlink != LINKS
 
-    def measure(self, look: looks.Look, group: Group, handle: int) -> None:
+    def measure(self, look: readings.TreeReading, group: Group, handle: int) -> None:
         """Leaves that to the loop."""
 
-    def add_tasks(self, look: looks.Look, leaf: Group) -> None:
+    def add_tasks(self, look: readings.TreeReading, leaf: Group) -> None:
         if self.loop.ways.has_weights:
             super().add_tasks(look, leaf)
 
@@ -271,7 +271,7 @@ class Loop:
         # The folder of each group with what stood in it, is written and may stand, as the undo
         # file has it.
         self.undo: list[tuple[str, Settings, Settings, Settings]] = []
-        self.ends = Ends(host.processors * (host.period_us // host.slice_us))
+        self.harm = Harm(host.processors * (host.period_us // host.slice_us))
         # Whether the limits of a round are written, and whether they stay at the end.
         self.is_written, self.stays = record is not None, False
         # The last time and the microseconds used outside the tree; None after it was told.
@@ -294,8 +294,8 @@ class Loop:
         has_waited = before is None or rise(before.reading.pressure, reading.pressure)
         if not is_leaf or not has_waited:
             return Counted(reading)
-        list_ = self.text(folder, "cgroup.threads", hunger.MOST_TEXT)
-        return Counted(reading, hunger.tasks(list_))
+        list_ = self.text(folder, "cgroup.threads", task_times.MOST_TEXT)
+        return Counted(reading, task_times.tasks(list_))
 
     def take_up(self, group: Group, is_leaf: bool) -> None:
         """Opens a group that is new, and reads what stands in it."""
@@ -378,7 +378,7 @@ class Loop:
             raise HostFault(f"{shown(self.tree.top)}: the cpu controller is not enabled here"
                             " (cgroup.subtree_control): no group has a limit")
 
-    def look_outside(self, look: looks.Look) -> None:
+    def look_outside(self, look: readings.TreeReading) -> None:
         """Tells once if much is used outside the tree, whose plan counts on all CPUs."""
         top = look.counted.get(".")
         if self.outside is None or not top or os.path.realpath(self.root.path) == self.tree.top:
@@ -459,15 +459,16 @@ class Loop:
             return IDLE
         before, kept.stat = kept.counted, stat
         kept.counted = self.counted(kept.folder, stat, kept.is_leaf, before)
-        rose = looks.risen(before, kept.counted)
+        rose = readings.risen(before, kept.counted)
         kept.is_idle = rose.usage == 0 and not rose.pressure
         if rose.usage is None or passed <= 0:
             raise HostFault(f"{shown(kept.folder)}: its reading is older than the last: nothing is"
                             " written")
         try:
-            return looks.reading_of(
+            return readings.reading_of(
                 self.engine.library, self.small, rose, passed, before.threads,
-                kept.counted.threads, looks.allowed(limit.quota, limit.period, limit.burst, passed))
+                kept.counted.threads,
+                readings.allowed(limit.quota, limit.period, limit.burst, passed))
         except (Refused, OverflowError) as error:
             raise fault_of(shown(kept.folder), error) from error
 
@@ -642,7 +643,7 @@ class Loop:
 
     def is_over(self, line: Line) -> bool:
         """Whether the rounds up to one tell that limits do harm here. It is said why."""
-        why = self.ends.take(line) if self.is_written else ""
+        why = self.harm.take(line) if self.is_written else ""
         if why:
             output.warn(f"{why}: limits do not help here, and the loop ends")
         return bool(why)

@@ -447,7 +447,7 @@ def take_back(back: Back, entry: dict[str, Any], is_forced: bool) -> bool:
 def read_undo(content: bytes, name: str, is_forced: bool = False) -> Back:
     """The way back of an undo file. `is_forced`: also over what somebody set since."""
     record = data.loads(content, name)
-    if data.number(record, "arbiter_undo") != VERSION or not data.text(record, "root"):
+    if data.number(record, "arbiter_undo") != VERSION or not data.text_field(record, "root"):
         raise HostFault(f"{name}: no undo file of `arbiterctl apply`")
     by = (By.FILES if record.get("systemd") is not True else
           By.PERSISTENT if record.get("persistent") is True else By.RUNTIME)

@@ -10,8 +10,8 @@ from arbiter_host.base import units
 from arbiter_host.base.faults import HostFault, UsageFault
 from arbiter_host.base.model import Model
 from arbiter_host.base.names import shown
-from arbiter_host.sources import looks
-from arbiter_host.sources.wish import Wish
+from arbiter_host.sources import readings
+from arbiter_host.sources.source_options import SourceOptions
 
 
 def time_option(text: str, option: str) -> int:
@@ -29,9 +29,9 @@ def period_and_slice(options: argparse.Namespace) -> tuple[int | None, int | Non
     return period, slice_
 
 
-def of_host(options: argparse.Namespace, library: Library) -> Wish:
+def of_host(options: argparse.Namespace, library: Library) -> SourceOptions:
     """What is asked of the host alone."""
-    return Wish(library, options.cpus, *period_and_slice(options))
+    return SourceOptions(library, options.cpus, *period_and_slice(options))
 
 
 def of_samples(options: argparse.Namespace, library: Library, kind: str, model: Model, unit: str,
@@ -52,7 +52,7 @@ def machine(options: argparse.Namespace, library: Library, want: str = "") -> Ho
     return replace(of_host(options, library), want=want).machine()
 
 
-def times_of(options: argparse.Namespace) -> looks.Times:
+def times_of(options: argparse.Namespace) -> readings.Times:
     """How often a source is read: twice where that is not said."""
-    times = looks.times_of(options.read or "2x1s")
+    times = readings.times_of(options.read or "2x1s")
     return times if times.number else times._replace(number=2)

@@ -7,8 +7,8 @@ from fractions import Fraction
 from arbiter import Host
 from arbiter_host.base import demands, units
 from arbiter_host.base.model import Model, bound_notes
-from arbiter_host.sources import looks, systemd
-from arbiter_host.sources.looks import OverTime, Times
+from arbiter_host.sources import readings, systemd
+from arbiter_host.sources.readings import OverTime, Times
 
 
 def own_notes(model: Model, series: OverTime) -> list[str]:
@@ -42,7 +42,7 @@ def read(folders: Sequence[str], host: Host, times: Times = Times(), want: str =
     """The model of a tree, which is read so often if its demands are taken from use, or of its
     copies. Its settings are those of the first reading."""
     is_once = want not in demands.OF_USE
-    series = looks.series_of(folders[:1] if is_once else folders, host,
+    series = readings.series_of(folders[:1] if is_once else folders, host,
                              Times(times.interval, 1) if is_once else times)
     model = series.first.model
     if not model.groups:

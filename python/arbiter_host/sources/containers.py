@@ -14,10 +14,10 @@ from arbiter_host.base.faults import HostFault
 from arbiter_host.base.model import MAX_CAPACITY, Group, Model, bound_notes, check_count, checked
 from arbiter_host.base.owned import NONE, Range, Setting
 from arbiter_host.sources import systemd
-from arbiter_host.sources.data import below, loads, number, table, text
+from arbiter_host.sources.data import field, loads, number, table, text_field
 from arbiter_host.sources.measurable import Measurable
 from arbiter_host.sources.usage import Used
-from arbiter_host.sources.wish import File, Wish
+from arbiter_host.sources.source_options import File, SourceOptions
 
 NANO = 10**9
 # What the labels of compose begin with.
@@ -43,13 +43,13 @@ def place_of(container: Inspected, driver: str) -> tuple[str, str]:
     Podman tells both of a container that runs. crun makes the group `container` in it on cgroup v2;
     the settings are those of the folder.
     """
-    identifier, is_docker = text(container, "Id"), not is_podman(container)
-    told = text(container, "State", "CgroupPath").strip("/").removesuffix("/container")
+    identifier, is_docker = text_field(container, "Id"), not is_podman(container)
+    told = text_field(container, "State", "CgroupPath").strip("/").removesuffix("/container")
     above, _, last = told.rpartition("/")
     if above and identifier and identifier in last:
         return above, last
     name = f"{'docker' if is_docker else 'libpod'}-{identifier}.scope"
-    parent = text(container, "HostConfig", "CgroupParent").strip("/")
+    parent = text_field(container, "HostConfig", "CgroupParent").strip("/")
     if parent.endswith(".slice") and "/" not in parent and driver == "systemd":
         parent = names.slice_folder(parent)
     default = "machine.slice"
@@ -87,14 +87,14 @@ def parent_path(model: Model, folder: str) -> str:
 
 def service_of(container: Inspected) -> tuple[str, str]:
     """The project and the service that compose's labels of a container name; empty for none."""
-    project, service = (text(container, "Config", "Labels", f"{COMPOSE}{key}")
+    project, service = (text_field(container, "Config", "Labels", f"{COMPOSE}{key}")
                         for key in ("project", "service"))
     return project, service
 
 
 def is_running(container: Inspected) -> bool:
     """Whether a container has a group: its state does not say that it ended."""
-    return below(container, "State", "Running") is not False
+    return field(container, "State", "Running") is not False
 
 
 def config_with(container: Inspected, setting: Setting, host: Host) -> Inspected:
@@ -146,7 +146,7 @@ class ContainerSource(Measurable):
         taken: dict[str, set[str]] = {}
         paths = [self.add(model, each, taken) for each in self.running]
         model.notes += bound_notes([path for path, each in zip(paths, self.running)
-                                    if text(each, "HostConfig", "CpusetCpus")])
+                                    if text_field(each, "HostConfig", "CpusetCpus")])
         want, places = self.wish.want, {path: (at, 0) for at, path in enumerate(paths)}
         if want == "request" or want in demands.OF_USE and not self.known:
             raise HostFault(f"--want {want} needs --used: containers have limit and busy", 2)
@@ -154,9 +154,10 @@ class ContainerSource(Measurable):
         measured |= {path: self.known.get(place, Measured()) for path, place in places.items()}
         demands.set_demands(model, measured, want, self.seconds)
         for state in ("Paused", "Restarting"):
+            word = state.lower()
             demands.stop(model, [path for path, each in zip(paths, self.running)
-                                 if below(each, "State", state) is True
-                                 or text(each, "State", "Status") == state.lower()], state.lower())
+                                 if field(each, "State", state) is True
+                                 or text_field(each, "State", "Status") == word], word)
         return model, places
 
     def add(self, model: Model, container: Inspected, taken: dict[str, set[str]]) -> str:
@@ -164,7 +165,7 @@ class ContainerSource(Measurable):
         each folder."""
         folder, scope = place_of(container, self.wish.driver)
         parent = parent_path(model, folder)
-        raw = text(container, "Name").strip("/") or text(container, "Id") or "unnamed"
+        raw = text_field(container, "Name").strip("/") or text_field(container, "Id") or "unnamed"
         others = taken.setdefault(parent, set())
         name = names.path_name(raw, others)
         if names.joined(parent, name) in model.groups:
@@ -172,7 +173,7 @@ class ContainerSource(Measurable):
             name = names.path_name(raw, others)
         others.add(name)
         group = model.add(Group(names.joined(parent, name), place=f"{folder}/{scope}",
-                                title=text(container, "Config", "Image")))
+                                title=text_field(container, "Config", "Image")))
         config = table(container, "HostConfig")
         shares = number(config, "CpuShares")
         if shares > 0:
@@ -188,7 +189,7 @@ class ContainerSource(Measurable):
 
     def folders_by(self, driver: str) -> dict[Place, str]:
         return {(at, 0): "/".join(place_of(each, driver)) for at, each in enumerate(self.running)
-                if text(each, "Id")}
+                if text_field(each, "Id")}
 
     def owner(self, path: str) -> str:
         """The service of compose of which it is one of several containers, else itself."""
@@ -205,8 +206,8 @@ class ContainerSource(Measurable):
     @functools.cached_property
     def by_word(self) -> tuple[dict[str, int], dict[str, int]]:
         """The containers by their identifiers, as docker prints them, and by their names."""
-        return ({text(each, "Id")[:SHORT_ID]: at for at, each in enumerate(self.running)},
-                {text(each, "Name").strip("/"): at for at, each in enumerate(self.running)})
+        return ({text_field(each, "Id")[:SHORT_ID]: at for at, each in enumerate(self.running)},
+                {text_field(each, "Name").strip("/"): at for at, each in enumerate(self.running)})
 
     def changed(self, settings: Sequence[Setting]) -> ContainerSource:
         running = list(self.running)
@@ -228,13 +229,13 @@ class ContainerSource(Measurable):
                       lambda each: cpus_text(Fraction(each)), f"{self.host.processors} are all")]
 
 
-def read(files: Sequence[File], library: Library, wish: Wish) -> Model:
+def read(files: Sequence[File], library: Library, wish: SourceOptions) -> Model:
     """The model of the containers of some files."""
     raw: list[Inspected] = []
     for name, data in files:
         entries = loads(data, name)
         entries = [entries] if isinstance(entries, dict) else entries
-        if not isinstance(entries, list) or not all(isinstance(below(each, "HostConfig"), dict)
+        if not isinstance(entries, list) or not all(isinstance(field(each, "HostConfig"), dict)
                                                     for each in entries):
             raise HostFault(f"{name}: no containers as `docker inspect` prints them")
         raw += entries

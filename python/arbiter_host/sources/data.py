@@ -61,7 +61,7 @@ def cells_of(cells: Sequence[str], head: Sequence[str], where: str,
     return dict(zip(head, cells))
 
 
-def below(value: Any, *keys: str) -> Any:
+def field(value: Any, *keys: str) -> Any:
     """The value below tables, by their keys; None where there is none."""
     for key in keys:
         value = value.get(key) if isinstance(value, dict) else None
@@ -70,25 +70,25 @@ def below(value: Any, *keys: str) -> Any:
 
 def table(value: Any, *keys: str) -> dict[str, Any]:
     """A table below a value; an empty one where there is none."""
-    inner = below(value, *keys)
+    inner = field(value, *keys)
     return inner if isinstance(inner, dict) else {}
 
 
 def tables(value: Any, *keys: str) -> list[dict[str, Any]]:
     """The tables of a list below a value."""
-    rows = below(value, *keys)
+    rows = field(value, *keys)
     return [each for each in rows if isinstance(each, dict)] if isinstance(rows, list) else []
 
 
-def text(value: Any, *keys: str) -> str:
+def text_field(value: Any, *keys: str) -> str:
     """A text below a value; empty where there is none."""
-    word = below(value, *keys)
+    word = field(value, *keys)
     return word[:MAX_TEXT] if isinstance(word, str) else ""
 
 
 def number(value: Any, *keys: str) -> int:
     """A whole number below a value, at most 2^63; 0 where there is none."""
-    inner = below(value, *keys)
+    inner = field(value, *keys)
     if isinstance(inner, bool) or not isinstance(inner, int):
         return 0
     return min(max(inner, -2**63), 2**63)

@@ -26,7 +26,7 @@ from arbiter_host.base.faults import HostFault, naming
 from arbiter_host.base.model import Group, Model, check_count, check_settings, checked
 from arbiter_host.sources.data import decoded
 from arbiter_host.sources.register import is_json
-from arbiter_host.sources.wish import File, Wish, only
+from arbiter_host.sources.source_options import File, SourceOptions, only
 
 # Most bytes of a host file. Tables of TOML take up to 130 times their text in memory.
 MAX_BYTES = 8 << 20
@@ -208,7 +208,7 @@ def model_of(data: bytes, name: str, is_toml: bool) -> Model:
     return model
 
 
-def read(files: Sequence[File], _: Library, wish: Wish) -> Model:
+def read(files: Sequence[File], _: Library, wish: SourceOptions) -> Model:
     """The model of a host file, with what is asked for in place of its host."""
     name, data = only(files, "host file")
     model = model_of(data, name, not is_json(data))

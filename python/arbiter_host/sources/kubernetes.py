@@ -21,13 +21,13 @@ from arbiter_host.base.faults import HostFault, NoHost
 from arbiter_host.base.model import NO_POD, Group, Model, PodNames, check_count, checked
 from arbiter_host.base.names import NOWHERE, shown
 from arbiter_host.base.owned import Amounts, Owned, Range, Setting
-from arbiter_host.sources.data import below, loads, table, text
+from arbiter_host.sources.data import field, loads, table, text_field
 from arbiter_host.sources.measurable import Measurable
 from arbiter_host.sources.pods import (CLASSES, TOP, Container, NodeFacts, Pod, folder_at,
                                        folder_of, names_by, names_of, node_facts, pod_of, requested,
                                        scope_of, thousandths)
 from arbiter_host.sources.usage import Used, of_metrics
-from arbiter_host.sources.wish import DRIVERS, File, Wish
+from arbiter_host.sources.source_options import DRIVERS, File, SourceOptions
 
 ENDED = ("Succeeded", "Failed")
 # Kinds that make pods of a template.
@@ -39,25 +39,26 @@ MOST_REQUEST = units.MAX_SHARES * 1000 // 1024
 def made_by(maker: dict[str, Any]) -> dict[str, Any]:
     """One pod that an object makes of its template, by the object's name."""
     metadata, template = table(maker, "metadata"), table(maker, "spec", "template")
-    owner = {"kind": text(maker, "kind"), "name": text(metadata, "name"), "controller": True}
+    name = text_field(metadata, "name")
+    owner = {"kind": text_field(maker, "kind"), "name": name, "controller": True}
     return {"kind": "Pod", "spec": table(template, "spec"),
-            "metadata": {"name": text(metadata, "name"), "namespace": text(metadata, "namespace"),
+            "metadata": {"name": name, "namespace": text_field(metadata, "namespace"),
                          "labels": table(template, "metadata", "labels"),
                          "ownerReferences": [owner]}}
 
 
 def items_of(data: Any, name: str) -> list[dict[str, Any]]:
     """The objects of a file: a list's items, or the one object. What makes pods stands for one."""
-    items = data if isinstance(data, list) else below(data, "items")
+    items = data if isinstance(data, list) else field(data, "items")
     if isinstance(items, list):
         for at, each in enumerate(items, 1):
             if not isinstance(each, dict):
                 raise HostFault(f"{name}: item {at} is no object")
-        kind = text(data, "kind").removesuffix("List") or "Pod"
+        kind = text_field(data, "kind").removesuffix("List") or "Pod"
         return items if kind not in ("Pod", "Node") else [{"kind": kind, **each} for each in items]
-    if below(data, "kind") in ("Pod", "Node"):
+    if field(data, "kind") in ("Pod", "Node"):
         return [data]
-    if below(data, "kind") in MAKERS:
+    if field(data, "kind") in MAKERS:
         return [made_by(data)]
     raise HostFault(f"{name}: no pods or node as kubectl prints them with -o json")
 
@@ -76,7 +77,7 @@ def is_pod(item: dict[str, Any]) -> bool:
 
 def other_kinds(items: Sequence[dict[str, Any]]) -> list[str]:
     """A note of objects that are neither pods nor nodes nor what was used, if there are any."""
-    others = [text(each, "kind") for each in items
+    others = [text_field(each, "kind") for each in items
               if each.get("kind", "Pod") not in ("Pod", "Node", "PodMetrics")]
     return [f"objects of other kinds, left out: {len(others)}:"
             f" {names.few(sorted(set(map(shown, others))))}"] if others else []
@@ -84,7 +85,7 @@ def other_kinds(items: Sequence[dict[str, Any]]) -> list[str]:
 
 def has_ended(item: dict[str, Any]) -> bool:
     """Whether a pod has ended, so that it has no group."""
-    return text(item, "status", "phase") in ENDED
+    return text_field(item, "status", "phase") in ENDED
 
 
 def several(what: str, nodes: Iterable[str]) -> HostFault:
@@ -100,13 +101,13 @@ def pods_on(items: Sequence[dict[str, Any]], node: str, notes: list[str]) -> lis
     describes does not wait.
     """
     pods = [each for each in items if is_pod(each)]
-    placed = [each for each in pods if text(each, "spec", "nodeName")
-              or text(each, "status", "phase") != "Pending"]
-    if len(placed) < len(pods) and any(text(each, "spec", "nodeName") for each in pods):
+    placed = [each for each in pods if text_field(each, "spec", "nodeName")
+              or text_field(each, "status", "phase") != "Pending"]
+    if len(placed) < len(pods) and any(text_field(each, "spec", "nodeName") for each in pods):
         notes.append(f"pods that no node has yet, left out: {len(pods) - len(placed)}")
         pods = placed
-    pods = [each for each in pods if not node or text(each, "spec", "nodeName") in ("", node)]
-    nodes = {text(each, "spec", "nodeName") for each in pods} - {""}
+    pods = [each for each in pods if not node or text_field(each, "spec", "nodeName") in ("", node)]
+    nodes = {text_field(each, "spec", "nodeName") for each in pods} - {""}
     if len(nodes) > 1:
         raise several(f"the pods are of {len(nodes)} nodes", nodes)
     lasting = [each for each in pods if not has_ended(each)]
@@ -117,9 +118,9 @@ def pods_on(items: Sequence[dict[str, Any]], node: str, notes: list[str]) -> lis
     return [pod_of(each, notes) for each in lasting]
 
 
-def node_of(items: Sequence[dict[str, Any]], wish: Wish) -> dict[str, Any] | None:
+def node_of(items: Sequence[dict[str, Any]], wish: SourceOptions) -> dict[str, Any] | None:
     """The node of that name, or the only one."""
-    nodes = [(text(each, "metadata", "name"), each) for each in items
+    nodes = [(text_field(each, "metadata", "name"), each) for each in items
              if each.get("kind") == "Node"]
     known = [name for name, _ in nodes]
     if nodes and wish.node and wish.node not in known:
@@ -435,18 +436,18 @@ def requested_by(pods: Sequence[Pod]) -> int:
     return sum(pod.amounts.request or 0 for pod in pods)
 
 
-def read(files: Sequence[File], library: Library, wish: Wish) -> Model:
+def read(files: Sequence[File], library: Library, wish: SourceOptions) -> Model:
     """The model of a node from the files of its pods and of the node itself."""
     wish = wish.for_containers("request", TOP)
     items = [item for name, data in files for item in items_of(loads(data, name), name)]
     node = node_of(items, wish)
     notes = other_kinds(items)
-    capacity, allocatable = (thousandths(below(node, "status", key, "cpu"), "node", notes)
+    capacity, allocatable = (thousandths(field(node, "status", key, "cpu"), "node", notes)
                              for key in ("capacity", "allocatable"))
     if not capacity and wish.cpus is None:
         raise NoHost("number of CPUs unknown: pass the node's JSON or --cpus")
     host = wish.host(Host(max((capacity or 0) // 1000, 1), units.DEFAULT_PERIOD, 1000))
-    pods = pods_on(items, text(node, "metadata", "name") if node else wish.node, notes)
+    pods = pods_on(items, text_field(node, "metadata", "name") if node else wish.node, notes)
     notes += [] if pods else ["no pod is in these files that has not ended"]
     if node is None:
         notes.append("no node's JSON: kubepods has weight 100")

@@ -15,9 +15,9 @@ from arbiter_host.base import demands, names, options as table, output, plain_fi
 from arbiter_host.base.faults import HostFault, RefusedLines, UsageFault
 from arbiter_host.base.model import Model
 from arbiter_host.base.plan import Engine
-from arbiter_host.sources import by_options, looks
+from arbiter_host.sources import by_options, readings
 from arbiter_host.sources.register import READERS
-from arbiter_host.sources.wish import File, Wish
+from arbiter_host.sources.source_options import File, SourceOptions
 
 # A path and its bytes; None stands for a folder.
 Opened = tuple[str, bytes | None]
@@ -36,7 +36,7 @@ def kind_of(path: str, data: bytes | None) -> str:
                  if each.is_one(name, b"" if is_named else data)), "script")
 
 
-def wish_of(options: argparse.Namespace, library: Library) -> Wish:
+def wish_of(options: argparse.Namespace, library: Library) -> SourceOptions:
     """What the options ask of a source."""
     host, weights = by_options.of_host(options, library), options.node_weights
     tree = options.root if getattr(options, "asked", "") == "apply" else ""
@@ -58,7 +58,7 @@ def of_service(options: argparse.Namespace, word: str) -> list[Opened]:
     service, times = RunningService(word), by_options.times_of(options)
     is_once = service.kind != "systemd" or options.asked in ("diff", "apply") or (
         (options.want or "usage") not in demands.OF_USE)
-    return [(word, service.source(options.node)) for _ in looks.turns(
+    return [(word, service.source(options.node)) for _ in readings.turns(
         times._replace(number=1) if is_once else times)]
 
 

@@ -13,7 +13,7 @@ from arbiter_host.base.faults import HostFault
 from arbiter_host.base.model import Model
 from arbiter_host.base.owned import Owned
 from arbiter_host.sources.usage import Used, some
-from arbiter_host.sources.wish import DRIVERS, Wish
+from arbiter_host.sources.source_options import DRIVERS, SourceOptions
 
 S = TypeVar("S", bound="Measurable")
 # What entries are of that name no container here.
@@ -26,7 +26,7 @@ class Measurable(Owned):
     """Containers as they were read, and what was measured of them."""
 
     library: Library
-    wish: Wish
+    wish: SourceOptions
     host: Host
     notes: tuple[str, ...] = field(default=(), kw_only=True)
     # What was measured of containers, and the seconds from one reading to the next.

@@ -17,7 +17,7 @@ from arbiter_host.base import units
 from arbiter_host.base.faults import HostFault, naming
 from arbiter_host.base.names import NOWHERE, shown, slice_folder
 from arbiter_host.base.owned import Amounts
-from arbiter_host.sources.data import below, table, tables, text
+from arbiter_host.sources.data import field, table, tables, text_field
 
 TOP = "kubepods"
 KEYS = ("requests", "limits")
@@ -201,7 +201,7 @@ def thousandths(value: Any, where: str, notes: list[str]) -> int | None:
 
 def amounts_of(resources: dict[str, Any], where: str, notes: list[str]) -> Amounts:
     """Request and limit of CPU. A limit without a request is the request too."""
-    limit, request = (thousandths(below(resources, key, "cpu"), where, notes)
+    limit, request = (thousandths(field(resources, key, "cpu"), where, notes)
                       for key in ("limits", "requests"))
     return Amounts(limit if request is None else request, limit)
 
@@ -221,17 +221,17 @@ def asked_amounts(container: dict[str, Any], status: dict[str, Any], where: str,
 def containers_of(pod: dict[str, Any], where: str, notes: list[str]) -> tuple[Container, ...]:
     """All containers of a pod: init containers first, in order. One that has ended is not begun
     again by the policy `Never`, nor by `OnFailure` after a success."""
-    containers, policy = [], text(pod, "spec", "restartPolicy")
+    containers, policy = [], text_field(pod, "spec", "restartPolicy")
     for key, statuses in (("initContainers", "initContainerStatuses"),
                           ("containers", "containerStatuses")):
-        status = {text(each, "name"): each for each in tables(pod, "status", statuses)}
+        status = {text_field(each, "name"): each for each in tables(pod, "status", statuses)}
         for each in tables(pod, "spec", key):
-            name, is_init = text(each, "name") or "unnamed", key == "initContainers"
-            is_sidecar = is_init and text(each, "restartPolicy") == "Always"
+            name, is_init = text_field(each, "name") or "unnamed", key == "initContainers"
+            is_sidecar = is_init and text_field(each, "restartPolicy") == "Always"
             known = status.get(name, {})
             state = table(known, "state")
-            runtime, _, identifier = text(known, "containerID").partition("://")
-            has_failed = bool(below(state, "terminated", "exitCode"))
+            runtime, _, identifier = text_field(known, "containerID").partition("://")
+            has_failed = bool(field(state, "terminated", "exitCode"))
             is_over = "terminated" in state and (
                 policy == "Never" or policy == "OnFailure" and not has_failed)
             has_group = is_sidecar or not is_over and (not is_init or "running" in state)
@@ -281,7 +281,7 @@ def memory_of(container: dict[str, Any], where: str) -> Amounts:
     """
     with naming(where):
         request, limit = (None if value is None else math.ceil(number_of(value, "memory"))
-                          for value in (below(container, "resources", key, "memory")
+                          for value in (field(container, "resources", key, "memory")
                                         for key in KEYS))
     return Amounts(limit if request is None else request, limit)
 
@@ -298,12 +298,12 @@ def whole_amounts(own: Amounts, is_requested: bool, parts: Sequence[Container]) 
 def names_of(pod: dict[str, Any]) -> tuple[str, str]:
     """The namespace and the name of a pod."""
     metadata = table(pod, "metadata")
-    return text(metadata, "namespace") or "default", text(metadata, "name") or "unnamed"
+    return text_field(metadata, "namespace") or "default", text_field(metadata, "name") or "unnamed"
 
 
 def pairs_of(labels: dict[str, Any]) -> tuple[tuple[str, str], ...]:
     """Labels in order: those of a pod or a node, or those that a pod's node must have."""
-    return tuple(sorted((key, text(labels, key)) for key in labels))
+    return tuple(sorted((key, text_field(labels, key)) for key in labels))
 
 
 def owner_of(pod: dict[str, Any]) -> str:
@@ -311,8 +311,8 @@ def owner_of(pod: dict[str, Any]) -> str:
     with the pod's hash behind its name is its Deployment's."""
     owner = next((each for each in tables(pod, "metadata", "ownerReferences")
                   if each.get("controller") is True), None)
-    kind, name, (namespace, _) = text(owner, "kind"), text(owner, "name"), names_of(pod)
-    mark = text(pod, "metadata", "labels", "pod-template-hash")
+    kind, name, (namespace, _) = text_field(owner, "kind"), text_field(owner, "name"), names_of(pod)
+    mark = text_field(pod, "metadata", "labels", "pod-template-hash")
     if kind == "ReplicaSet" and mark and name.endswith(f"-{mark}"):
         kind, name = "Deployment", name.removesuffix(f"-{mark}")
     return f"{kind} {namespace}/{name}" if kind in TEMPLATED and name else ""
@@ -327,7 +327,7 @@ def names_by(owner: str) -> re.Pattern[str]:
 def pod_of(pod: dict[str, Any], notes: list[str]) -> Pod:
     """A pod as kubelet reckons with it."""
     metadata, spec, (namespace, name) = table(pod, "metadata"), table(pod, "spec"), names_of(pod)
-    where, told = f"{namespace}/{name}", text(pod, "status", "qosClass")
+    where, told = f"{namespace}/{name}", text_field(pod, "status", "qosClass")
     is_whole = any({"cpu", "memory"} & table(spec, "resources", key).keys() for key in KEYS)
     parts, asked = containers_of(pod, where, notes), table(spec, "resources", "requests")
     memory = [memory_of(each, where) for key in ("initContainers", "containers")
@@ -339,27 +339,28 @@ def pod_of(pod: dict[str, Any], notes: list[str]) -> Pod:
     return Pod(
         namespace, name,
         # The mirror of a static pod has an identifier that is not the one of its group.
-        uid=text(metadata, "annotations", MIRROR) or text(metadata, "uid"),
+        uid=text_field(metadata, "annotations", MIRROR) or text_field(metadata, "uid"),
         parts=parts,
-        overhead=thousandths(below(spec, "overhead", "cpu"), where, notes) or 0,
+        overhead=thousandths(field(spec, "overhead", "cpu"), where, notes) or 0,
         own=own, is_whole=is_whole,
         told=told if told in CLASSES else "",
         asks_memory=any(each.request or each.limit for each in memory),
         is_memory_equal=all(each.limit and each.request == each.limit for each in memory),
         selector=pairs_of(table(spec, "nodeSelector")),
         tolerations=tuple(Toleration(
-            text(each, "key"), None if text(each, "operator") == "Exists" else text(each, "value"),
-            text(each, "effect")) for each in tables(spec, "tolerations")),
+            text_field(each, "key"),
+            None if text_field(each, "operator") == "Exists" else text_field(each, "value"),
+            text_field(each, "effect")) for each in tables(spec, "tolerations")),
         labels=pairs_of(table(metadata, "labels")), owner=owner_of(pod),
-        is_static=bool(text(metadata, "annotations", MIRROR)))
+        is_static=bool(text_field(metadata, "annotations", MIRROR)))
 
 
 def node_facts(node: dict[str, Any] | None) -> NodeFacts:
     """What a node's JSON says of the pods that it takes."""
-    return NodeFacts(below(node, "spec", "unschedulable") is True,
-                     tuple(Taint(*(text(each, key) for key in Taint._fields))
+    return NodeFacts(field(node, "spec", "unschedulable") is True,
+                     tuple(Taint(*(text_field(each, key) for key in Taint._fields))
                            for each in tables(node, "spec", "taints")
-                           if text(each, "effect") in EFFECTS),
+                           if text_field(each, "effect") in EFFECTS),
                      pairs_of(table(node, "metadata", "labels")))
 
 

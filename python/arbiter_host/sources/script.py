@@ -16,7 +16,7 @@ from arbiter_host.base.faults import HostFault
 from arbiter_host.base.model import MAX_PROCESSORS, Group, Model, checked
 from arbiter_host.base.plan import asking
 from arbiter_host.base.units import Slices
-from arbiter_host.sources.wish import File, Wish, only
+from arbiter_host.sources.source_options import File, SourceOptions, only
 
 HEAD = re.compile(r"^#\s*(?:\./)?arbiter run((?:\s+--[a-z]+[ =][0-9]{1,9})+)\s*(?:<.*)?$")
 # Lines above which a comment may speak of a group.
@@ -124,7 +124,7 @@ def script_lines(data: bytes) -> list[bytes]:
     return lines[:-1] if lines[-1] == b"" else lines
 
 
-def read(files: Sequence[File], library: Library, wish: Wish) -> Model:
+def read(files: Sequence[File], library: Library, wish: SourceOptions) -> Model:
     """The model at the end of a script, with what is asked for in place of what it tells."""
     name, data = only(files, "script")
     told = head_host(script_lines(data))

@@ -18,7 +18,7 @@ from urllib.parse import urlencode
 
 from arbiter_host.base.faults import HostFault, UsageFault, strerror
 from arbiter_host.base.names import cut, shown
-from arbiter_host.sources.data import MAX_BYTES, below, loads
+from arbiter_host.sources.data import MAX_BYTES, field, loads
 from arbiter_host.sources.kubernetes import items_of
 
 # The words before all others by which each tool asks its service.
@@ -87,10 +87,10 @@ class RunningService:
             size, page = size + len(data), loads(data, path)
             if size > MAX_BYTES:
                 break
-            if not isinstance(below(page, "items"), list):
+            if not isinstance(field(page, "items"), list):
                 raise HostFault(f"{path}: no list of objects")
             yield from ({**each, "kind": kind} for each in items_of(page, path))
-            mark = str(below(page, "metadata", "continue") or "")
+            mark = str(field(page, "metadata", "continue") or "")
             if not mark:
                 return
         raise HostFault(f"{path}: more than {MAX_BYTES >> 20} MiB, or {MOST_PAGES} pages")

@@ -23,9 +23,9 @@ from arbiter_host.base.demands import CounterReading, Measured
 from arbiter_host.base.faults import HostFault, NoHost, naming
 from arbiter_host.base.model import Group, Model, check_count
 from arbiter_host.base.names import NOWHERE, listed, shown
-from arbiter_host.sources.data import cells_of, decoded, loads, number, table, tables, text
+from arbiter_host.sources.data import cells_of, decoded, loads, number, table, tables, text_field
 from arbiter_host.sources.register import AVERAGE, USED, part_of_jobs
-from arbiter_host.sources.wish import File, Wish
+from arbiter_host.sources.source_options import File, SourceOptions
 
 # The folder of a job.
 JOB = re.compile(r"job_[0-9]+")
@@ -132,7 +132,7 @@ def time_of(word: str) -> int:
 
 def cores_of(node: dict[str, Any]) -> int:
     """How many cores of a node a job was allotted, as Slurm 22.05 tells them."""
-    return sum(text(cores, core) == "allocated" for socket in table(node, "sockets").values()
+    return sum(text_field(cores, core) == "allocated" for socket in table(node, "sockets").values()
                for cores in [table(socket, "cores")] for core in cores)
 
 
@@ -142,9 +142,9 @@ def allotted(raw: dict[str, Any]) -> list[tuple[str, int, bool]]:
     cores = list(map(cores_of, older))
     if sum(cores):
         # (`cpus_used` there is 0 of some jobs that run)
-        return [(text(each, "nodename"), -(-cpus * many // sum(cores)), True)
+        return [(text_field(each, "nodename"), -(-cpus * many // sum(cores)), True)
                 for each, many in zip(older, cores)]
-    return [(text(each, "name"), number(each, "cpus", "count"),
+    return [(text_field(each, "name"), number(each, "cpus", "count"),
              any(tables(socket, "cores") for socket in tables(each, "sockets")))
             for each in tables(raw, "job_resources", "nodes", "allocation")]
 
@@ -168,9 +168,9 @@ def states_of(raw: dict[str, Any]) -> set[str]:
 
 def job_of(raw: dict[str, Any], node: str) -> SlurmJob:
     """A job of `squeue --json` or `scontrol show job --json`."""
-    job = SlurmJob(str(number(raw, "job_id")), text(raw, "user_name"), text(raw, "name"),
-                   nodes=hosts_of(text(raw, "nodes")), alias=alias_of(raw),
-                   is_suspended=not states_of(raw) & set(ACTIVE))
+    job = SlurmJob(str(number(raw, "job_id")), text_field(raw, "user_name"),
+                   text_field(raw, "name"), nodes=hosts_of(text_field(raw, "nodes")),
+                   alias=alias_of(raw), is_suspended=not states_of(raw) & set(ACTIVE))
     told = allotted(raw)
     here = [(cpus, cores) for name, cpus, cores in told if name == node or len(told) == 1]
     job.whole.cpus, job.has_cores = here[0] if here else (
@@ -275,7 +275,8 @@ def jobs_of(files: Mapping[str, list[File]], node: str) -> tuple[dict[str, Slurm
 
 def node_of(nodes: Sequence[dict[str, Any]], jobs: Iterable[SlurmJob]) -> str:
     """The name of the only node."""
-    known = {text(each, "name") for each in nodes} or {each for job in jobs for each in job.nodes}
+    known = {text_field(each, "name") for each in nodes} or {
+        each for job in jobs for each in job.nodes}
     if len(known) > 1:
         some = ", ".join(shown(each) for each in sorted(known)[:5])
         raise HostFault(f"{len(known)} nodes ({some}): choose one by --node")
@@ -286,7 +287,7 @@ def host_of(nodes: Sequence[dict[str, Any]], name: str) -> Host:
     """The host of a node: the CPUs that jobs may have."""
     for each in nodes:
         cpus = number(each, "effective_cpus") or number(each, "cpus")
-        if text(each, "name") == name and cpus:
+        if text_field(each, "name") == name and cpus:
             return Host(cpus, units.DEFAULT_PERIOD, 1000)
     raise NoHost("number of CPUs unknown: pass `sinfo --json`, `scontrol show node --json` or"
                  " --cpus")
@@ -358,14 +359,14 @@ def on_node(jobs: Iterable[SlurmJob], name: str) -> list[SlurmJob]:
     return here
 
 
-def read(files: Sequence[File], _: Library, wish: Wish) -> Model:
+def read(files: Sequence[File], _: Library, wish: SourceOptions) -> Model:
     """The model of one node's jobs."""
     parts: dict[str, list[File]] = {"jobs": [], "sacct": [], "sstat": [], "nodes": []}
     for file in files:
         parts.setdefault(part_of_jobs(file[1]), []).append(file)
     check_parts(files[0][0], parts)
     nodes = [each for name, data in parts["nodes"] for each in tables(loads(data, name), "nodes")]
-    node = wish.node or (text(nodes[0], "name") if len(nodes) == 1 else "")
+    node = wish.node or (text_field(nodes[0], "name") if len(nodes) == 1 else "")
     jobs, left, others = jobs_of(parts, node)
     name = node or node_of(nodes, jobs.values())
     told = Host() if wish.cpus is not None else host_of(nodes, name)

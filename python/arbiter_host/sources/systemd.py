@@ -18,7 +18,7 @@ from arbiter_host.base.faults import HostFault
 from arbiter_host.base.model import MAX_DEPTH, Group, Model, bound_notes, check_settings, checked
 from arbiter_host.base.names import shown
 from arbiter_host.base.owned import NONE, Owned, Range, Setting
-from arbiter_host.sources.wish import File, Wish
+from arbiter_host.sources.source_options import File, SourceOptions
 
 NOT_SET = ("", "[not set]", "infinity", "18446744073709551615")
 # A quota of systemd is a number of hundredths of a percent of one CPU.
@@ -284,7 +284,7 @@ class TreeSource(Units):
         return replace(self, settings_since=(*self.settings_since, *settings))
 
 
-def read(files: Sequence[File], _: Library, wish: Wish) -> Model:
+def read(files: Sequence[File], _: Library, wish: SourceOptions) -> Model:
     """The model of one file, or of several that were printed some seconds apart."""
     readings = [{path_of(unit): unit for unit in blocks(data)} for _, data in files]
     if not any("Id" in unit for unit in readings[0].values()):

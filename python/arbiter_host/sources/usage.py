@@ -20,8 +20,8 @@ from arbiter_host.base import units
 from arbiter_host.base.demands import Times
 from arbiter_host.base.faults import HostFault, naming
 from arbiter_host.base.names import cut, few, shown
-from arbiter_host.sources.data import (MAX_TEXT, below, cells_of, check_memory, check_size, loads,
-                                       tables, text)
+from arbiter_host.sources.data import (MAX_TEXT, field, cells_of, check_memory, check_size, loads,
+                                       tables, text_field)
 from arbiter_host.sources.pods import quantity
 from arbiter_host.sources.register import BLANK
 
@@ -104,7 +104,7 @@ def of_stats(row: Any, where: str) -> Iterator[Used]:
     if keys is None:
         raise HostFault(f"{where}: no container as `docker stats --no-stream --format json` prints"
                         " it")
-    cpu, processes, container, *identifiers = (text(row, key) for key in keys)
+    cpu, processes, container, *identifiers = (text_field(row, key) for key in keys)
     if cpu not in ("", "--") and processes != "0":
         yield Used((amount_of(cpu, where),), container=container.lstrip("/"),
                    identifier=next(filter(None, identifiers), ""))
@@ -126,18 +126,18 @@ def of_text(data: bytes, name: str) -> Iterator[Used]:
         if is_stats:
             yield from of_stats(row, where)
         else:
-            yield Used((amount_of(row["cpu"][:MAX_TEXT], where),), text(row, "namespace"),
-                       text(row, "pod"), text(row, "container"))
+            yield Used((amount_of(row["cpu"][:MAX_TEXT], where),), text_field(row, "namespace"),
+                       text_field(row, "pod"), text_field(row, "container"))
 
 
 def of_metrics(items: Sequence[dict[str, Any]], name: str) -> Iterator[Used]:
     """The entries of metrics-server: of each pod its containers."""
     for item in items:
-        namespace, pod = (text(item, "metadata", key) for key in ("namespace", "name"))
+        namespace, pod = (text_field(item, "metadata", key) for key in ("namespace", "name"))
         for each in tables(item, "containers"):
-            container = text(each, "name")
+            container = text_field(each, "name")
             where = f"{name}: {shown(f'{namespace}/{pod}/{container}')}"
-            amount = amount_of(str(below(each, "usage", "cpu"))[:60], where)
+            amount = amount_of(str(field(each, "usage", "cpu"))[:60], where)
             yield Used((amount,), namespace, pod, container)
 
 
@@ -157,9 +157,9 @@ def of_json(data: bytes, name: str) -> Iterator[Used]:
     check_memory(data, name)
     values = list(of_lines(data, name)) if b'"CPUPerc"' in data else [loads(data, name)]
     first = values[0] if len(values) == 1 else None
-    if text(first, "kind") == "PodMetricsList" or isinstance(below(first, "items"), list):
+    if text_field(first, "kind") == "PodMetricsList" or isinstance(field(first, "items"), list):
         yield from of_metrics(tables(first, "items"), name)
-    elif text(first, "kind") == "PodMetrics":
+    elif text_field(first, "kind") == "PodMetrics":
         yield from of_metrics(values, name)
     else:
         for number, each in enumerate(first if isinstance(first, list) else values, 1):

@@ -19,7 +19,7 @@ from arbiter_host.base import demands, options as table, plain_files, units
 from arbiter_host.base.faults import HostFault, UsageFault
 from arbiter_host.base.names import shown
 from arbiter_host.base.owned import Owned
-from arbiter_host.sources import by_options, looks, prometheus, samples, usage
+from arbiter_host.sources import by_options, readings, prometheus, samples, usage
 from arbiter_host.sources.measurable import Measurable
 from arbiter_host.sources.samples import History, Sample
 from arbiter_host.sources.usage import Used
@@ -174,7 +174,7 @@ def measured_by(options: argparse.Namespace) -> Callable[[Measurable], Owned]:
         if not is_tree(options):
             return source.with_usage(entries(options), name(options))
         times = by_options.times_of(options)
-        known, seconds = looks.measured_at(options.used, times, source.folders())
+        known, seconds = readings.measured_at(options.used, times, source.folders())
         return replace(source, known=known, seconds=seconds)
 
     return measured

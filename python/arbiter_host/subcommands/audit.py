@@ -14,13 +14,14 @@ from arbiter_host.base.model import Model
 from arbiter_host.base.names import shown
 from arbiter_host.base.output import json_text, write_forms
 from arbiter_host.base.plan import Engine, engine_of
-from arbiter_host.sources import by_options, load, looks, prometheus, used
-from arbiter_host.sources.looks import Look, Times
+from arbiter_host.sources import by_options, load, readings, prometheus, used
+from arbiter_host.sources.readings import TreeReading, Times
 from arbiter_host.subcommands.base import source_name
 
 
-def of_range(asked: argparse.Namespace, by: Engine) -> tuple[list[Look], list[str], set[int]]:
-    """The looks of a range of Prometheus, what is told of them, and those after a gap."""
+def of_range(asked: argparse.Namespace, by: Engine
+             ) -> tuple[list[TreeReading], list[str], set[int]]:
+    """The readings of a range of Prometheus, what is told of them, and those after a gap."""
     if not asked.source:
         raise UsageFault("--used: it belongs to a SOURCE whose groups were measured")
     server = ranges.Prometheus(asked.used[0], asked.query or "",
@@ -29,9 +30,9 @@ def of_range(asked: argparse.Namespace, by: Engine) -> tuple[list[Look], list[st
     kind = asked.kind or load.kind_of(*files[0])
     model = load.model_of(used.without(asked, kind), files, by)
     load.warn(model, source_name(asked.source))
-    looks_, notes = ranges.looks(server, model.with_host(
+    found, notes = ranges.readings_of(server, model.with_host(
         by_options.of_host(asked, by.library).of_use(model.host)))
-    return intervals.collected(looks_), notes, ranges.gaps(looks_)
+    return intervals.collected(found), notes, ranges.gaps(found)
 
 
 def times_of(asked: argparse.Namespace, is_live: bool) -> Times:
@@ -40,15 +41,15 @@ def times_of(asked: argparse.Namespace, is_live: bool) -> Times:
         raise UsageFault("--read: how often and how long this tree is read, such as --read 13x5s"
                          if is_live else "--read: the time from one copy to the next, such as"
                          " --read x10s")
-    times = looks.times_of(asked.read)
+    times = readings.times_of(asked.read)
     if is_live and (times.number or 0) < 2:
         raise UsageFault("--read: an interval is from one reading to the next: 2 or more")
     return times
 
 
-def of_trees(asked: argparse.Namespace, library: Library) -> list[Look]:
-    """The looks at copies of a tree, or at one tree again and again."""
-    folders = asked.source or [looks.HOST_TREE]
+def of_trees(asked: argparse.Namespace, library: Library) -> list[TreeReading]:
+    """The readings of copies of a tree, or at one tree again and again."""
+    folders = asked.source or [readings.HOST_TREE]
     for folder in folders:
         if not os.path.exists(folder):
             raise HostFault(f"{shown(folder)}: No such file or directory")
@@ -57,7 +58,7 @@ def of_trees(asked: argparse.Namespace, library: Library) -> list[Look]:
     options.check(asked, "cgroup")
     times = times_of(asked, len(folders) == 1)
     host = by_options.machine(asked, library, "usage")
-    seen = looks.looks_at(folders, host, times, has_threads=True)
+    seen = readings.readings_of(folders, host, times, has_threads=True)
     return intervals.collected(seen, times.number or 0 if len(folders) == 1 else len(folders))
 
 
@@ -87,7 +88,7 @@ def lines_of(ranked: Ranked) -> list[tuple[str, str]]:
 
 def run(asked: argparse.Namespace) -> None:
     """Measures how far off the plan is, and writes the answers."""
-    outputs, name = options.outputs(asked), source_name(asked.source or [looks.HOST_TREE])
+    outputs, name = options.outputs(asked), source_name(asked.source or [readings.HOST_TREE])
     ranked = audited(asked)
     load.warn(Model(notes=ranked.audit.notes), name)
 

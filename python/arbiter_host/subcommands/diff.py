@@ -13,7 +13,7 @@ from arbiter_host.base.names import shown
 from arbiter_host.base.output import json_text, write_forms
 from arbiter_host.base.plan import Engine, engine_of, plan
 from arbiter_host.fleet import questions
-from arbiter_host.sources import change, choosing, load
+from arbiter_host.sources import change, selection, load
 from arbiter_host.subcommands.base import source_name, view_of
 
 
@@ -62,7 +62,7 @@ def chosen(options: argparse.Namespace, models: Sequence[Model]) -> frozenset[st
     groups, faults = list[frozenset[str] | None](), list[NothingFound]()
     for model in models:
         try:
-            groups.append(choosing.chosen(model, options))
+            groups.append(selection.chosen(model, options))
         except NothingFound as fault:
             faults.append(fault)
     if not groups:

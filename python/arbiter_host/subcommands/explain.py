@@ -10,13 +10,13 @@ from arbiter_host.base import options as table
 from arbiter_host.base.output import json_text, write_forms
 from arbiter_host.base.plan import Plan, engine_of, guarantees, plan
 from arbiter_host.fleet import questions
-from arbiter_host.sources import choosing
+from arbiter_host.sources import selection
 from arbiter_host.subcommands.base import loaded, source_name, view_of
 
 
 def shown_view(options: argparse.Namespace, plan: Plan) -> View:
     """What is shown of a plan, with what the groups are guaranteed where that is asked for."""
-    view = view_of(options, choosing.chosen(plan.model, options))
+    view = view_of(options, selection.chosen(plan.model, options))
     if not options.guaranteed:
         return view
     groups = [group for group in plan.groups[1:] if explain.is_one_of(group, view)]

@@ -21,9 +21,9 @@ from arbiter_host.base import lines, options, output, safe_files
 from arbiter_host.base.faults import HostFault, UsageFault
 from arbiter_host.base.model import MAX_CAPACITY, MAX_DEPTH
 from arbiter_host.base.plan import engine_of
-from arbiter_host.hold import ends, hold
+from arbiter_host.hold import harm, hold
 from arbiter_host.setting import record
-from arbiter_host.sources import by_options, looks
+from arbiter_host.sources import by_options, readings
 
 if TYPE_CHECKING:
     from arbiter_host.top.metrics import File
@@ -78,7 +78,7 @@ class Service:
     lines of JSON, and in a file of metrics."""
 
     def __init__(self, notifier: Notifier, file: File | None = None,
-                 shadow: ends.Shadow | None = None) -> None:
+                 shadow: harm.Shadow | None = None) -> None:
         self.notifier, self.file, self.shadow = notifier, file, shadow
         self.warn = output.Remarks().tell
         # The signals that end it. A hangup that the caller ignores, as nohup does, ends none.
@@ -142,12 +142,12 @@ class Service:
                 self.warn([fault.message])
 
 
-def times_of(asked: argparse.Namespace, period: int) -> looks.Times:
+def times_of(asked: argparse.Namespace, period: int) -> readings.Times:
     """How long a round is, and how many readings there are."""
-    times = looks.times_of(asked.read)
+    times = readings.times_of(asked.read)
     if period not in PERIODS:
         raise UsageFault("--period: 100ms or 1s")
-    if times.interval * looks.MICROSECONDS < period:
+    if times.interval * readings.MICROSECONDS < period:
         raise UsageFault("--read: a round lasts at least the period")
     if times.number == 1:
         raise UsageFault("--read: a round is from one reading to the next: 2 or more")
@@ -181,10 +181,10 @@ def machine(asked: argparse.Namespace, root: safe_files.Root, library: Library) 
 
 def is_real(root: safe_files.Root) -> bool:
     """Whether a tree is that of this machine, by whatever path it is reached."""
-    if f"{root.path}/".startswith(f"{looks.HOST_TREE}/"):
+    if f"{root.path}/".startswith(f"{readings.HOST_TREE}/"):
         return True
     try:
-        return os.stat(root.path).st_dev == os.stat(looks.HOST_TREE).st_dev
+        return os.stat(root.path).st_dev == os.stat(readings.HOST_TREE).st_dev
     except OSError:
         return False
 
@@ -228,7 +228,7 @@ def run(asked: argparse.Namespace) -> None:
     with ExitStack() as stack:
         kept = locked(root, asked, stack) if asked.yes else None
         stack.callback(root.close)
-        shadow = None if asked.yes else ends.Shadow(host.period_us // host.slice_us)
+        shadow = None if asked.yes else harm.Shadow(host.period_us // host.slice_us)
         service = Service(Notifier(), metrics_file(asked, stack), shadow)
         stack.enter_context(service.begun())
         words = (engine, root, asked.source, host)

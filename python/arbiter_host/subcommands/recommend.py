@@ -15,7 +15,7 @@ from arbiter_host.base.plan import Engine, engine_of
 from arbiter_host.fleet import hosts as cluster
 from arbiter_host.fleet.hosts import Fleet
 from arbiter_host.recommend import Advised, Recommendation, SeenHost
-from arbiter_host.sources import by_options, change, choosing, kubernetes, load, used
+from arbiter_host.sources import by_options, change, selection, kubernetes, load, used
 from arbiter_host.sources.data import loads
 from arbiter_host.sources.measurable import Measurable, measured
 from arbiter_host.sources.register import READERS
@@ -81,7 +81,7 @@ def chosen_of(options: argparse.Namespace, models: Sequence[tuple[str, Model]]
     for name, model in models:
         try:
             is_other = len(models) > 1 and options.node not in ("", name)
-            chosen.append(frozenset() if is_other else choosing.chosen(model, options))
+            chosen.append(frozenset() if is_other else selection.chosen(model, options))
         except NothingFound as fault:
             faults.append(fault)
             chosen.append(frozenset())

@@ -10,7 +10,7 @@ from arbiter_host.base.faults import HostFault, UsageFault
 from arbiter_host.base.model import Model
 from arbiter_host.base.plan import Engine, engine_of
 from arbiter_host.fleet import questions
-from arbiter_host.sources import by_options, choosing, load, used
+from arbiter_host.sources import by_options, selection, load, used
 from arbiter_host.sources.usage import some
 from arbiter_host.subcommands.base import source_name
 
@@ -26,7 +26,7 @@ def shown_groups(options: argparse.Namespace, model: Model) -> list[str]:
     """The groups that are chosen, in order; `.` is the host itself. Empty for those of columns."""
     rest = [each for each in options.group if each != "."]
     host = ["."] if len(rest) < len(options.group) else []
-    paths = choosing.chosen(model, argparse.Namespace(**{**vars(options), "group": rest}))
+    paths = selection.chosen(model, argparse.Namespace(**{**vars(options), "group": rest}))
     return host + [path for path in model.groups if path in (paths or ())]
 
 

@@ -20,7 +20,7 @@ from arbiter_host.base.faults import Alerted, HostFault, UsageFault, strerror
 from arbiter_host.base.model import PodNames
 from arbiter_host.base.names import shown
 from arbiter_host.base.plan import Plan, engine_of, plan
-from arbiter_host.sources import by_options, choosing, kubernetes, load, looks
+from arbiter_host.sources import by_options, selection, kubernetes, load, readings
 from arbiter_host.subcommands.base import view_of
 from arbiter_host.top import top, viewer
 
@@ -39,11 +39,11 @@ OF_TABLE = ("group", "namespace", "selector", "state", "sort", "depth", "unit", 
 def reader(asked: argparse.Namespace, wanted: Sequence[top.Condition],
            warn: Callable[[str], None]) -> tuple[Callable[[], top.PlannedRound], int]:
     """Reader of a round, and the readings that it takes before the first one."""
-    by, paths = engine_of(asked.library), asked.source or [looks.HOST_TREE]
+    by, paths = engine_of(asked.library), asked.source or [readings.HOST_TREE]
     if len(paths) == 1 and os.path.isdir(paths[0]) and asked.kind in (None, "cgroup"):
         options.check(asked, "cgroup")
         want = asked.want or "psi"
-        tree = looks.Tree(paths[0], by_options.machine(asked, by.library, want), time.monotonic)
+        tree = readings.Tree(paths[0], by_options.machine(asked, by.library, want), time.monotonic)
         ask = functools.partial(pod_names, asked) if asked.pod else None
         return top.Watched(by, tree, want, ask, warn).round, 1
     if "-" in paths:
@@ -136,7 +136,7 @@ class Watch:
 
 
 def shown_view(asked: argparse.Namespace, plan: Plan) -> View:
-    return view_of(asked, choosing.chosen(plan.model, asked))
+    return view_of(asked, selection.chosen(plan.model, asked))
 
 
 def form_of(asked: argparse.Namespace) -> tuple[str, str]:
@@ -166,7 +166,7 @@ def run(asked: argparse.Namespace) -> None:
             and each.dest in asked.given]
     if form == "json" and idle:
         raise UsageFault(f"{idle[0]}: it has no effect on lines of json (-o text)")
-    times = looks.times_of(asked.read or ("x1s" if form == "live" else "x15s"))
+    times = readings.times_of(asked.read or ("x1s" if form == "live" else "x15s"))
     view_of(asked)
     try:
         watch = Watch(asked, form, file)

@@ -10,11 +10,11 @@ from arbiter_host.base.model import MAX_PROCESSORS
 from arbiter_host.base.names import short, shown
 from arbiter_host.base.output import json_text, write_forms
 from arbiter_host.base.plan import engine_of, plan
-from arbiter_host.sources import change, choosing
+from arbiter_host.sources import change, selection
 from arbiter_host.subcommands.base import loaded
-from arbiter_host.tune import knobs, tune
+from arbiter_host.tune import single_settings, tune
 from arbiter_host.tune.goals import Clash, Goal, Way
-from arbiter_host.tune.knobs import Knob
+from arbiter_host.tune.single_settings import SingleSetting
 from arbiter_host.tune.tune import Tuned
 
 # Demands under which goals are met.
@@ -33,10 +33,10 @@ def run(options: argparse.Namespace) -> None:
     model = loaded(options, by)
     before = plan(by, change.warned(model, change.changed(model, options.set)))
     answer = tune.tune(before, options.goal, options.guaranteed,
-                       choosing.chosen(before.model, options))
+                       selection.chosen(before.model, options))
     if answer.best is not None:
         change.warned(before.model, answer.best.plan.model)
-    write_forms(outputs, {"text": lambda: Told(answer, options.unit).lines(),
+    write_forms(outputs, {"text": lambda: TuneText(answer, options.unit).lines(),
                           "json": lambda: json_text(tune.as_data(answer))})
     if answer.is_nothing:
         raise NothingFound("no settings were found that meet the goals")
@@ -46,7 +46,7 @@ def name(path: str) -> str:
     return short(shown(path))
 
 
-class Told:
+class TuneText:
     """The answer in lines, with amounts in a unit."""
 
     def __init__(self, answer: Tuned, unit: str) -> None:
@@ -127,22 +127,22 @@ class Told:
         """The lines of each setting of the group of one goal alone."""
         if not self.answer.alone:
             return []
-        rows = [("alone", "now", "least", "who pays"), *map(self.knob, self.answer.alone)]
-        styles = ["bold", *("" if knob.plan else "yellow" for knob in self.answer.alone)]
+        rows = [("alone", "now", "least", "who pays"), *map(self.single, self.answer.alone)]
+        styles = ["bold", *("" if single.plan else "yellow" for single in self.answer.alone)]
         return [("", ""), *zip(text.table(rows, (0, 3)), styles)]
 
-    def knob(self, knob: Knob) -> tuple[str, str, str, str]:
+    def single(self, single: SingleSetting) -> tuple[str, str, str, str]:
         """The row of a setting: a limit in the unit, others as they are."""
         def value(number: int | str | None) -> str:
-            if knob.name == "limit" and isinstance(number, int):
+            if single.name == "limit" and isinstance(number, int):
                 return self.amount(number)
             return "-" if number is None else str(number)
 
-        words = (self.paid(knobs.losses(self.answer.asked, knob)) if knob.plan
-                 else unreached(knob.name, self.before.model.host.processors))
-        told = f" ({shown(knob.told)})" if knob.told else ""
-        label = LABELS.get(knob.name, knob.name) if knob.is_owned else knob.name
-        return label, value(knob.now), value(knob.least), f"{words}{told}"
+        words = (self.paid(single_settings.losses(self.answer.asked, single)) if single.plan
+                 else unreached(single.name, self.before.model.host.processors))
+        told = f" ({shown(single.told)})" if single.told else ""
+        label = LABELS.get(single.name, single.name) if single.is_owned else single.name
+        return label, value(single.now), value(single.least), f"{words}{told}"
 
 
 def unreached(setting: str, processors: int) -> str:

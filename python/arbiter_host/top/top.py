@@ -14,8 +14,8 @@ from arbiter_host.base.faults import HostFault, UsageFault
 from arbiter_host.base.model import NO_POD, PodNames
 from arbiter_host.base.names import shown
 from arbiter_host.base.plan import Engine, Plan, plan
-from arbiter_host.sources import looks
-from arbiter_host.sources.looks import Times
+from arbiter_host.sources import readings
+from arbiter_host.sources.readings import Times
 
 CONDITION = re.compile(r"(starved|throttled|lack|off)(?:>(.+?))?(?: +for +([0-9]{1,6}))?")
 # Failed rounds in a row that end the command.
@@ -169,7 +169,7 @@ def with_use(plan_: Plan) -> PlannedRound:
 class Watched:
     """A tree that is read again and again. Each look is compared with the last."""
 
-    def __init__(self, engine: Engine, tree: looks.Tree, want: str, ask: AskNames | None = None,
+    def __init__(self, engine: Engine, tree: readings.Tree, want: str, ask: AskNames | None = None,
                  warn: Callable[[str], None] = output.warn) -> None:
         self.engine, self.tree, self.want, self.ask, self.warn = engine, tree, want, ask, warn
         # The folders without names for which was asked, and the second from which on is again.
@@ -178,7 +178,7 @@ class Watched:
             tree.pods = ask()
         self.last = tree.look()
 
-    def name(self, look: looks.Look) -> None:
+    def name(self, look: readings.TreeReading) -> None:
         """Asks for names again where pods or containers came that have none, at most once a minute.
         """
         if self.ask and look.unnamed - self.unnamed and time.monotonic() >= self.again:
@@ -195,7 +195,7 @@ class Watched:
         self.last, seconds = now, max(now.at - last.at, Fraction(1, 10**6))
         measured, got, throttled = {}, {}, {}
         for path in now.counted:
-            span, tasks = looks.between(last, now, path), now.tasks.get(path)
+            span, tasks = readings.between(last, now, path), now.tasks.get(path)
             if isinstance(span, str):
                 measured[path] = Measured(tasks=tasks)
                 continue
@@ -239,11 +239,11 @@ def line_of(state: State, round_: PlannedRound) -> dict[str, Any]:
 
 
 def rounds_of(read: Callable[[], PlannedRound], times: Times, first: int,
-              warn: Callable[[str], None], sleep: looks.Sleep = time.sleep
+              warn: Callable[[str], None], sleep: readings.Sleep = time.sleep
               ) -> Iterator[PlannedRound]:
     """Rounds from a reading on. One that fails may pass, unless it is the only one."""
     failed = 0
-    for _ in looks.turns(times, sleep=sleep, first=first):
+    for _ in readings.turns(times, sleep=sleep, first=first):
         try:
             found = read()
         except HostFault as fault:

@@ -13,7 +13,7 @@ from fractions import Fraction
 from arbiter_host.answers import explain
 from arbiter_host.answers.explain import View
 from arbiter_host.base import names, text
-from arbiter_host.base.plan import Plan, Planned
+from arbiter_host.base.plan import Plan, PlannedGroup
 from arbiter_host.top import live
 from arbiter_host.top.live import FILTERS, HISTORY, SORTS, Keys, Lines, Recent
 from arbiter_host.top.top import PlannedRound
@@ -59,11 +59,11 @@ class Viewer:
         """The view as keys have changed it."""
         return self.keys.view(self.view(plan))._replace(folded=self.folded)
 
-    def place(self, groups: list[Planned]) -> int:
+    def place(self, groups: list[PlannedGroup]) -> int:
         """The row of the cursor; the first one where its group is not shown."""
         return next((at for at, each in enumerate(groups) if each.path == self.path), 0)
 
-    def find(self, groups: list[Planned], at: int, step: int) -> None:
+    def find(self, groups: list[PlannedGroup], at: int, step: int) -> None:
         """Goes to the first row from one on that fits the word."""
         word = self.word.lower()
         for place in range(len(groups)):
@@ -72,7 +72,7 @@ class Viewer:
                 self.path = group.path
                 return
 
-    def fold(self, group: Planned, key: str) -> None:
+    def fold(self, group: PlannedGroup, key: str) -> None:
         """Folds or unfolds a row. One that has nothing to fold leads to the row above it."""
         is_folded = group.path in self.folded
         if key == "+" or is_folded and key != "-":

@@ -11,7 +11,7 @@ from arbiter_host.base import demands, search, units
 from arbiter_host.base.faults import HostFault, UsageFault, naming
 from arbiter_host.base.model import Model
 from arbiter_host.base.names import shown
-from arbiter_host.base.plan import Plan, Planned, plan, walk
+from arbiter_host.base.plan import Plan, PlannedGroup, plan, walk
 
 NO_CHANGE = "all goals are met as it stands: nothing changes"
 # At most so many changes are left out one by one.
@@ -23,7 +23,7 @@ NEEDED = "; none of the changes can be left out"
 class Goal(NamedTuple):
     """What a group is to get at least, in slices of one period."""
 
-    group: Planned
+    group: PlannedGroup
     amount: int
     # Thousandths of a CPU, as it was asked for.
     asked: Fraction
@@ -41,7 +41,7 @@ class NewSetting(NamedTuple):
 class Clash(NamedTuple):
     """A group, and the goals of it and below it, which no weights that may change meet together."""
 
-    group: Planned
+    group: PlannedGroup
     goals: tuple[Goal, ...]
 
 
@@ -90,7 +90,7 @@ class Goals:
                          for each in (goal.group, *self.before.above(goal.group)))
 
     @property
-    def others(self) -> list[Planned]:
+    def others(self) -> list[PlannedGroup]:
         """The groups without children that have no goal, nor one above them."""
         inside = {group.row for group in walk([goal.group for goal in self.goals])}
         return [group for group in self.before.groups[1:]

@@ -14,7 +14,7 @@ from arbiter_host.base import owned, search, units
 from arbiter_host.base.faults import HostFault
 from arbiter_host.base.model import Model
 from arbiter_host.base.owned import Owned, Setting
-from arbiter_host.base.plan import Plan, Planned, asking
+from arbiter_host.base.plan import Plan, PlannedGroup, asking
 from arbiter_host.sources import change
 from arbiter_host.tune.goals import Goals, NewSetting, Way
 from arbiter_host.tune.tune_weights import by_weights
@@ -38,7 +38,7 @@ class Cap(NamedTuple):
     written: Callable[[int], str]
 
 
-def limitable(goals: Goals, can_be: Callable[[Planned], bool]) -> Iterator[Planned]:
+def limitable(goals: Goals, can_be: Callable[[PlannedGroup], bool]) -> Iterator[PlannedGroup]:
     """The highest groups that can be limited and may change: none of a goal, and none below or
     above one."""
     before = goals.before
@@ -54,7 +54,7 @@ def limitable(goals: Goals, can_be: Callable[[Planned], bool]) -> Iterator[Plann
                 yield child
 
 
-def words_of(before: Plan, group: Planned, slices: int) -> str:
+def words_of(before: Plan, group: PlannedGroup, slices: int) -> str:
     """A limit of so many slices of the host's period, as `--set GROUP.max=` takes it: of the
     group's own period where that is a quota, else of the host's."""
     host, own = before.model.host, group.group
@@ -65,7 +65,7 @@ def words_of(before: Plan, group: Planned, slices: int) -> str:
     return f"{slices * host.slice_us} {host.period_us}"
 
 
-def cap_of(before: Plan, group: Planned) -> Cap:
+def cap_of(before: Plan, group: PlannedGroup) -> Cap:
     """The limit of a group as `cpu.max` has it."""
     own = group.group
     now = "-" if own is None or own.quota is None else units.cpu_text(
@@ -74,7 +74,7 @@ def cap_of(before: Plan, group: Planned) -> Cap:
     return Cap(group.path, "max", now, least, lambda slices: words_of(before, group, slices))
 
 
-def owned_cap_of(before: Plan, source: Owned, group: Planned) -> Cap | None:
+def owned_cap_of(before: Plan, source: Owned, group: PlannedGroup) -> Cap | None:
     """The limit of a group as people own it; None where it cannot be lowered by itself."""
     of = source.limiting(group.path)
     first, last = of.parts[-1] if of.parts else (1, 0)
@@ -108,10 +108,10 @@ def caps_of(goals: Goals) -> dict[int, Cap]:
     """The limits that can be lowered by their rows, of those that have most first."""
     before, source, caps = goals.before, goals.before.model.owned, dict[int, Cap]()
 
-    def can_be(group: Planned) -> bool:
+    def can_be(group: PlannedGroup) -> bool:
         return source.has(group.path) if source else not (group.group and group.group.burst)
 
-    def order(group: Planned) -> tuple[int, int]:
+    def order(group: PlannedGroup) -> tuple[int, int]:
         by_weight = (group.weight, group.gets)
         return by_weight if goals.is_guaranteed else by_weight[::-1]
 

@@ -11,9 +11,9 @@ from dataclasses import dataclass
 from typing import Any
 
 from arbiter_host.base.plan import Plan, payers
-from arbiter_host.tune import knobs
+from arbiter_host.tune import single_settings
 from arbiter_host.tune.goals import Clash, Goals, Way, goals_of
-from arbiter_host.tune.knobs import Knob
+from arbiter_host.tune.single_settings import SingleSetting
 from arbiter_host.tune.other_limits import by_limits
 from arbiter_host.tune.tune_settings import by_settings
 from arbiter_host.tune.tune_weights import best_weights
@@ -33,7 +33,7 @@ class Tuned:
     # the others meets the goals.
     limits: Way | None = None
     # Of one goal each setting alone, where all may change.
-    alone: tuple[Knob, ...] = ()
+    alone: tuple[SingleSetting, ...] = ()
 
     @property
     def before(self) -> Plan:
@@ -72,7 +72,7 @@ def tune(before: Plan, words: Sequence[str], is_guaranteed: bool = False,
     is_alone = len(goals) == 1 and not is_guaranteed and chosen is None
     return Tuned(asked, asked.amounts(before), weights, settings,
                  None if is_met else by_limits(asked),
-                 tuple(knobs.each_of(asked)) if is_alone else ())
+                 tuple(single_settings.each_of(asked)) if is_alone else ())
 
 
 def losers(tuned: Tuned, way: Way) -> list[tuple[str, int]]:
@@ -120,4 +120,4 @@ def as_data(tuned: Tuned) -> dict[str, Any]:
             "settings": way_data(tuned, owned) if isinstance(owned, Way) else None,
             "limits": None if tuned.limits is None else way_data(tuned, tuned.limits),
             "no_settings": owned if isinstance(owned, str) else None,
-            "alone": [knobs.as_data(tuned.asked, each) for each in tuned.alone]}
+            "alone": [single_settings.as_data(tuned.asked, each) for each in tuned.alone]}

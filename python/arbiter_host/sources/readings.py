@@ -1,4 +1,4 @@
-"""A tree of cgroups over time: looks at all its groups, and what was counted from one to the next.
+"""A tree of cgroups over time: readings of all its groups, and what was counted between them.
 
 A group that disappears, a file that cannot be read and a controller that is not enabled are noted
 by name and cost no run.
@@ -20,7 +20,7 @@ from arbiter_host.base.faults import HostFault, UsageFault, strerror
 from arbiter_host.base.model import (MAX_DEPTH, NO_POD, Group, Model, PodNames, checked,
                                      up_to_64_cpus)
 from arbiter_host.base.names import shown
-from arbiter_host.sources import cgroup2, hunger
+from arbiter_host.sources import cgroup2, task_times
 
 Clock = Callable[[], float]
 Sleep = Callable[[float], None]
@@ -28,7 +28,7 @@ HOST_TREE = "/sys/fs/cgroup"
 MICROSECONDS, MAX_SECONDS, MAX_READINGS = 10**6, 86400, 10000
 # Microseconds that no group uses.
 MOST_ALLOWED = 2**63
-# Why nothing is known of what a group used between two looks.
+# Why nothing is known of what a group used between two readings.
 CAME, FELL, STILL = ("groups that came or went", "groups whose counters fell",
                      "groups without a new sample")
 
@@ -71,15 +71,15 @@ def turns(times: Times, clock: Clock = time.monotonic, sleep: Sleep = time.sleep
 
 class Counted(NamedTuple):
     """What is counted of a group: its counters, what its tasks did, and the seconds at which that
-    was counted. Without such a time it is that of the look."""
+    was counted. Without such a time it is that of the reading."""
 
     reading: CounterReading
-    threads: hunger.Tasks = {}
+    threads: task_times.Tasks = {}
     at: Fraction | None = None
 
 
 @dataclass
-class Look:
+class TreeReading:
     """All groups at one time, which is in seconds. What is counted is kept by the group's path and
     by what tells a group from another one that has its path later."""
 
@@ -100,8 +100,8 @@ class Span(NamedTuple):
 
     risen: CounterReading
     seconds: Fraction
-    before: hunger.Tasks
-    after: hunger.Tasks
+    before: task_times.Tasks
+    after: task_times.Tasks
 
     @property
     def used(self) -> Fraction:
@@ -126,11 +126,11 @@ def allowed(quota: int | None, period: int, burst: int, passed: int) -> int | No
 
 
 def reading_of(library: Library, host: Host, rose: CounterReading, passed: int,
-               before: hunger.Tasks, after: hunger.Tasks, allowed: int | None) -> Reading:
+               before: task_times.Tasks, after: task_times.Tasks, allowed: int | None) -> Reading:
     """What a group used in so many nanoseconds and asks for, by the library."""
     times = RoundTimes(passed, rose.usage or 0, rose.pressure or 0, len(after),
                        allowed is not None and bool(rose.throttled), allowed)
-    tasks = [each[:2] for each in hunger.rises(before, after)] if after else ()
+    tasks = [each[:2] for each in task_times.rises(before, after)] if after else ()
     return library.reading(host, times, tasks)
 
 
@@ -140,7 +140,7 @@ def risen(one: Counted, two: Counted) -> CounterReading:
 
 
 def span_of(one: Counted, two: Counted, seconds: Fraction) -> Span | str:
-    """What was counted from one look to the next, or why that says nothing. These are so many
+    """What was counted from one reading to the next, or why that says nothing. These are so many
     seconds apart unless both have times of their own."""
     if one.at is not None and two.at is not None:
         seconds = two.at - one.at
@@ -163,8 +163,8 @@ def sum_of(spans: Sequence[Span]) -> Span:
     return Span(CounterReading(*sums), seconds, {}, {})
 
 
-def between(one: Look, two: Look, path: str) -> Span | str:
-    """What was counted of a group from one look to the next, or why that says nothing."""
+def between(one: TreeReading, two: TreeReading, path: str) -> Span | str:
+    """What was counted of a group from one reading to the next, or why that says nothing."""
     before, after = one.counted.get(path, {}), two.counted.get(path, {})
     if before.keys() != after.keys() or not after:
         return CAME
@@ -190,23 +190,23 @@ class Tree:
         return None if self.clock is None else Fraction(self.clock()).limit_denominator(
             MICROSECONDS)
 
-    def look(self) -> Look:
+    def look(self) -> TreeReading:
         """A look at all groups. That at a copy is of second 0."""
         cgroup2.check_folder(self.top)
-        look = Look(Fraction(0), Model(self.host, notes=cgroup2.top_notes(self.top)))
+        look = TreeReading(Fraction(0), Model(self.host, notes=cgroup2.top_notes(self.top)))
         top = Group(".", place=self.top)
         self.count(look, top, cgroup2.reading(self.top))
         self.add_below(look, top, 0)
         look.at = self.now() or look.at
         return look
 
-    def count(self, look: Look, group: Group, reading: CounterReading) -> None:
+    def count(self, look: TreeReading, group: Group, reading: CounterReading) -> None:
         """Takes the counters of a group. In copies its path alone tells whether it is the same."""
         if reading.usage is not None:
             key = None if self.clock is None else group.identity
             look.counted[group.path] = {key: Counted(reading, {}, self.now())}
 
-    def add_below(self, look: Look, group: Group, depth: int) -> bool:
+    def add_below(self, look: TreeReading, group: Group, depth: int) -> bool:
         """Adds the groups below one. Returns whether there are any."""
         path, notes = group.path, look.model.notes
         raws = subfolders(group.place, path, notes)
@@ -221,7 +221,7 @@ class Tree:
         taken: set[str] = set()
         return any([self.add(look, each, path, depth + 1, taken) for each in raws])
 
-    def add(self, look: Look, entry: os.DirEntry[str], above: str, depth: int,
+    def add(self, look: TreeReading, entry: os.DirEntry[str], above: str, depth: int,
             taken: set[str]) -> bool:
         """Adds one group and those below it. Returns whether it was there."""
         raw, notes, pod = entry.name, look.model.notes, self.pod_at(look, entry.path)
@@ -241,7 +241,7 @@ class Tree:
             self.add_tasks(look, group)
         return True
 
-    def read(self, look: Look, group: Group, entry: os.DirEntry[str]) -> bool:
+    def read(self, look: TreeReading, group: Group, entry: os.DirEntry[str]) -> bool:
         """Reads a group. Returns whether others may be below it."""
         handle = os.open(entry.path, safe_files.FOLDER)
         try:
@@ -252,12 +252,12 @@ class Tree:
             os.close(handle)
         return True
 
-    def measure(self, look: Look, group: Group, handle: int) -> None:
+    def measure(self, look: TreeReading, group: Group, handle: int) -> None:
         """Reads what is counted of a group."""
         look.bound += [group.path] if cgroup2.is_bound(handle) else []
         self.count(look, group, cgroup2.reading(handle))
 
-    def pod_at(self, look: Look, folder: str) -> PodNames:
+    def pod_at(self, look: TreeReading, folder: str) -> PodNames:
         """The names of the pod or container that has a folder."""
         if self.pods is None:
             return NO_POD
@@ -268,14 +268,14 @@ class Tree:
             look.unnamed.add(place)
         return pod
 
-    def add_tasks(self, look: Look, leaf: Group) -> None:
+    def add_tasks(self, look: TreeReading, leaf: Group) -> None:
         """Adds the number of the tasks of a leaf, and what they did."""
         count, text = cgroup2.task_count(leaf.place), None
         if count is not None:
             look.tasks[leaf.path] = count
         if self.has_threads and leaf.path in look.counted:
             text = cgroup2.file_text(leaf.place, "cgroup.threads") or ""
-            threads = hunger.tasks(text[:hunger.MOST_TEXT], True)
+            threads = task_times.tasks(text[:task_times.MOST_TEXT], True)
             look.counted[leaf.path] = {key: each._replace(threads=threads) for key, each
                                        in look.counted[leaf.path].items()}
 
@@ -298,9 +298,9 @@ def is_folder(entry: os.DirEntry[str]) -> bool:
         return False
 
 
-def looks_at_copies(folders: Sequence[str], host: Host, interval: Fraction) -> Iterator[Look]:
-    """Looks at copies of a tree, each of which was made an interval after the one before."""
-    last: Look | None = None
+def copies_of(folders: Sequence[str], host: Host, interval: Fraction) -> Iterator[TreeReading]:
+    """Readings of copies of a tree, each of which was made an interval after the one before."""
+    last: TreeReading | None = None
     for place, folder in enumerate(folders):
         look = Tree(folder, host).look()
         look.at = place * interval
@@ -313,11 +313,11 @@ def looks_at_copies(folders: Sequence[str], host: Host, interval: Fraction) -> I
         yield look
 
 
-def looks_at(folders: Sequence[str], host: Host, times: Times, has_threads: bool = False,
-             clock: Clock = time.monotonic, sleep: Sleep = time.sleep) -> Iterator[Look]:
-    """Looks at a tree so often, or at each of its copies."""
+def readings_of(folders: Sequence[str], host: Host, times: Times, has_threads: bool = False,
+             clock: Clock = time.monotonic, sleep: Sleep = time.sleep) -> Iterator[TreeReading]:
+    """Reads a tree so often, or at each of its copies."""
     if len(folders) > 1:
-        yield from looks_at_copies(folders, host, times.interval)
+        yield from copies_of(folders, host, times.interval)
         return
     tree = Tree(folders[0], host, clock, has_threads=has_threads)
     with progress.bar("readings", times.number or 0) as tick:
@@ -328,13 +328,13 @@ def looks_at(folders: Sequence[str], host: Host, times: Times, has_threads: bool
 
 @dataclass
 class OverTime:
-    """A tree over time: the first look, the counters of its groups at this and later looks while
-    they were there, and the mean seconds from one look to the next."""
+    """A tree over time: the first reading, the counters of its groups at this and later ones while
+    they were there, and the mean seconds from one reading to the next."""
 
-    first: Look
+    first: TreeReading
     counters: dict[str, list[CounterReading]]
     seconds: Fraction
-    looks: int = 1
+    number: int = 1
 
     def measured(self, path: str) -> Measured:
         """What is known of the demand of a group."""
@@ -342,31 +342,31 @@ class OverTime:
 
     @property
     def gone(self) -> list[str]:
-        """The groups that were gone at a later look."""
-        return [path for path, each in self.counters.items() if len(each) < self.looks]
+        """The groups that were gone at a later reading."""
+        return [path for path, each in self.counters.items() if len(each) < self.number]
 
 
 def series_of(folders: Sequence[str], host: Host, times: Times) -> OverTime:
     """Reads a tree so often, or each of its copies."""
-    looks = looks_at(folders, host, times)
-    last = first = next(looks)
+    each_reading = readings_of(folders, host, times)
+    last = first = next(each_reading)
     found = OverTime(first, {path: [each.reading for each in counted.values()]
                            for path, counted in first.counted.items()}, times.interval)
-    for last in looks:
-        found.looks += 1
+    for last in each_reading:
+        found.number += 1
         for path, readings in found.counters.items():
             if last.counted.get(path, {}).keys() == first.counted[path].keys():
                 readings += [each.reading for each in last.counted[path].values()]
-    if found.looks > 1:
-        found.seconds = max((last.at - first.at) / (found.looks - 1), times.interval)
+    if found.number > 1:
+        found.seconds = max((last.at - first.at) / (found.number - 1), times.interval)
     return found
 
 
 def measured_at(folders: Sequence[str], times: Times, places: Mapping[Place, Sequence[str]]
                 ) -> tuple[dict[Place, Measured], Fraction]:
     """What a tree, or its copies, have of groups that a source has no counters of; and the seconds
-    from one look to the next. Each has the folders below the top at which it may be. It is measured
-    at the first that is there."""
+    from one reading to the next. Each has the folders below the top at which it may be. It is
+    measured at the first that is there."""
     series = series_of(folders, Host(), times)
     top = os.path.realpath(folders[0])
     paths = {os.path.relpath(group.place, top): path

@@ -8,7 +8,7 @@ from arbiter import Host
 from arbiter_host.base import units
 from arbiter_host.base.model import Group, Model
 from arbiter_host.base.plan import guarantees, plan
-from arbiter_host.tune import knobs, tune
+from arbiter_host.tune import single_settings, tune
 from hypothesis import HealthCheck, given, settings
 from hypothesis import strategies as st
 
@@ -31,7 +31,7 @@ def script(folder, text):
 def alone(ctl, folder, text, goal):
     """The answers of `tune` as JSON, and its settings alone by their names."""
     found = json.loads(ctl.run("tune", script(folder, text), "--goal", goal, "-o", "json")[0])
-    return found["goals"][0], {knob["name"]: knob for knob in found["alone"]}
+    return found["goals"][0], {single["name"]: single for single in found["alone"]}
 
 
 def test_by_hand(ctl, folder):
@@ -111,17 +111,17 @@ def test_least_values(engine, model, path, slices):
     """The least value reaches the amount, and the value before it does not."""
     found = tune.tune(plan(engine, model), [f"{path}={200 * slices}m"])
     most = {"weight": units.MAX_WEIGHT, "limit": 300, "CPUs": 64}
-    assert [knob.name for knob in found.alone] == list(most)
-    for knob in found.alone:
-        greatest = most[knob.name]
-        gets = lambda v: plan(engine, knobs.with_value(model, path, knob.name, v)
+    assert [single.name for single in found.alone] == list(most)
+    for single in found.alone:
+        greatest = most[single.name]
+        gets = lambda v: plan(engine, single_settings.with_value(model, path, single.name, v)
                               ).by_path()[path].gets
-        if knob.least is None:
+        if single.least is None:
             assert gets(greatest) < slices
         else:
-            assert gets(knob.least) >= slices == found.asked.goals[0].amount
-            assert knob.plan.by_path()[path].gets == gets(knob.least)
-            assert knob.least == 1 or gets(knob.least - 1) < slices
+            assert gets(single.least) >= slices == found.asked.goals[0].amount
+            assert single.plan.by_path()[path].gets == gets(single.least)
+            assert single.least == 1 or gets(single.least - 1) < slices
 
 
 @SOME

@@ -23,7 +23,7 @@ File = tuple[str, bytes]
 
 
 @dataclass(frozen=True)
-class Wish:
+class SourceOptions:
     """The host, the node, the conversions of shares, the driver, and the rule for demands. kubelet
     writes the weights of kubepods, classes and pods, the runtime those of containers."""
 
@@ -69,7 +69,7 @@ class Wish:
         """This machine with slices of 1 ms, with what is asked for in its place."""
         return self.host(Host(os.cpu_count() or 1, units.DEFAULT_PERIOD, 1000))
 
-    def for_containers(self, want: str, folder: str) -> Wish:
+    def for_containers(self, want: str, folder: str) -> SourceOptions:
         """The same with a rule for demands where none is asked for, and with the driver of the
         tree: cgroupfs makes a folder of this name at its top."""
         is_there = self.tree and os.path.isdir(os.path.join(self.tree, folder))

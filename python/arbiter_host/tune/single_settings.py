@@ -21,7 +21,7 @@ from arbiter_host.tune.goals import Goals
 from arbiter_host.tune.tune_settings import Raised
 
 
-class Knob(NamedTuple):
+class SingleSetting(NamedTuple):
     """A setting: as it is now, and the least that reaches the amount, with its plan.
 
     A limit is in slices of one period. A setting that people own is as they write it. None stands
@@ -53,68 +53,68 @@ def with_value(model: Model, path: str, name: str, value: int) -> Model:
     return after
 
 
-def knob(goals: Goals, name: str, now: int | None, host: Host,
-         call: Callable[[Host, Columns, int, int], int | None]) -> Knob:
+def of_call(goals: Goals, name: str, now: int | None, host: Host,
+         call: Callable[[Host, Columns, int, int], int | None]) -> SingleSetting:
     """A setting with its least value by a call of the library, whose accepted plan has to reach the
     amount."""
     (goal,), before = goals.goals, goals.before
     with asking(call.__name__):
         value = call(host, before.columns, goal.group.row, goal.amount)
     if value is None:
-        return Knob(name, now, None, None)
+        return SingleSetting(name, now, None, None)
     after = goals.plan_of(with_value(before.model, goal.group.path, name, value))
     if after.groups[goal.group.row].gets < goal.amount:
         raise HostFault(f"{name} {value}: the accepted plan does not reach the amount")
-    return Knob(name, now, value, after)
+    return SingleSetting(name, now, value, after)
 
 
-def owned_knob(goals: Goals, known: Raised, row: int, of: Range) -> Knob:
+def of_owner(goals: Goals, known: Raised, row: int, of: Range) -> SingleSetting:
     """The least of a setting that people own of a group, which is the goal's or below it."""
     value = known.least(goals.goals[0], row, of)
     if value is None:
-        return Knob(of.key, of.now, None, None, of.most, True)
+        return SingleSetting(of.key, of.now, None, None, of.most, True)
     after = known.with_value(row, of, value).plan()
     told = [note for note in after.model.notes if note not in goals.before.model.notes]
-    return Knob(of.key, of.now, of.written(value), after, "; ".join(told), True)
+    return SingleSetting(of.key, of.now, of.written(value), after, "; ".join(told), True)
 
 
-def each_of(goals: Goals) -> list[Knob]:
+def each_of(goals: Goals) -> list[SingleSetting]:
     """Each setting of the group of the one goal, with its least value."""
     (goal,), before, source = goals.goals, goals.before, goals.before.model.owned
     library, host, least = before.engine.library, before.model.host, before.planned_host
     # Above 64 CPUs the planner's host has another period. The answer is of any number of CPUs.
     any_host = up_to_64_cpus(host)
-    finds: list[Callable[[], Knob]] = [
-        partial(knob, goals, "weight", goal.group.weight, least, library.least_weight),
-        partial(knob, goals, "limit", goal.group.limit, least, library.least_limit),
-        partial(knob, goals, "CPUs", host.processors, any_host, library.least_processors)]
+    finds: list[Callable[[], SingleSetting]] = [
+        partial(of_call, goals, "weight", goal.group.weight, least, library.least_weight),
+        partial(of_call, goals, "limit", goal.group.limit, least, library.least_limit),
+        partial(of_call, goals, "CPUs", host.processors, any_host, library.least_processors)]
     meant = source.meant(goal.group.path) if source else []
     if source is not None and len(meant) == 1:
         row = before.by_path()[meant[0]].row
-        finds += [partial(owned_knob, goals, Raised(goals, source, {}), row, of)
+        finds += [partial(of_owner, goals, Raised(goals, source, {}), row, of)
                   for of in source.ranges(meant[0])]
-    knobs = []
+    found = []
     with progress.bar("settings", len(finds)) as step:
         for find in finds:
-            knobs.append(find())
+            found.append(find())
             step()
-    return knobs
+    return found
 
 
-def losses(goals: Goals, knob: Knob) -> list[tuple[str, int]]:
+def losses(goals: Goals, single: SingleSetting) -> list[tuple[str, int]]:
     """The other groups that get less by a setting, and how many slices less."""
     own = goals.goals[0].group.path
-    return [] if knob.plan is None else [
-        each for each in payers(goals.before, knob.plan) if each[0] != own]
+    return [] if single.plan is None else [
+        each for each in payers(goals.before, single.plan) if each[0] != own]
 
 
-def as_data(goals: Goals, knob: Knob) -> dict[str, Any]:
+def as_data(goals: Goals, single: SingleSetting) -> dict[str, Any]:
     """A setting as data. Amounts are thousandths of a CPU."""
     def value(number: int | str | None) -> float | str | None:
-        is_amount = knob.name == "limit" and isinstance(number, int)
+        is_amount = single.name == "limit" and isinstance(number, int)
         return goals.before.millicpu(int(number or 0)) if is_amount else number
 
     pays = [{"group": path, "millicpu": goals.before.millicpu(slices)}
-            for path, slices in losses(goals, knob)]
-    return {"name": knob.name, "owned": knob.is_owned, "now": value(knob.now),
-            "least": value(knob.least), "told": knob.told, "pays": pays}
+            for path, slices in losses(goals, single)]
+    return {"name": single.name, "owned": single.is_owned, "now": value(single.now),
+            "least": value(single.least), "told": single.told, "pays": pays}
