@@ -14,7 +14,7 @@ from arbiter_host.base import demands, names
 from arbiter_host.base.faults import HostFault, UsageFault, strerror
 from arbiter_host.fleet.work import HostFile
 from arbiter_host.sources import kubernetes, load, pods
-from arbiter_host.sources.data import field as value_below, loads, table, text_field
+from arbiter_host.sources.data import field, loads, table, text_field
 from arbiter_host.sources.usage import Used, of_metrics, some
 
 NODE = re.compile(rb'"kind"\s*:\s*"Node"')
@@ -55,7 +55,7 @@ class Fleet:
         return {each.shape: each for each in reversed(self.pending)}
 
 
-def field(folder: str) -> list[str] | None:
+def below(folder: str) -> list[str] | None:
     """The paths of all files below a folder, without hidden ones; None for a tree of cgroups."""
     def refuse(error: OSError) -> None:
         raise HostFault(f"{names.shown(str(error.filename))}: {strerror(error)}") from error
@@ -77,7 +77,7 @@ def items_of(path: str, data: bytes) -> list[dict[str, Any]]:
         return []
     content = loads(data, names.shown(path))
     items = (kubernetes.items_of(content, names.shown(path))
-             if isinstance(value_below(content, "items"), list) else [])
+             if isinstance(field(content, "items"), list) else [])
     return items if sum(each.get("kind") == "Node" for each in items) > 1 else []
 
 
@@ -104,12 +104,12 @@ def fleet_in(options: argparse.Namespace, files: Sequence[load.Opened],
         return None
     if more:
         for name, bytes_ in files:
-            if bytes_ is None and field(name):
+            if bytes_ is None and below(name):
                 raise UsageFault(f"{names.shown(name)}: many hosts are one source, with no other"
                                  " beside it")
         return None
     if data is None:
-        paths = field(path)
+        paths = below(path)
         return Fleet(named(paths, path)) if paths else None
     is_meant = options.kind in (None, "kubernetes") and not options.node
     items = items_of(path, data) if is_meant else []
