@@ -12,6 +12,19 @@ def crates():
     return {name: [each for each in named if each in found] for name, named in found.items()}
 
 
+def may_wait():
+    """The number of functions that may wait, of each crate whose line gives it."""
+    found = {}
+    with open("crates.txt", encoding="utf-8") as lines:
+        for line in lines:
+            words = line.partition("#")[0].partition(":")[0].split()
+            for word in words[1:]:
+                name, _, number = word.partition("=")
+                if name == "may_wait":
+                    found[words[0]] = int(number)
+    return found
+
+
 def with_all_below(name):
     """A crate and all crates below it."""
     stands_on, found, waiting = crates(), [], [name]

@@ -22,7 +22,7 @@ import sys
 import threading
 import time
 
-from crates import crates
+from crates import crates, may_wait
 from processes import BASE, EDITS, KINDS, LINK, PROOF, RUN, TESTS, Watch, boot_seconds
 from progress import Progress
 
@@ -37,6 +37,9 @@ GOOD = re.compile(
 )
 # The lines of the log that say that a crate was proved, or taken from an earlier run.
 PROVED = re.compile(r"^rt: (\w+) (?:proved|is kept: .*)$")
+# What the gate counted of a crate that it proved: the functions that may wait, of all.
+COUNTED = re.compile(r"^logic=proved functions=\d+(?:.*? may-wait=(\d+))?.*\n"
+                     r"(?:(?!rt: |== |logic=).*\n)*rt: (\w+) proved$", re.M)
 LAST = re.compile(r"^\d+ passed, \d+ failed$")
 
 
@@ -184,6 +187,14 @@ def failures(text):
             yield line
 
 
+def miscounts(text, said):
+    """What crates.txt says of functions that may wait, where the gate counted another number."""
+    for counted, crate in COUNTED.findall(text):
+        written = said.get(crate, 0)
+        if int(counted or 0) != written:
+            yield f"crates.txt: {crate}: may_wait={written}, and the gate counted {counted or 0}"
+
+
 class Run:
     """One run of the gate."""
 
@@ -231,7 +242,7 @@ class Run:
         return self.gate.wait()
 
     def tell(self, whole, used):
-        """Prints the failures, the table and the gate's last line."""
+        """Prints failures, table, miscounts and the gate's last line. Returns the miscounts."""
         with open(self.log, encoding="utf-8") as log:
             text = log.read()
         for line in failures(text):
@@ -241,8 +252,11 @@ class Run:
         else:
             print("gate: seconds from the first to the last seen, and processor seconds:\n")
             print(*table(self.seen.by_kind(), whole, used), sep="\n")
+        wrong = list(miscounts(text, may_wait()))
+        print(*[f"gate: {line}\n" for line in wrong], sep="", end="")
         last = [line for line in text.split("\n") if LAST.match(line)]
         print(*last[-1:], sep="\n", flush=True)
+        return wrong
 
 
 def children_used():
@@ -265,7 +279,9 @@ def main():
     for number in (signal.SIGTERM, signal.SIGHUP):
         signal.signal(number, lambda number, _: run.gate.send_signal(number))
     status = run.end()
-    run.tell(time.monotonic() - began, children_used() - used)
+    wrong = run.tell(time.monotonic() - began, children_used() - used)
+    if wrong and status == 0:
+        return 1
     return status if status >= 0 else 128 - status
 
 
