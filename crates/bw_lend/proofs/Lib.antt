@@ -1,5 +1,6 @@
 -- The files of lemmas.
 pub mod Lists
+pub mod Bells
 pub mod Moved
 pub mod Kept
 pub mod Handed

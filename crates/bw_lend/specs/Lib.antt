@@ -3,6 +3,7 @@ pub mod Lent
 pub mod Rule
 pub mod Plays
 pub mod Parts
+pub mod Bells
 pub mod Crowd
 pub mod CrowdLaws
 pub mod CrowdRounds

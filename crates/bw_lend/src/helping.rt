@@ -4,7 +4,8 @@ ghost use Rattle.bw_lend.specs.Lent.{Brings};
 ghost use Rattle.bw_lend.specs.Parts.{IsTable, IsOwner, IsHelper};
 
 use crate::steps::{claim, give_back, hinted};
-use crate::table::{Content, PLACES, Place, Shared, Token};
+use crate::table::{Content, Place, Shared, Token};
+use crate::waking::{Owed, Owners, TableBells, wake_all, wake_first};
 use bw_machine::Machine;
 use bw_ticket::TicketLock;
 use std::rt::Clock;
@@ -12,36 +13,6 @@ use std::sync::Wait;
 
 // Greatest number of calls that a seat makes for others when it leaves.
 const MOST_HELPED: u64 = 64;
-
-// The places whose owners have to be woken.
-#[derive(Clone, Copy)]
-struct Owners {
-    set: u64,
-}
-
-impl Owners {
-    fn none() -> Owners {
-        Owners { set: 0 }
-    }
-
-    fn with(self, place: usize) -> Owners
-        requires { place < 64 }
-    {
-        Owners {
-            set: self.set | 1 << place,
-        }
-    }
-
-    fn has(self, place: usize) -> bool
-        requires { place < 64 }
-    {
-        self.set >> place & 1 == 1
-    }
-
-    fn is_none(self) -> bool {
-        self.set == 0
-    }
-}
 
 // Makes the pending call of a lent seat.
 fn make<M: Machine, R: Wait + Clock>(
@@ -87,18 +58,8 @@ fn make_at<M: Machine, R: Wait + Clock>(
     made
 }
 
-// Wakes the owner of a place at once whose call is not made: its ticket is served, and all wait.
-fn wake_unmade<M: Machine>(table: &Shared<M>, place: usize, made: bool)
-    requires table { IsTable table.now.table_id }
-    requires place { place < 64 }
-{
-    if !made {
-        table.wake_one(place);
-    }
-}
-
 // Makes the call of the ticket, if its seat is lent, or gives the seat back as it is and wakes its
-// owner. Returns the place.
+// owner. Returns the wake that is owed.
 fn help_one<M: Machine, R: Wait + Clock>(
     rt: &R,
     lock: &TicketLock<M>,
@@ -106,21 +67,23 @@ fn help_one<M: Machine, R: Wait + Clock>(
     token: &mut Token<M>,
     ticket: u64,
     makes: bool,
-) -> Option<usize>
+) -> Option<Owed>
     requires table { (token.old.table_id ≡ table.now.table_id) × IsTable table.now.table_id }
     requires owner { (mine : _) × IsOwner lock.now.lock_id mine token.old.me }
     ensures table { token.new.table_id ≡ token.old.table_id }
     ensures same { token.new.me ≡ token.old.me }
-    ensures place { IfSome result (λ place. place < 64) }
+    ensures place { IfSome result (λ owed. owed.place < 64) }
 {
     let place = hinted(table, ticket)?;
     if !claim(lock, table, token, place, ticket) {
         return None;
     }
     let made = make_at(rt, lock, table, token, place, makes);
-    give_back(table, token, place, ticket, made);
-    wake_unmade(table, place, made);
-    Some(place)
+    let owed = give_back(table, token, place, ticket, made);
+    if !made {
+        wake_first(&mut TableBells::of(table), &owed);
+    }
+    Some(owed)
 }
 
 // Helps the seats of the tickets after `served`, as long as they are lent.
@@ -140,26 +103,12 @@ fn help_next<M: Machine, R: Wait + Clock>(
     for nth in 0..=MOST_HELPED {
         let ticket = served.wrapping_add(nth).wrapping_add(1);
         let makes = nth < MOST_HELPED;
-        let Some(place) = help_one(rt, lock, table, token, ticket, makes) else {
+        let Some(owed) = help_one(rt, lock, table, token, ticket, makes) else {
             return owners;
         };
-        owners = owners.with(place);
+        owners = owners.with(owed);
     }
     owners
-}
-
-// Wakes the owners. Most visits have none.
-fn wake_all<M: Machine>(table: &Shared<M>, owners: Owners)
-    requires { IsTable table.now.table_id }
-{
-    if owners.is_none() {
-        return;
-    }
-    for place in 0..PLACES {
-        if owners.has(place) {
-            table.wake_one(place);
-        }
-    }
 }
 
 /// Makes the calls of the tickets after `served` that are lent, and then wakes their owners.
@@ -178,5 +127,5 @@ pub(crate) fn help<M: Machine, R: Wait + Clock>(
     ensures same { token.new.me ≡ token.old.me }
 {
     let owners = help_next(rt, lock, table, token, served);
-    wake_all(table, owners);
+    wake_all(&mut TableBells::of(table), owners);
 }

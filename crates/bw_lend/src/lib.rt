@@ -16,6 +16,7 @@ mod seat;
 mod stake;
 mod steps;
 mod table;
+mod waking;
 
 pub use crowd_laws::{
     at_most_one_is_inside, awake_lent_seats_can_step, drawn_tickets_are_left,

@@ -11,6 +11,7 @@ use crate::table::{
     AWAY, CLAIMED, Content, POSTED, Place, Shared, Token, hint_of, hint_word, hinted_place,
     returned_state, state_of,
 };
+use crate::waking::Owed;
 use bw_machine::Machine;
 use bw_ticket::{Seat, TicketLock};
 use std::snapshot::Snapshot;
@@ -100,14 +101,16 @@ pub(crate) fn give_back<M: Machine>(
     place: usize,
     ticket: u64,
     made: bool,
-)
+) -> Owed
     requires table { (token.old.table_id ≡ table.now.table_id) × IsTable table.now.table_id }
     requires helper { (lock : _) × (before : _) × IsHelper lock place before token.old.me }
     requires place { place < 64 }
     ensures table { token.new.table_id ≡ token.old.table_id }
     ensures back { token.new.me ≡ (drop 1 token.old.me.0, drop 1 token.old.me.1) }
+    ensures owed { result.place ≡ place }
 {
     table.store::<GiveBack>(token, place, returned_state(ticket, made));
+    Owed::to(place)
 }
 
 /// The place where the seat of the ticket is lent, as far as its hint tells.

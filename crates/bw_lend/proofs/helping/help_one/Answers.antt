@@ -3,15 +3,21 @@ use Rattle.std.proofs.Common.{◌∙◌, ap, drop}
 use Rattle.bw_lend.specs.Parts.{IsHelper}
 use Rattle.bw_lend.proofs.helping.help_one.Goals as goal
 
-pub give_back-requires-clause-helper : goal.give_back-requires-clause-helper
-give_back-requires-clause-helper g c κs within = (
+pub give_back-owed-requires-clause-helper : goal.give_back-owed-requires-clause-helper
+give_back-owed-requires-clause-helper g c κs within = (
   c.args.lock.now.lock_id,
   c.args.token.now.me,
   c.make_at-made.ensures.helper c.args.token.now.me c.if-not-claim.ensures.claimed,
 )
 
-pub returns-clause-same : goal.returns-clause-same
-returns-clause-same g c =
+pub returns-then-not-made-clause-same : goal.returns-then-not-made-clause-same
+returns-then-not-made-clause-same g c =
     let h : IsHelper c.args.lock.now.lock_id c.in_ok-place.place c.args.token.now.me c.make_at-made.new.token.me =
     c.make_at-made.ensures.helper c.args.token.now.me c.if-not-claim.ensures.claimed in
-    c.give_back.ensures.back ∙ ap (λ m. (drop 1 m.0, drop 1 m.1)) h.2
+    c.give_back-owed.ensures.back ∙ ap (λ m. (drop 1 m.0, drop 1 m.1)) h.2
+
+pub returns-else-not-made-clause-same : goal.returns-else-not-made-clause-same
+returns-else-not-made-clause-same g c =
+    let h : IsHelper c.args.lock.now.lock_id c.in_ok-place.place c.args.token.now.me c.make_at-made.new.token.me =
+    c.make_at-made.ensures.helper c.args.token.now.me c.if-not-claim.ensures.claimed in
+    c.give_back-owed.ensures.back ∙ ap (λ m. (drop 1 m.0, drop 1 m.1)) h.2
