@@ -5,7 +5,8 @@ usage: bench/locks.py [PROGRAM] [--runs N] [--seconds S]
 
 Prints the table of bench/measured.md, 'Periods': milliseconds of a period of 1, 4, 16 and 64
 workers, the least and the median of ten runs. Beside the program are threads of bench/locks.rs
-under `std::sync::Mutex`, in no order, and under a ticket lock on futexes. It takes two minutes on
+under `std::sync::Mutex`, in no order, round a bare pool and round one that does what the
+program's does, and under a ticket lock on futexes. It takes two minutes on
 an idle machine, and stops after ten at the latest. `rustc` compiles bench/locks.rs.
 """
 import argparse
@@ -22,8 +23,10 @@ from runs import HERE, note, program_of, stop
 
 WORKERS = (1, 4, 16, 64)
 CORES = (1, 2, 4)
-HEAD = ("| Cores | Workers | `period`: least | median | Mutex: least | median "
-        "| tickets: least | median |")
+HEAD = ("| Cores | Workers | `period`: least | median | Mutex, bare pool: least | median "
+        "| Mutex, the program's pool: least | median | tickets, bare pool: least | median |")
+# the locks of bench/locks.rs, in the order of the columns
+LOCKS = ("mutex", "pool", "tickets")
 Runs = dict[tuple[str, int], list[float]]
 
 
@@ -57,8 +60,7 @@ def rows(program: str, locks: str, cores: int, runs: int, until: float) -> Itera
             stop("the time is over")
         with tempfile.TemporaryDirectory(prefix="locks-") as room:
             walls, _ = times(program, workers, lines, room, runs)
-        figures = [f"{figure:.3g}" for each in (walls, others["mutex", workers],
-                                               others["tickets", workers])
+        figures = [f"{figure:.3g}" for each in (walls, *(others[lock, workers] for lock in LOCKS))
                    for figure in (min(each), statistics.median(each))]
         yield f"| {cores} | {workers} | {' | '.join(figures)} |"
         note(f"{workers} workers on {cores} cores")
@@ -73,7 +75,7 @@ def main() -> None:
     program, every = program_of(options.program), sorted(os.sched_getaffinity(0))
     until = time.monotonic() + options.seconds
     note(f"load {' '.join(f'{each:.1f}' for each in os.getloadavg())}")
-    print(HEAD, "|---|---|---|---|---|---|---|---|", sep="\n")
+    print(HEAD, "|---" * (4 + 2 * len(LOCKS)) + "|", sep="\n")
     with tempfile.TemporaryDirectory(prefix="locks-") as room:
         locks = compiled(room)
         for cores in CORES:

@@ -3,9 +3,14 @@
 //!
 //!     rustc -O bench/locks.rs -o /tmp/locks && /tmp/locks 10
 //!
-//! Nine leaves have 1000 slices for each processor. A draw takes one slice, and is noted with its
-//! seat and its leaf. `mutex` is `std::sync::Mutex`, with draws in any order. `tickets` is a ticket
-//! lock: each waiter sleeps on the futex of its own ticket, and whoever leaves wakes the next.
+//! Nine leaves have 1000 slices for each processor. A draw takes one slice. `mutex` is
+//! `std::sync::Mutex`, with draws in any order. `tickets` is a ticket lock: each waiter sleeps on
+//! the futex of its own ticket, and whoever leaves wakes the next.
+//!
+//! Both have a bare pool: a draw counts down its leaf, and notes its seat and its leaf. `pool` is
+//! the Mutex with a pool that does what the program's does. It tests the call, takes the least that
+//! is left at the leaf, its ancestors and the processor, keeps who holds what, makes a reply, and
+//! notes seat, call and reply. Its one kind of call is the draw.
 use std::cell::UnsafeCell;
 use std::ffi::c_long;
 use std::sync::Mutex;
@@ -26,22 +31,35 @@ unsafe extern "C" {
     fn syscall(number: c_long, ...) -> c_long;
 }
 
+/// Slices of leaves, which seats draw.
+trait Slices: Send {
+    /// All slices of some seats, shared out evenly.
+    fn new(seats: u32) -> Self;
+    /// Takes one slice of the leaf, if one is left.
+    fn draw(&mut self, seat: u32, leaf: usize) -> bool;
+    /// Number of slices drawn so far.
+    fn drawn(&self) -> usize;
+}
+
+/// The slices of each leaf, of all slices of some seats.
+fn shares(seats: u32) -> [u32; LEAVES] {
+    let whole = seats * EACH;
+    let mut shares = [whole / LEAVES as u32; LEAVES];
+    shares[0] += whole % LEAVES as u32;
+    shares
+}
+
 /// The slices that are left to each leaf, and the draws so far: seat and leaf.
-struct Pool {
+struct Bare {
     left: [u32; LEAVES],
     draws: Vec<(u32, usize)>,
 }
 
-impl Pool {
-    /// All slices of some seats, shared out evenly.
-    fn new(seats: u32) -> Pool {
-        let whole = seats * EACH;
-        let mut left = [whole / LEAVES as u32; LEAVES];
-        left[0] += whole % LEAVES as u32;
-        Pool { left, draws: Vec::with_capacity(whole as usize) }
+impl Slices for Bare {
+    fn new(seats: u32) -> Bare {
+        Bare { left: shares(seats), draws: Vec::with_capacity((seats * EACH) as usize) }
     }
 
-    /// Takes one slice of the leaf, if one is left.
     fn draw(&mut self, seat: u32, leaf: usize) -> bool {
         let some = self.left[leaf] > 0;
         if some {
@@ -50,16 +68,172 @@ impl Pool {
         }
         some
     }
+
+    fn drawn(&self) -> usize {
+        self.draws.len()
+    }
 }
 
-trait Lock: Sync {
-    fn new(pool: Pool) -> Self;
+/// A draw of so many slices of a leaf, the program's call.
+#[derive(Clone, Copy)]
+struct Draw {
+    leaf: u32,
+    ask: u64,
+}
+
+/// What left a draw short.
+#[derive(Clone, Copy)]
+enum Short {
+    Nothing,
+    Group(u32),
+    Processor,
+}
+
+/// The reply to a call.
+#[derive(Clone, Copy)]
+enum Reply {
+    Granted { got: u64, short: Short },
+    NoProcessor,
+    NoGroup,
+    NotLeaf,
+    ZeroAsk,
+}
+
+/// A call in the history.
+#[derive(Clone, Copy)]
+struct Entry {
+    seat: u32,
+    call: Draw,
+    reply: Reply,
+}
+
+/// The program's pool, over a root and its leaves, with the history of its calls.
+struct Whole {
+    per_processor: u64,
+    parents: Vec<Option<u32>>,
+    leaf: Vec<bool>,
+    drawn: Vec<u64>,
+    ceiling: Vec<u64>,
+    by_processor: Vec<u64>,
+    held: Vec<u64>,
+    history: Vec<Entry>,
+}
+
+impl Whole {
+    /// The leaf and its ancestors, upwards.
+    fn path(&self, leaf: u32) -> impl Iterator<Item = usize> + '_ {
+        std::iter::successors(Some(leaf as usize), move |row| {
+            self.parents[*row].map(|up| up as usize)
+        })
+    }
+
+    /// Number of slices that are left to a group.
+    fn left(&self, row: usize) -> u64 {
+        self.ceiling[row] - self.drawn[row]
+    }
+
+    /// The refusal of a call, if any.
+    fn refusal(&self, seat: u32, call: Draw) -> Option<Reply> {
+        if seat as usize >= self.by_processor.len() {
+            return Some(Reply::NoProcessor);
+        }
+        let Some(is_leaf) = self.leaf.get(call.leaf as usize) else {
+            return Some(Reply::NoGroup);
+        };
+        if !is_leaf {
+            return Some(Reply::NotLeaf);
+        }
+        (call.ask == 0).then_some(Reply::ZeroAsk)
+    }
+
+    /// Answers a draw that is not refused.
+    fn grant(&mut self, seat: u32, Draw { leaf, ask }: Draw) -> Reply {
+        let bound = ask.min(self.per_processor - self.by_processor[seat as usize]);
+        let got = self.path(leaf).map(|row| self.left(row)).fold(bound, u64::min);
+        let short = if got == ask {
+            Short::Nothing
+        } else {
+            match self.path(leaf).find(|row| self.left(*row) == got) {
+                Some(row) => Short::Group(row as u32),
+                None => Short::Processor,
+            }
+        };
+        let mut at = (got > 0).then_some(leaf);
+        while let Some(row) = at {
+            self.drawn[row as usize] += got;
+            at = self.parents[row as usize];
+        }
+        self.by_processor[seat as usize] += got;
+        self.held[seat as usize * self.leaf.len() + leaf as usize] += got;
+        Reply::Granted { got, short }
+    }
+
+    /// Makes one call, and notes it.
+    fn step(&mut self, seat: u32, call: Draw) -> Reply {
+        let reply = match self.refusal(seat, call) {
+            Some(refusal) => refusal,
+            None => self.grant(seat, call),
+        };
+        self.history.push(Entry { seat, call, reply });
+        reply
+    }
+}
+
+impl Slices for Whole {
+    fn new(seats: u32) -> Whole {
+        let rows = LEAVES + 1;
+        let leaves = shares(seats).map(u64::from);
+        let calls = seats * (EACH + LEAVES as u32);
+        Whole {
+            per_processor: u64::from(EACH),
+            parents: (0..rows).map(|row| (row > 0).then_some(0)).collect(),
+            leaf: (0..rows).map(|row| row > 0).collect(),
+            drawn: vec![0; rows],
+            ceiling: std::iter::once(u64::from(seats * EACH)).chain(leaves).collect(),
+            by_processor: vec![0; seats as usize],
+            held: vec![0; seats as usize * rows],
+            history: Vec::with_capacity(calls as usize),
+        }
+    }
+
+    fn draw(&mut self, seat: u32, leaf: usize) -> bool {
+        // the compiler must not know the call beforehand
+        let call = std::hint::black_box(Draw { leaf: leaf as u32 + 1, ask: 1 });
+        match self.step(seat, call) {
+            Reply::Granted { got, short: Short::Nothing } => got == call.ask,
+            Reply::Granted { short: Short::Group(row), .. } => {
+                assert_eq!(row, call.leaf);
+                false
+            }
+            _ => false,
+        }
+    }
+
+    fn drawn(&self) -> usize {
+        let calls: u64 = self
+            .history
+            .iter()
+            .map(|entry| match entry.reply {
+                Reply::Granted { got, .. } => {
+                    assert!(entry.seat < self.by_processor.len() as u32 && got <= entry.call.ask);
+                    got
+                }
+                _ => 0,
+            })
+            .sum();
+        assert_eq!(calls, self.drawn[0]);
+        calls as usize
+    }
+}
+
+trait Lock<P>: Sync {
+    fn new(pool: P) -> Self;
     fn draw(&self, seat: u32, leaf: usize) -> bool;
-    fn into_pool(self) -> Pool;
+    fn into_pool(self) -> P;
 }
 
-impl Lock for Mutex<Pool> {
-    fn new(pool: Pool) -> Self {
+impl<P: Slices> Lock<P> for Mutex<P> {
+    fn new(pool: P) -> Self {
         Mutex::new(pool)
     }
 
@@ -67,23 +241,23 @@ impl Lock for Mutex<Pool> {
         self.lock().unwrap().draw(seat, leaf)
     }
 
-    fn into_pool(self) -> Pool {
+    fn into_pool(self) -> P {
         self.into_inner().unwrap()
     }
 }
 
-struct Tickets {
+struct Tickets<P> {
     next: AtomicU32,
     serving: AtomicU32,
     // The mark of the ticket whose owner may sleep, at the ticket's place.
     marks: [AtomicU32; WORDS],
-    pool: UnsafeCell<Pool>,
+    pool: UnsafeCell<P>,
 }
 
 // SAFETY: the pool is touched only by the owner of the served ticket.
-unsafe impl Sync for Tickets {}
+unsafe impl<P: Send> Sync for Tickets<P> {}
 
-impl Tickets {
+impl<P> Tickets<P> {
     fn mark(&self, ticket: u32) -> &AtomicU32 {
         &self.marks[ticket as usize % WORDS]
     }
@@ -117,8 +291,8 @@ impl Tickets {
     }
 }
 
-impl Lock for Tickets {
-    fn new(pool: Pool) -> Self {
+impl<P: Slices> Lock<P> for Tickets<P> {
+    fn new(pool: P) -> Self {
         Tickets {
             next: AtomicU32::new(0),
             serving: AtomicU32::new(0),
@@ -135,13 +309,13 @@ impl Lock for Tickets {
         drawn
     }
 
-    fn into_pool(self) -> Pool {
+    fn into_pool(self) -> P {
         self.pool.into_inner()
     }
 }
 
 /// Draws the slices of one seat.
-fn work<L: Lock>(lock: &L, seat: u32) {
+fn work<P, L: Lock<P>>(lock: &L, seat: u32) {
     let (mut leaf, mut drawn) = (0, 0);
     while drawn < EACH && leaf < LEAVES {
         if lock.draw(seat, leaf) {
@@ -153,29 +327,32 @@ fn work<L: Lock>(lock: &L, seat: u32) {
 }
 
 /// Milliseconds of a period in which each seat has a thread.
-fn period<L: Lock>(seats: u32) -> f64 {
+fn period<P: Slices, L: Lock<P>>(seats: u32) -> f64 {
     let began = Instant::now();
-    let lock = L::new(Pool::new(seats));
+    let lock = L::new(P::new(seats));
     std::thread::scope(|scope| {
         for seat in 0..seats {
             let lock = &lock;
             scope.spawn(move || work(lock, seat));
         }
     });
-    assert_eq!(lock.into_pool().draws.len(), (seats * EACH) as usize);
-    began.elapsed().as_secs_f64() * 1e3
+    let pool = lock.into_pool();
+    let took = began.elapsed().as_secs_f64() * 1e3;
+    assert_eq!(pool.drawn(), (seats * EACH) as usize);
+    took
 }
 
 /// Prints the lock, the seats, and the milliseconds of each run.
-fn show<L: Lock>(name: &str, seats: u32, runs: usize) {
-    let times: Vec<String> = (0..runs).map(|_| format!("{:.4}", period::<L>(seats))).collect();
+fn show<P: Slices, L: Lock<P>>(name: &str, seats: u32, runs: usize) {
+    let times: Vec<String> = (0..runs).map(|_| format!("{:.4}", period::<P, L>(seats))).collect();
     println!("{name} {seats} {}", times.join(" "));
 }
 
 fn main() {
     let runs = std::env::args().nth(1).and_then(|word| word.parse().ok()).unwrap_or(10);
     for seats in [1, 4, 16, 64] {
-        show::<Mutex<Pool>>("mutex", seats, runs);
-        show::<Tickets>("tickets", seats, runs);
+        show::<Bare, Mutex<Bare>>("mutex", seats, runs);
+        show::<Whole, Mutex<Whole>>("pool", seats, runs);
+        show::<Bare, Tickets<Bare>>("tickets", seats, runs);
     }
 }
