@@ -12,6 +12,7 @@ from arbiter_host.base.faults import HostFault
 from arbiter_host.hold import hold, scheduler
 from held import FREE, TWO, World
 from places import PACKAGE
+from test_children import soon
 
 UNIT = PACKAGE.parent / "share/systemd/arbiter-schedule.service"
 # System calls of the loader in a guest, by `strace -f -c`: it loads, takes two plans, and is read.
@@ -134,7 +135,7 @@ def test_a_loader_that_ends_ends_the_loop(begun):
     world, loop = begun(GROUPS, "", "", "fail")
     with pytest.raises(hold.WriteFault, match="the kernel ended the scheduler"):
         world.run(loop, *[lambda: None] * 4)
-    assert loop.scheduler.process.poll() is not None
+    assert loop.scheduler.child.has_ended()
 
 
 def test_what_is_no_reading_is_refused(begun):
@@ -155,6 +156,36 @@ def test_without_a_loader(monkeypatch, folder):
     program.chmod(0o755)
     with pytest.raises(HostFault, match="this kernel has no sched_ext"):
         scheduler.Scheduler("/sys/fs/cgroup")
+
+
+# Loaders that do not do what they should, behind their first answer.
+READY = "import os, sys, time\nprint('ready', flush=True)\n"
+BAD = {
+    "reads nothing": "time.sleep(60)",
+    "answers nothing": "sys.stdin.read()\ntime.sleep(60)",
+    "a line without an end": "while True: print('x' * 9000, end='')",
+    "closes its pipes": "os.close(0); os.close(1); os.close(2)\ntime.sleep(60)",
+    "leaves somebody behind": "if os.fork() == 0:\n os.setsid()\n time.sleep(30)\nsys.exit('gone')",
+    "says much": "while True: sys.stderr.write('x' * 9000)",
+}
+
+
+@pytest.mark.parametrize("name", BAD)
+def test_a_loader_has_a_deadline(monkeypatch, folder, name):
+    """What it is told, what it answers, and its end. No wait for it is without one."""
+    program = folder / "loader"
+    program.write_text(f"#!{sys.executable}\n{READY}{BAD[name]}\n")
+    program.chmod(0o755)
+    with soon():
+        found = scheduler.Scheduler("/sys/fs/cgroup", str(program))
+        other = scheduler.Scheduler("/sys/fs/cgroup", str(program))
+        monkeypatch.setattr(scheduler, "LONGEST", 0.5)
+        with pytest.raises(hold.WriteFault) as fault:
+            found.plan(1, [(number, 1, 0) for number in range(20_000)])
+            found.read()
+        assert fault.value.message.count("\n") == 0 and len(fault.value.message) <= 400
+        found.end()
+        other.end()
 
 
 def test_refused_words(ctl, folder, world):

@@ -2,13 +2,14 @@
 words that it is given: Debian has no API server, and no docker, podman or systemd runs here."""
 import json
 import os
+import signal
 import sys
-import time
 from pathlib import Path
 
 import pytest
 from arbiter_host.base.faults import HostFault
 from arbiter_host.sources import services
+from test_children import is_gone, left_behind, soon
 
 FIXTURES = Path(__file__).parent / "fixtures"
 KUBECTL = """\
@@ -145,18 +146,28 @@ def test_services_that_do_not_answer(ctl, folder, word, status, told):
     assert out == "" and told in err and err.count("arbiterctl: ") == 1
 
 
-def test_an_answer_has_bounds(monkeypatch):
+def test_an_answer_has_bounds(monkeypatch, tmp_path):
     """Its bytes, its time, and what it began: none is left. SECURITY.md names the bounds."""
     assert (services.MAX_BYTES, services.SECONDS) == (128 << 20, 120)
     monkeypatch.setattr(services, "MAX_BYTES", 1000)
     with pytest.raises(HostFault, match="more than 0 MiB"):
         services.printed(["sh", "-c", "yes"])
     monkeypatch.setattr(services, "SECONDS", 0.3)
-    began = time.monotonic()
-    with pytest.raises(HostFault, match="no whole answer in 0.3 seconds"):
-        services.printed(["sh", "-c", "sleep 100 & sleep 100"])
-    assert time.monotonic() - began < 10
-    assert services.printed(["sh", "-c", "echo a; sleep 100 & exit 0"]) == b"a\n"
+    told = tmp_path / "told"
+    with soon(), pytest.raises(HostFault, match="no whole answer in 0.3 seconds"):
+        services.printed(["sh", "-c", f"sleep 100 & echo $! >{told}; sleep 100"])
+    assert is_gone(int(told.read_text()))
+
+
+def test_what_lives_on_holds_no_answer_up(monkeypatch):
+    """As the daemon of a plug-in of kubectl, which keeps the output. The answer is whole."""
+    with soon():
+        process, word = services.printed(left_behind("print('a', flush=True)")).split()
+    os.kill(int(process), signal.SIGKILL)
+    assert word == b"a"
+    monkeypatch.setattr(services, "SECONDS", 0.5)
+    with soon(), pytest.raises(HostFault, match="no whole answer"):
+        services.printed(left_behind("time.sleep(60)"))
 
 
 @pytest.mark.parametrize("data", [b"", b"[]", b"{}", b'{"items": 5}', b'{"items": [5]}', b"\xff"])

@@ -7,16 +7,16 @@ that program ends, whatever ends it.
 from __future__ import annotations
 
 import os
-import select
 import shutil
-import subprocess
 import time
 from collections.abc import Iterator
 from typing import Any
 
 from arbiter import Columns, Host, LeafTimes, Reading, Round
-from arbiter_host.base.faults import HostFault
+from arbiter_host.base import children
+from arbiter_host.base.faults import HostFault, strerror
 from arbiter_host.base.model import Group, Model
+from arbiter_host.base.names import shown
 from arbiter_host.hold import hold
 from arbiter_host.hold.hold import WriteFault, Written
 
@@ -25,54 +25,61 @@ PROGRAM = "arbiter-scheduler"
 FOLDERS = "/usr/sbin:/usr/local/sbin"
 # Seconds within which it answers: a slow machine loads it for a while.
 LONGEST = 60
+# Bytes of a line of it.
+MOST_LINE = 1 << 12
 # The period of limits in nanoseconds; the greatest amount that it takes.
 LIMIT_PERIOD, MOST_AMOUNT = 10**8, 10**9
 
 
 class Scheduler:
-    """The program that runs, and what is said to it."""
+    """The program that runs, and what is said to it. Each answer has a deadline and a bound."""
 
     def __init__(self, top: str, program: str = "") -> None:
         found = program or shutil.which(PROGRAM, path=f"{os.environ.get('PATH', '')}:{FOLDERS}")
         if not found:
             raise HostFault(f"--by scheduler: no {PROGRAM}: apt-get install {PROGRAM}")
-        # (an interrupt of the terminal is the loop's)
-        self.process = subprocess.Popen(
-            [found, top], stdin=subprocess.PIPE, stdout=subprocess.PIPE, stderr=subprocess.PIPE,
-            start_new_session=True)
-        self.rest = b""
+        try:
+            self.child = children.Child([found, top])
+        except OSError as error:
+            raise HostFault(f"{found}: {strerror(error)}") from error
         self.answer("ready")
 
     def fault(self, about: str) -> WriteFault:
         """What it said when it ended; it is ended if it has not."""
-        self.process.kill()
-        said = self.process.communicate()[1].decode(errors="replace").strip().splitlines()
-        return WriteFault(said[-1][:400] if said else f"{PROGRAM}: {about}")
+        self.child.kill()
+        until = time.monotonic() + LONGEST
+        while self.child.step(until) and time.monotonic() < until:
+            pass
+        self.child.end()
+        said = self.child.said.decode(errors="replace").strip().splitlines()
+        return WriteFault(shown(said[-1][:400]) if said else f"{PROGRAM}: {about}")
+
+    def step(self, until: float) -> None:
+        """Moves what it says and is told. A fault where it ended or is late."""
+        if not self.child.step(until):
+            raise self.fault("it ended")
+        if time.monotonic() > until:
+            raise self.fault("it does not answer")
 
     def say(self, *lines: str) -> None:
         """Sends commands."""
-        try:
-            assert self.process.stdin is not None
-            self.process.stdin.write("".join(f"{line}\n" for line in lines).encode())
-            self.process.stdin.flush()
-        except OSError as error:
-            raise self.fault("it ended") from error
+        until = time.monotonic() + LONGEST
+        self.child.give("".join(f"{line}\n" for line in lines).encode())
+        while self.child.given:
+            self.step(until)
 
     def lines(self) -> Iterator[list[str]]:
         """The words of each line that comes in time."""
-        assert self.process.stdout is not None
-        until, stdout = time.monotonic() + LONGEST, self.process.stdout
+        until, said = time.monotonic() + LONGEST, self.child.out
         while True:
-            line, mark, left = self.rest.partition(b"\n")
+            line, mark, _ = said.partition(b"\n")
             if mark:
-                self.rest = left
+                del said[:len(line) + 1]
                 yield line.decode("ascii", "replace").split()
                 continue
-            ready, _, _ = select.select([stdout], [], [], max(until - time.monotonic(), 0))
-            more = os.read(stdout.fileno(), 1 << 16) if ready else b""
-            if not more:
-                raise self.fault("it ended" if ready else "it does not answer")
-            self.rest += more
+            if len(said) > MOST_LINE:
+                raise self.fault("it answers what is no reading")
+            self.step(until)
 
     def answer(self, last: str) -> list[list[str]]:
         """The lines of an answer up to the one that begins with a word."""
@@ -103,11 +110,11 @@ class Scheduler:
 
     def end(self) -> None:
         """Ends it: the kernel schedules by weights again."""
-        try:
-            self.process.communicate(timeout=LONGEST)
-        except (OSError, ValueError, subprocess.TimeoutExpired):
-            self.process.kill()
-            self.process.wait()
+        until = time.monotonic() + LONGEST
+        self.child.give(b"", is_last=True)
+        while self.child.step(until) and time.monotonic() < until:
+            pass
+        self.child.end()
 
 
 class ScheduledLoop(hold.Loop):

@@ -10,7 +10,6 @@ import functools
 import json
 import os
 import shlex
-import subprocess
 from collections.abc import Container, Iterable, Iterator, Sequence
 from contextlib import closing
 from dataclasses import dataclass, field, replace
@@ -18,16 +17,17 @@ from enum import Enum
 from fractions import Fraction
 from typing import Any
 
-from arbiter_host.base import units
+from arbiter_host.base import children, units
 from arbiter_host.base.atomic_files import faults, kept_folder, place_of
-from arbiter_host.base.faults import HostFault, naming, strerror
+from arbiter_host.base.faults import HostFault, naming
 from arbiter_host.base.model import Group, Model, check_settings
 from arbiter_host.base.names import NOWHERE, raw_path, shown
 from arbiter_host.base.safe_files import Gone, Identity, Root, parts_of
 from arbiter_host.sources import cgroup2, data
 from arbiter_host.sources.systemd import UNIT
 
-SECONDS = 60
+# Seconds and bytes of an answer of systemctl.
+SECONDS, MOST_PRINTED = 60, 1 << 20
 VERSION = 1
 # Settings that are kept to be found again.
 MOST_KNOWN = 1 << 16
@@ -344,17 +344,11 @@ def write_synced(path: str, text: str) -> None:
 
 def systemctl(words: Sequence[str]) -> str:
     """Output of systemctl; a fault with its own words."""
-    try:
-        ended = subprocess.run(["systemctl", *words], capture_output=True, text=True, check=False,
-                               errors="replace", stdin=subprocess.DEVNULL, timeout=SECONDS)
-    except OSError as error:
-        raise HostFault(f"systemctl: {strerror(error)}") from error
-    except subprocess.TimeoutExpired as error:
-        raise HostFault(f"systemctl: no answer in {SECONDS} seconds") from error
-    if ended.returncode:
-        said = shown(ended.stderr.strip()[:400]) or f"status {ended.returncode}, without a word"
-        raise HostFault(f"systemctl: {said}")
-    return ended.stdout
+    ended = children.run(["systemctl", *words], SECONDS, MOST_PRINTED)
+    if ended.status:
+        said = ended.said.decode(errors="replace").strip()[:400]
+        raise HostFault(f"systemctl: {shown(said) or f'status {ended.status}, without a word'}")
+    return ended.out.decode(errors="replace")
 
 
 def false_units(steps: Sequence[Step]) -> dict[str, str]:

@@ -7,16 +7,12 @@ from __future__ import annotations
 
 import json
 import os
-import signal
-import subprocess
-import tempfile
-import threading
 from collections.abc import Iterator, Sequence
-from contextlib import suppress
 from typing import Any
 from urllib.parse import urlencode
 
-from arbiter_host.base.faults import HostFault, UsageFault, strerror
+from arbiter_host.base import children
+from arbiter_host.base.faults import HostFault, UsageFault
 from arbiter_host.base.names import cut, shown
 from arbiter_host.sources.data import MAX_BYTES, field, loads
 from arbiter_host.sources.kubernetes import items_of
@@ -31,38 +27,13 @@ NODES, PODS, METRICS = "/api/v1/nodes", "/api/v1/pods", "/apis/metrics.k8s.io/v1
 SECONDS, PAGE, MOST_PAGES = 120, 500, 2000
 
 
-def end(process: subprocess.Popen[bytes]) -> None:
-    """Ends a command with all that it began."""
-    with suppress(ProcessLookupError):
-        os.killpg(process.pid, signal.SIGKILL)
-
-
 def printed(words: Sequence[str]) -> bytes:
     """What a command prints. A fault where it fails, prints too much or takes too long."""
-    try:
-        with tempfile.TemporaryFile() as said, subprocess.Popen(
-                words, stdin=subprocess.DEVNULL, stdout=subprocess.PIPE, stderr=said,
-                env={**os.environ, "LC_ALL": "C"}, start_new_session=True) as process:
-            timer = threading.Timer(SECONDS, end, [process])
-            timer.start()
-            try:
-                data = process.stdout.read(MAX_BYTES + 1) if process.stdout else b""
-                is_long = len(data) > MAX_BYTES
-                status = None if is_long else process.wait()
-            finally:
-                timer.cancel()
-                end(process)
-            said.seek(0)
-            last = said.read(4000).decode(errors="replace").strip().split("\n")[-1]
-    except OSError as error:
-        raise HostFault(f"{words[0]}: {strerror(error)}") from error
-    if status:
-        why = f"no whole answer in {SECONDS} seconds" if status == -signal.SIGKILL else (
-            shown(cut(last, 300)) or f"status {status}")
-        raise HostFault(f"{words[0]}: {why}")
-    if is_long:
-        raise HostFault(f"{words[0]}: an answer of more than {MAX_BYTES >> 20} MiB")
-    return data
+    ended = children.run(words, SECONDS, MAX_BYTES, environment={**os.environ, "LC_ALL": "C"})
+    if ended.status:
+        last = ended.said.decode(errors="replace").strip().split("\n")[-1]
+        raise HostFault(f"{words[0]}: {shown(cut(last, 300)) or f'status {ended.status}'}")
+    return ended.out
 
 
 class RunningService:

@@ -7,7 +7,6 @@ import json
 import os
 import re
 import shlex
-import subprocess
 import sys
 import time
 from collections.abc import Callable, Sequence
@@ -15,8 +14,8 @@ from typing import TYPE_CHECKING
 
 from arbiter_host.answers import explain
 from arbiter_host.answers.explain import View
-from arbiter_host.base import options, output, progress
-from arbiter_host.base.faults import Alerted, HostFault, UsageFault, strerror
+from arbiter_host.base import children, options, output, progress
+from arbiter_host.base.faults import Alerted, HostFault, UsageFault
 from arbiter_host.base.model import PodNames
 from arbiter_host.base.names import shown
 from arbiter_host.base.plan import Plan, engine_of, plan
@@ -65,14 +64,12 @@ def run_command(words: Sequence[str], raised: Sequence[top.Alert]) -> None:
     """Runs the command of an alert, with the alerts as JSON on its standard input."""
     given = json.dumps([each.data("condition") for each in raised]) + "\n"
     try:
-        ended = subprocess.run(words, input=given.encode(), timeout=SECONDS, check=False)
-        why = f"status {ended.returncode}" if ended.returncode else ""
-    except OSError as error:
-        why = strerror(error)
-    except subprocess.TimeoutExpired:
-        why = f"no end in {SECONDS} seconds"
-    if why:
-        output.warn(f"--command {words[0]}: {why}")
+        status = children.run(words, SECONDS, given=given.encode()).status
+    except HostFault as fault:
+        output.warn(f"--command {fault.message}")
+    else:
+        if status:
+            output.warn(f"--command {words[0]}: status {status}")
 
 
 class Watch:
