@@ -11,7 +11,6 @@ from arbiter import c
 
 # The types of a column's entries, as `array` names them: 8, 32 and 64 bits.
 U8, U32, U64 = "B", "I", "Q"
-TYPES: dict[str, Any] = {U8: c.U8, U32: c.U32, U64: c.U64}
 
 
 @dataclass(frozen=True)
@@ -124,11 +123,21 @@ def zeros(kind: str, count: int) -> array[int]:
     return array(kind, bytes(count * array(kind).itemsize))
 
 
+def flag_column(numbers: Sequence[bool]) -> array[int]:
+    """A column of 1 for what holds, and of 0."""
+    return array(U8, [bool(each) for each in numbers])
+
+
+def limits(numbers: array[int]) -> list[int | None]:
+    """Limits or quotas of C; None for none."""
+    return [None if each == c.NO_LIMIT else each for each in numbers]
+
+
 def given(*columns: array[int]) -> list[Any]:
     """Each column as C takes it: its memory, which stays while it is held, and its length."""
     found: list[Any] = []
     for each in columns:
-        found += [(TYPES[each.typecode] * len(each)).from_buffer(each), len(each)]
+        found += [(c.TYPES[each.typecode] * len(each)).from_buffer(each), len(each)]
     return found
 
 
@@ -168,9 +177,9 @@ class Columns:
         return len(self.parents)
 
     @property
-    def given(self) -> list[Any]:
-        """The columns as C takes them."""
-        return given(self.parents, self.weights, self.limits, self.demands)
+    def all(self) -> tuple[array[int], ...]:
+        """The columns in the order of C."""
+        return self.parents, self.weights, self.limits, self.demands
 
 
 class Script(NamedTuple):
@@ -244,7 +253,7 @@ class Certificate(NamedTuple):
            ) -> Certificate:
         """The certificate of flags and levels; None is no level."""
         found = [level or (0, 0, 0) for level in levels]
-        return cls(column(U8, [bool(flag) for flag in flags], "flag"),
+        return cls(flag_column(flags),
                    column(U64, [level[0] for level in found], "num"),
                    column(U64, [level[1] for level in found], "den"),
                    column(U32, [level[2] for level in found], "place"))

@@ -14,11 +14,11 @@ from arbiter import c
 from arbiter.found import Unavailable
 
 
-def word_of(kind: Any, given: Any) -> str:
-    """A word of a call as the process reads it: of a column that the call writes its length."""
-    if isinstance(given, ctypes.Array):
-        return str(len(given)) if kind is c.WRITTEN else ",".join(map(str, given))
-    return str(given._obj.value if kind is c.WRITTEN else given)
+def word_of(word: c.Argument, given: Any) -> str:
+    """A word as the process reads it: of a column that the call only writes its length."""
+    if word.is_column:
+        return ",".join(map(str, given)) if word.is_read else str(len(given))
+    return str(given._obj.value if word.is_written else given)
 
 
 def write(into: Any, told: str) -> None:
@@ -56,10 +56,11 @@ class Calls:
     def call(self, name: str, *words: Any) -> int:
         """One call: what it answers, after all that it wrote is written."""
         # (the length behind a column is known from its memory)
-        own = [(kind, word) for kind, word, before in zip(c.WORDS[name], words, (None, *words))
+        own = [word for word, before in zip(words, (None, *words))
                if not isinstance(before, ctypes.Array)]
-        number, *told = self.answer(" ".join([name, *(word_of(*each) for each in own)]))
-        for into, each in zip([word for kind, word in own if issubclass(kind, c.WRITTEN)], told,
+        pairs = list(zip(c.WORDS[name], own, strict=True))
+        number, *told = self.answer(" ".join([name, *(word_of(*each) for each in pairs)]))
+        for into, each in zip([given for word, given in pairs if word.is_written], told,
                               strict=True):
             write(into, each)
         return int(number)

@@ -4,11 +4,12 @@ from __future__ import annotations
 import argparse
 from dataclasses import dataclass
 
-from jinja2 import Environment, PackageLoader
+from jinja2 import Environment
 
 from arbiter_host import command
 from arbiter_host.base import options as table
 from arbiter_host.subcommands import Subcommand
+from arbiter_pages import shapes
 
 ARGUMENTS = "Arguments"
 # Names of values that are files or folders.
@@ -69,7 +70,6 @@ def options(each: Subcommand) -> list[Word]:
 
 def environment() -> Environment:
     """What renders the templates of this package, with the questions to a subcommand."""
-    made = Environment(loader=PackageLoader("arbiter_pages"), trim_blocks=True, lstrip_blocks=True,
-                       keep_trailing_newline=True)
+    made = shapes.environment()
     made.filters |= {"sections": sections, "arguments": arguments, "options": options}
     return made

@@ -9,6 +9,7 @@ import arbiter
 import pytest
 from arbiter import c, found
 from arbiter.columns import Columns, column, given
+from arbiter.words import ANSWERS
 from places import PACKAGE
 
 HEADER = (PACKAGE.parent / "share/arbiter.h").read_text()
@@ -18,21 +19,19 @@ TYPES = {"uint32_t": c.U32, "uint64_t": c.U64, "size_t": c.SIZE}
 
 def type_of(word):
     """The type of a parameter of the header."""
-    if "*" not in word:
-        return TYPES[word.split()[0]]
-    return c.POINTER if "const" in word else c.WRITTEN
+    return c.POINTER if "*" in word else TYPES[word.split()[0]]
 
 
 @pytest.mark.parametrize("answer, name, words", DECLARED, ids=[row[1] for row in DECLARED])
 def test_words_of_the_header(answer, name, words):
     """Each call has the words and the answer that the header declares."""
-    known = [c.WRITTEN if word is c.CHANGED else word for word in c.WORDS[name]]
+    known = [kind for word in c.WORDS[name] for kind in word.types]
     assert known == [type_of(word) for word in words.split(",")]
-    assert c.ANSWERS.get(name, c.U32) is TYPES[answer]
+    assert c.TYPES[ANSWERS.get(name, "I")] is TYPES[answer]
 
 
 def test_no_other_call():
-    assert set(c.WORDS) == {name for _, name, _ in DECLARED} and set(c.ANSWERS) <= set(c.WORDS)
+    assert set(c.WORDS) == {name for _, name, _ in DECLARED} and set(ANSWERS) <= set(c.WORDS)
 
 
 def test_constants_of_the_header():
@@ -47,13 +46,13 @@ def test_constants_of_the_header():
 def test_columns_as_c_takes_them():
     """A column is its memory, which it keeps, and its length. No column is a null pointer."""
     columns = Columns.of([arbiter.Row(), arbiter.Row(0, 7, 3, 2), arbiter.Row(0, demand=9)])
-    words = columns.given
+    words = given(*columns.all)
     assert words[1::2] == [3] * 4 and Columns.of(columns) is columns
     assert [type(each)._type_ for each in words[::2]] == [c.U32, c.U64, c.U64, c.U64]
     assert [list(each) for each in words[::2]] == [
         [c.NO_PARENT, 0, 0], [100, 7, 100], [c.NO_LIMIT, 3, c.NO_LIMIT], [0, 2, 9]]
-    assert Columns.of([]).given[1::2] == [0] * 4
-    assert all(ctypes.addressof(each) for each in Columns.of([]).given[::2])
+    assert given(*Columns.of([]).all)[1::2] == [0] * 4
+    assert all(ctypes.addressof(each) for each in given(*Columns.of([]).all)[::2])
 
 
 def test_columns_are_kept():
