@@ -9,7 +9,8 @@ from collections.abc import Sequence
 from typing import TYPE_CHECKING, NoReturn
 
 from arbiter_host import __version__, helps
-from arbiter_host.base import names, options as table
+from arbiter_host import options as table
+from arbiter_host.base import names
 from arbiter_host.base.faults import HostFault, NoLibrary, missing_module
 from arbiter_host.base.output import drop_output, say, tell
 from arbiter_host.subcommands import SUMMARIES, Subcommand, find

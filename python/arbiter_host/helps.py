@@ -5,7 +5,7 @@ import argparse
 from collections.abc import Iterable, Mapping
 from typing import Any
 
-from arbiter_host.base import options
+from arbiter_host import options
 from arbiter_host.sources.register import READERS
 
 ABOUT = ("Plans for the groups of a real host, each accepted by the proved check before it is"

@@ -7,7 +7,7 @@ from dataclasses import dataclass
 from jinja2 import Environment
 
 from arbiter_host import command
-from arbiter_host.base import options as table
+from arbiter_host import options as table
 from arbiter_host.subcommands import Subcommand
 from arbiter_pages import shapes
 

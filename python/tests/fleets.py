@@ -1,12 +1,9 @@
 """Makes the files of a fleet, and asks it without the command."""
 import random
-from types import SimpleNamespace
 
 from arbiter_host.fleet import hosts, questions
-from arbiter_host.fleet.work import Job
-
-READING = {"kind": None, "want": None, "scale": [], "read": None, "node": "", "strict": False,
-           "cpus": None, "period": None, "slice": None, "node_weights": "linear", "used": []}
+from arbiter_host.fleet.work import Action, Job
+from arbiter_host.sources.source_options import SourceOptions
 
 
 def script(number, groups):
@@ -47,13 +44,11 @@ def make_demands(folder, count, samples):
 def of(path, **words):
     """The fleet of a path; None where it is one host."""
     data = None if path.is_dir() else path.read_bytes()
-    options = SimpleNamespace(**{"kind": None, "node": "", "want": None, **words})
-    return hosts.fleet_in(options, [(str(path), data)])
+    return hosts.fleet_in(SourceOptions(**words), [(str(path), data)])
 
 
-def asked(path, calls, action="explain", workers=0, **words):
+def asked(path, calls, action=Action.PLAN, workers=0, **words):
     """The answers of the hosts of a path by name, and the hosts that have none."""
-    options = SimpleNamespace(library=calls.path, workers=workers, dask=None, verbose=False)
-    job = Job(action, dict(READING), library=calls.path, **words)
-    found, missing = questions.asked(options, job, of(path))
+    job = Job(action, SourceOptions(), library=calls.path, **words)
+    found, missing = questions.asked(questions.Planners(workers), job, of(path))
     return {host.name: host.answer for host in found}, dict(missing)

@@ -1,7 +1,8 @@
-"""Reads sources as a command does, with the host and the wishes that a test gives."""
+"""Reads sources as a command does, with the host and the options that a test gives."""
 from fractions import Fraction
 
 from arbiter_host.sources import containers, hostfile, kubernetes, script, slurm, systemd
+from arbiter_host.sources.readings import Times
 from arbiter_host.sources.source_options import SourceOptions
 
 
@@ -14,27 +15,28 @@ class Planner:
         return host
 
 
-def wish_of(host=None, **words):
-    """The wish for a host, where one is given."""
+def options_of(host=None, seconds=Fraction(1), **words):
+    """What is asked of a source on a host, where one is given."""
+    times = Times(seconds)
     if host is None:
-        return SourceOptions(Planner(), **words)
-    return SourceOptions(Planner(), host.processors, host.period_us, host.slice_us, **words)
+        return SourceOptions(times=times, **words)
+    return SourceOptions(host.processors, host.period_us, host.slice_us, times=times, **words)
 
 
 def pods(files, host, library, **words):
-    return kubernetes.read(files, library, wish_of(host, **words))
+    return kubernetes.read(files, library or Planner(), options_of(host, **words))
 
 
 def docker(files, host, library, **words):
-    return containers.read(files, library, wish_of(host, **words))
+    return containers.read(files, library or Planner(), options_of(host, **words))
 
 
 def units(files, host, want="", seconds=Fraction(1)):
-    return systemd.read(files, None, wish_of(host, want=want, seconds=seconds))
+    return systemd.read(files, Planner(), options_of(host, seconds, want=want))
 
 
 def jobs(files, host=None, node="", want=""):
-    return slurm.read(files, None, wish_of(host, node=node, want=want))
+    return slurm.read(files, Planner(), options_of(host, node=node, want=want))
 
 
 def lines(data, name, engine, host=None):

@@ -11,7 +11,7 @@ import subprocess
 import pytest
 import yaml
 from arbiter_host import exports
-from arbiter_host.base import options
+from arbiter_host import options
 from arbiter_host.base.atomic_files import Document
 from arbiter_host.base.faults import HostFault
 from arbiter_host.exports import compose

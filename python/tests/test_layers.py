@@ -2,12 +2,13 @@
 import ast
 import re
 
+from arbiter_host.subcommands import SUMMARIES
 from places import PACKAGE
 
 # From the lowest on: the folders of the package, and its modules beside them.
 LAYERS = [["base"], ["sources"], ["answers"], ["setting"],
           ["audit", "exports", "fleet", "hold", "recommend", "top", "tune"],
-          ["helps", "subcommands", "command", "__main__"]]
+          ["options", "records", "helps", "subcommands", "command", "__main__"]]
 FEATURES = LAYERS[-2]
 LAYER = {name: at for at, names in enumerate(LAYERS) for name in names}
 
@@ -63,6 +64,22 @@ def test_each_folder_has_its_layer():
 def test_nothing_leans_upward():
     """A module imports none of a layer above its own."""
     assert [edge for edge in EDGES if LAYER[head(edge[0])] < LAYER[head(edge[1])]] == []
+
+
+def compared(path):
+    """The strings with which a module compares, and what it imports whole."""
+    for node in ast.walk(ast.parse(path.read_text(encoding="utf-8"))):
+        if isinstance(node, ast.Compare):
+            yield from (each.value for side in (node.left, *node.comparators)
+                        for each in ast.walk(side) if isinstance(each, ast.Constant))
+        elif isinstance(node, ast.Import):
+            yield from (each.name for each in node.names)
+
+
+def test_words_of_the_command_line_end_in_its_layer():
+    """Below, no module asks which subcommand runs, and none takes what argparse makes."""
+    assert [(name, word) for name, path in MODULES.items() if LAYER[head(name)] < len(LAYERS) - 1
+            for word in compared(path) if word in {*SUMMARIES, "argparse"}] == []
 
 
 def test_features_know_no_feature():

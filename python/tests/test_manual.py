@@ -14,7 +14,7 @@ import time
 import pytest
 import trees
 from arbiter_host import helps
-from arbiter_host.base import options
+from arbiter_host import options
 from arbiter_host.subcommands import SUMMARIES, every
 from arbiter_pages import words
 from arbiter_pages.__main__ import SHARE, files

@@ -6,7 +6,8 @@ from pathlib import Path
 import pytest
 import trees
 from arbiter_host.answers import explain
-from arbiter_host.base import options as table, text
+from arbiter_host import options as table
+from arbiter_host.base import demands, text
 from arbiter_host.base.faults import UsageFault
 from arbiter_host.fleet import report
 from arbiter_host.sources import readings
@@ -43,7 +44,7 @@ def test_words_are_those_of_what_they_choose():
     """What options offer is what their readers know."""
     assert set(table.STATES) == set(explain.ONLY) and set(table.SORTS) == set(explain.SORTS)
     assert set(table.UNITS) == set(text.UNIT_WORDS) and set(table.KINDS) == set(READERS)
-    assert set(table.RANKS) == set(report.RULES)
+    assert set(table.RANKS) == set(report.RULES) and table.WANTS == demands.WANTS
     assert set(table.FORMS) <= set(SUMMARIES) and len(SUMMARIES) == 12
     assert {each for option in table.TABLE for each in option.subcommands} == set(SUMMARIES)
 

@@ -1,1 +1,1 @@
-"""The lowest layer: faults, names, files, options, units, a host's model and plan, text forms."""
+"""The lowest layer: faults, names, files, units, a host's model and plan, text forms."""

@@ -11,9 +11,9 @@ from arbiter import Host
 from arbiter_host.base import names, units
 from arbiter_host.base.faults import NothingFound, UsageFault
 from arbiter_host.base.model import Group, Model
-from arbiter_host.base.options import WANTS
 
-# Those that are taken from what was used.
+# What demands are taken from, and the first of them: from what was used.
+WANTS = ("usage", "peak", "p95", "psi", "limit", "request", "busy")
 OF_USE = WANTS[:4]
 # The greatest part of the time that pressure is taken for: above it the estimate has no meaning.
 MOST_PRESSURE = Fraction(19, 20)

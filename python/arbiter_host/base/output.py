@@ -5,11 +5,18 @@ import os
 import sys
 from collections.abc import Callable, Iterable, Mapping, Sequence
 from contextlib import suppress
-from typing import Any
+from typing import Any, NamedTuple
 
 from arbiter_host.base import names
 from arbiter_host.base.faults import HostFault, strerror
-from arbiter_host.base.options import Output
+
+
+class Output(NamedTuple):
+    """A form, and the file that has it; `-` is standard output."""
+
+    form: str
+    path: str
+
 
 # Lines with their styles on a terminal.
 Styled = Sequence[tuple[str, str]]

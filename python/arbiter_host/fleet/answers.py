@@ -17,7 +17,7 @@ from arbiter_host.answers import series
 from arbiter_host.base.faults import HostFault
 from arbiter_host.base.model import Group, Model, checked
 from arbiter_host.base.plan import Engine, Plan, PlannedGroup, plan_of
-from arbiter_host.fleet.work import Job, Sent, SentRows
+from arbiter_host.fleet.work import Action, Job, Sent, SentRows
 
 # Most groups that an answer names for one reason.
 MOST_NAMED = 5
@@ -147,8 +147,8 @@ def replayed(engine: Engine, host: Host, sent: Sent) -> dict[str, Any]:
                                   for path, each in cells.items()]}
 
 
-ACTIONS: dict[str, Callable[[Job, Iterator[Plan], dict[str, Any]], dict[str, Any]]] = {
-    "explain": explained, "diff": compared, "place": placed}
+ACTIONS: dict[Action, Callable[[Job, Iterator[Plan], dict[str, Any]], dict[str, Any]]] = {
+    Action.PLAN: explained, Action.CHANGE: compared, Action.PODS: placed}
 
 
 def answer_of(job: Job, sent: Sent | str, engine: Engine) -> dict[str, Any]:
@@ -159,8 +159,9 @@ def answer_of(job: Job, sent: Sent | str, engine: Engine) -> dict[str, Any]:
         if not all(type(each) is int for each in astuple(sent.host)):
             raise HostFault("a host of other than whole numbers")
         host, groups = checked(sent.host), len(sent.plans[0].paths) - 1 if sent.plans else 0
-        answer = replayed(engine, host, sent) if job.action == "replay" else ACTIONS[job.action](
-            job, (accepted(engine, host, each) for each in sent.plans), sent.told)
+        answer = ACTIONS[job.action](
+            job, (accepted(engine, host, each) for each in sent.plans), sent.told
+        ) if job.action in ACTIONS else replayed(engine, host, sent)
     except BROKEN as error:
         raise HostFault(f"what its worker answers cannot be read: {type(error).__name__}"
                         ) from error

@@ -1,11 +1,9 @@
 """The hosts of a fleet: files of a folder, or the nodes of a cluster."""
 from __future__ import annotations
 
-import argparse
 import json
 import math
 import os
-import re
 from collections.abc import Callable, Mapping, Sequence
 from dataclasses import dataclass, replace
 from typing import Any
@@ -15,9 +13,9 @@ from arbiter_host.base.faults import HostFault, UsageFault, strerror
 from arbiter_host.fleet.work import HostFile
 from arbiter_host.sources import kubernetes, load, pods
 from arbiter_host.sources.data import field, loads, table, text_field
+from arbiter_host.sources.source_options import SourceOptions
 from arbiter_host.sources.usage import Used, of_metrics, some
 
-NODE = re.compile(rb'"kind"\s*:\s*"Node"')
 # Files that a tree of cgroups has, and the folder of a fleet does not.
 TREE_FILES = frozenset({"cgroup.controllers", "cgroup.procs", "cpu.stat"})
 MOST_FILES = 100000
@@ -73,7 +71,7 @@ def below(folder: str) -> list[str] | None:
 
 def items_of(path: str, data: bytes) -> list[dict[str, Any]]:
     """The objects of JSON with several nodes; none of any other file."""
-    if data[:64].lstrip(b"\xef\xbb\xbf \t\r\n")[:1] != b"{" or len(NODE.findall(data)) < 2:
+    if not load.has_nodes(data):
         return []
     content = loads(data, names.shown(path))
     items = (kubernetes.items_of(content, names.shown(path))
@@ -93,7 +91,7 @@ def named(paths: Sequence[str], folder: str) -> list[HostFile]:
     return [files[name] for name in sorted(files)]
 
 
-def fleet_in(options: argparse.Namespace, files: Sequence[load.Opened],
+def fleet_in(options: SourceOptions, files: Sequence[load.Opened],
              used: Callable[[], Sequence[Used]] = tuple) -> Fleet | None:
     """The fleet that the files of the command line are; None where they are one host.
 
@@ -127,7 +125,7 @@ def of_one(files: Sequence[load.Opened]) -> Fleet:
 
 
 def of_cluster(word: str, items: Sequence[dict[str, Any]], used: Sequence[Used] = (),
-               want: str | None = None) -> Fleet:
+               want: str = "") -> Fleet:
     """A host for each node of `kubectl get nodes,pods -A -o json`, with the pods that it has and
     what these used."""
     nodes = [each for each in items if each.get("kind") == "Node"]

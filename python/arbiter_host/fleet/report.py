@@ -12,6 +12,7 @@ from arbiter_host.base.html import bar, rendered
 from arbiter_host.base.names import short, shown
 from arbiter_host.fleet.answers import HostAnswer
 from arbiter_host.fleet.hosts import Fleet
+from arbiter_host.fleet.work import Action
 
 # The rules of `--rank`, told in the report.
 RULES = {
@@ -43,10 +44,10 @@ class Table:
 
 @dataclass(frozen=True)
 class Report:
-    """All that is told of a run: lines, tables, hosts without an answer, the same as data, and the
-    bars of all hosts together."""
+    """All that is told of a run, by the name of its question: lines, tables, hosts without an
+    answer, the same as data, and the bars of all hosts together."""
 
-    action: str
+    name: str
     lines: list[str]
     tables: list[Table]
     missing: list[tuple[str, str]]
@@ -54,8 +55,8 @@ class Report:
     bars: list[dict[str, Any]]
 
 
-# Lines, tables, and the same as data.
-Parts = tuple[list[str], list[Table], dict[str, Any]]
+# Lines, tables, the same as data, and the CPUs of each bar by its name.
+Parts = tuple[list[str], list[Table], dict[str, Any], dict[str, Fraction]]
 Cell = Callable[[HostAnswer], str]
 Columns = Mapping[str, Cell]
 
@@ -131,7 +132,8 @@ def of_plan(hosts: Sequence[HostAnswer], _: str) -> Parts:
              f" {counts['starved']}; throttled: {counts['throttled']}"]
     ordered = sorted(hosts, key=lambda host: (-lack(host), host.name))
     data = {f"{key}_cpus": number(value) for key, value in amounts.items()} | counts
-    return lines, [table("Hosts, the greatest lack first", ordered, PLAN_COLUMNS)], data
+    return lines, [table("Hosts, the greatest lack first", ordered, PLAN_COLUMNS)], data, {
+        "": amounts["served"]}
 
 
 def lost(host: HostAnswer) -> Fraction:
@@ -178,7 +180,7 @@ def of_changes(hosts: Sequence[HostAnswer], _: str) -> Parts:
                     sorted(hosts, key=lambda host: (-lost(host), host.name)), CHANGE_COLUMNS)]
     return lines, tables, {
         "before_cpus": number(before), "after_cpus": number(after), "gain": gain, "lose": lose,
-        "hosts_with_such_a_group": with_group}
+        "hosts_with_such_a_group": with_group}, {"before": before, "after": after}
 
 
 def ranked(hosts: Sequence[HostAnswer], place: int, rule: str) -> list[HostAnswer]:
@@ -216,7 +218,7 @@ def of_places(hosts: Sequence[HostAnswer], rule: str) -> Parts:
         tables.append(table(f"Where {shown(name)} would go, the best first", order,
                             place_columns(place)))
         best[name] = [host.name for host in order]
-    return lines, tables, {"by": rule, "rule": RULES[rule], "best": best}
+    return lines, tables, {"by": rule, "rule": RULES[rule], "best": best}, {}
 
 
 def mean(host: HostAnswer, key: str) -> Fraction:
@@ -246,44 +248,40 @@ SERIES_COLUMNS: Columns = {
 
 def of_series(hosts: Sequence[HostAnswer], _: str) -> Parts:
     """The report of `replay`: the hosts that lack most as a mean first."""
-    sums: dict[str, Any] = {f"mean_{each}_cpus": number(sum((mean(host, each) for host in hosts),
-                                                             Fraction(0)))
-                            for each in ("wanted", "got")}
+    means = {each: sum((mean(host, each) for host in hosts), Fraction(0))
+             for each in ("wanted", "got")}
+    sums: dict[str, Any] = {f"mean_{each}_cpus": number(value) for each, value in means.items()}
     sums |= {name: sum(count(host, name) for host in hosts) for name in list(COUNTS.values())[3:]}
     lines = [f"{sums['mean_got_cpus']:.2f} CPUs got of {sums['mean_wanted_cpus']:.2f} wanted, as"
              " means; the proved check accepted each plan",
              f"periods of groups: throttled {sums['throttled']}, with a burst {sums['bursts']},"
              f" starved {sums['starved']}"]
     ordered = sorted(hosts, key=lambda host: (mean(host, "got") - mean(host, "wanted"), host.name))
-    return lines, [table("Hosts, the greatest lack first", ordered, SERIES_COLUMNS)], sums
+    return lines, [table("Hosts, the greatest lack first", ordered, SERIES_COLUMNS)], sums, {
+        "": means["got"]}
 
 
-ACTIONS: dict[str, Callable[[Sequence[HostAnswer], str], Parts]] = {
-    "explain": of_plan, "diff": of_changes, "place": of_places, "replay": of_series}
+ACTIONS: dict[Action, Callable[[Sequence[HostAnswer], str], Parts]] = {
+    Action.PLAN: of_plan, Action.CHANGE: of_changes, Action.PODS: of_places,
+    Action.SAMPLES: of_series}
 
 
-def bars(hosts: Sequence[HostAnswer], action: str) -> list[dict[str, Any]]:
-    """The bars of all hosts together: what is planned of their capacity, and what is left."""
-    all_ = total(hosts, "capacity")
-    sums = {"": total(hosts, "served")} if action == "explain" else {
-        name: total(hosts, name, "served") for name in ("before", "after") if action == "diff"}
-    if action == "replay":
-        sums = {"": sum((mean(host, "got") for host in hosts), Fraction(0))}
-    return [bar(name, "CPUs", planned=cpu(each), left=cpu(all_ - each), capacity=cpu(all_))
-            for name, each in sums.items()]
-
-
-def built(action: str, hosts: Sequence[HostAnswer], missing: Sequence[tuple[str, str]],
-          rule: str) -> Report:
+def built(action: Action, name: str, hosts: Sequence[HostAnswer],
+          missing: Sequence[tuple[str, str]], rule: str) -> Report:
     """The report of a run. It depends on the answers alone, and not on who gave them when."""
-    lines, tables, sums = ACTIONS[action](hosts, rule)
+    lines, tables, data, sums = ACTIONS[action](hosts, rule)
     first = f"hosts: {len(hosts) + len(missing)}, answered: {len(hosts)}, not answered:" \
             f" {len(missing)}"
-    data = {"action": action, "answered": len(hosts), "not_answered": [
-                {"host": name, "why": why} for name, why in missing],
-            "fleet": sums, "hosts": [{"host": host.name, **host.answer} for host in hosts]}
-    return Report(action, [first, *(lines if hosts else [])], tables if hosts else [],
-                  list(missing), data, bars(hosts, action) if hosts else [])
+    data = {"action": name, "answered": len(hosts), "not_answered": [
+                {"host": host, "why": why} for host, why in missing],
+            "fleet": data, "hosts": [{"host": host.name, **host.answer} for host in hosts]}
+    # (what is planned of the capacity of all hosts together, and what is left)
+    all_ = total(hosts, "capacity")
+    bars = [bar(each, "CPUs", planned=cpu(cpus), left=cpu(all_ - cpus), capacity=cpu(all_))
+            for each, cpus in sums.items()]
+    has_any = bool(hosts)
+    return Report(name, [first, *(lines if has_any else [])], tables if has_any else [],
+                  list(missing), data, bars if has_any else [])
 
 
 def pending(fleet: Fleet, hosts: Sequence[HostAnswer], rule: str) -> list[dict[str, Any]]:
@@ -359,5 +357,5 @@ def page(report: Report, words: Sequence[str] = ()) -> str:
                "rows": [[shown(cell) for cell in row] for row in each.rows]}
               for each in report.tables if each.rows]
     missing = [(shown(name), shown(why)) for name, why in report.missing]
-    return rendered("fleet.html", f"Fleet: {report.action}", report.lines, tables=tables,
+    return rendered("fleet.html", f"Fleet: {report.name}", report.lines, tables=tables,
                     hosts=report.bars, words=list(map(shown, words)), missing=missing)

@@ -6,10 +6,10 @@ come to is worked out, where they are gathered, by `answers`.
 from __future__ import annotations
 
 import functools
-from argparse import Namespace
 from array import array
 from collections.abc import Mapping, Sequence
 from dataclasses import dataclass, field, replace
+from enum import Enum, auto
 from typing import Any, NamedTuple
 
 from arbiter import Columns, Host
@@ -18,22 +18,33 @@ from arbiter_host.base import demands, names
 from arbiter_host.base.faults import HostFault
 from arbiter_host.base.model import Model
 from arbiter_host.base.plan import Engine, engine_of
-from arbiter_host.sources import by_options, change, load
+from arbiter_host.sources import change, load
 from arbiter_host.sources.samples import History
+from arbiter_host.sources.source_options import SourceOptions
+
+
+class Action(Enum):
+    """What is asked of each host: its plan, what a change does, how it takes pods, or the sums of
+    samples."""
+
+    PLAN = auto()
+    CHANGE = auto()
+    PODS = auto()
+    SAMPLES = auto()
 
 
 @dataclass(frozen=True)
 class Job:
     """One question to all hosts of a fleet."""
 
-    action: str
+    action: Action
     # The options by which a host's file is read.
-    options: Mapping[str, Any]
-    # The changes of `diff`.
+    options: SourceOptions
+    # The changes of a change.
     sets: Sequence[str] = ()
     # The pods to be placed: a name and the bytes of the file.
     pods: Sequence[tuple[str, bytes]] = ()
-    # Of `replay`: the unit of the demands, microseconds of a sample (0: one period), and the
+    # Of samples: the unit of the demands, microseconds of a sample (0: one period), and the
     # groups that columns stand for.
     unit: str = "cpu"
     sample_usec: int = 0
@@ -54,13 +65,13 @@ class HostFile:
     # The bytes of the file, once they are read, and of a part of one the pods that the host has.
     data: bytes | None = None
     pods: frozenset[str] = frozenset()
-    # Of `replay` its demands over time.
+    # Of samples its demands over time.
     history: History | None = None
 
 
 class SentRows(NamedTuple):
     """The rows of a plan as they travel: their paths, `.` first, and parents, weights, limits and
-    demands. Of `replay` the columns are those of `Settings`."""
+    demands. Of samples the columns are those of `QuotaColumns`."""
 
     paths: list[str]
     columns: tuple[array[int], ...]
@@ -135,10 +146,10 @@ def with_pod(model: Model, pod: Model) -> tuple[Model, list[str]]:
 
 def pod_of(job: Job, name: str, data: bytes, model: Model, engine: Engine) -> Model:
     """The groups of a pod, as its file has them for this host's CPUs. It has used nothing yet."""
-    want = None if job.options["want"] in demands.OF_USE else job.options["want"]
-    options = Namespace(**{**job.options, "cpus": model.host.processors, "period": None,
-                           "slice": None, "kind": None, "want": want})
-    return load.of_bytes(options, name, data, engine)
+    want = "" if job.options.want in demands.OF_USE else job.options.want
+    options = replace(job.options, cpus=model.host.processors, period=None, slice=None, kind=None,
+                      want=want)
+    return load.of_bytes(options, name, data, engine.library)
 
 
 def placed(job: Job, model: Model, engine: Engine) -> SentPlans:
@@ -168,7 +179,7 @@ def replayed(job: Job, model: Model, engine: Engine, history: History) -> SentPl
         "columns": list(path_of.values()), "unknown": missing}
 
 
-ACTIONS = {"explain": explained, "diff": compared, "place": placed}
+ACTIONS = {Action.PLAN: explained, Action.CHANGE: compared, Action.PODS: placed}
 
 
 # The engine over the library of a path, once for each process.
@@ -177,17 +188,16 @@ engine_here = functools.cache(engine_of)
 
 def planned(job: Job, host: HostFile) -> Sent:
     """The rows of one host, and what its file says beside them."""
-    engine, options = engine_here(job.library), Namespace(**job.options)
-    model = load.of_bytes(options, host.path, host.data or b"", engine)
+    engine, options = engine_here(job.library), job.options
+    model = load.of_bytes(options, host.path, host.data or b"", engine.library)
     if model.refused and not model.groups:
         raise HostFault(f"no host: {len(model.refused)} lines are none of a script, the first:"
                         f" {model.refused[0]}")
     if host.history is None:
         plans, told = ACTIONS[job.action](job, model, engine)
     else:
-        kind = options.kind or load.kind_of(host.path, host.data)
-        model = by_options.of_samples(options, engine.library, kind, model, job.unit,
-                                      job.sample_usec)
+        kind = load.kind_in(options, [(host.path, host.data)])
+        model = options.of_samples(engine.library, kind, model, job.unit, job.sample_usec)
         plans, told = replayed(job, model, engine, host.history)
     return Sent(model.host, plans, told)
 

@@ -31,8 +31,8 @@ from arbiter_host.setting import apply
 from arbiter_host.setting.apply import BURST, MAXIMUM, WEIGHT, Back, By, Change, Settings
 from arbiter_host.setting.record import Record
 from arbiter_host.sources import cgroup2, task_times, readings
-from arbiter_host.sources.readings import Counted, Times
 from arbiter_host.sources.pods import kubelets
+from arbiter_host.sources.readings import Counted, Times
 
 # What is told of a round.
 Line = dict[str, Any]

@@ -16,8 +16,8 @@ from arbiter_host.base.owned import NONE, Range, Setting
 from arbiter_host.sources import systemd
 from arbiter_host.sources.data import field, loads, number, table, text_field
 from arbiter_host.sources.measurable import Measurable
-from arbiter_host.sources.usage import Used
 from arbiter_host.sources.source_options import File, SourceOptions
+from arbiter_host.sources.usage import Used
 
 NANO = 10**9
 # What the labels of compose begin with.
@@ -142,12 +142,12 @@ class ContainerSource(Measurable):
         check_count(len(self.running), f"{len(self.running)} containers")
         # Folders come first, so that no container's name takes the path of one.
         for each in self.running:
-            parent_path(model, place_of(each, self.wish.driver)[0])
+            parent_path(model, place_of(each, self.options.driver)[0])
         taken: dict[str, set[str]] = {}
         paths = [self.add(model, each, taken) for each in self.running]
         model.notes += bound_notes([path for path, each in zip(paths, self.running)
                                     if text_field(each, "HostConfig", "CpusetCpus")])
-        want, places = self.wish.want, {path: (at, 0) for at, path in enumerate(paths)}
+        want, places = self.options.want, {path: (at, 0) for at, path in enumerate(paths)}
         if want == "request" or want in demands.OF_USE and not self.known:
             raise HostFault(f"--want {want} needs --used: containers have limit and busy", 2)
         measured = {path: Measured() for path in model.groups}
@@ -163,7 +163,7 @@ class ContainerSource(Measurable):
     def add(self, model: Model, container: Inspected, taken: dict[str, set[str]]) -> str:
         """Adds a container's group, and returns its path. `taken` has the names of containers below
         each folder."""
-        folder, scope = place_of(container, self.wish.driver)
+        folder, scope = place_of(container, self.options.driver)
         parent = parent_path(model, folder)
         raw = text_field(container, "Name").strip("/") or text_field(container, "Id") or "unnamed"
         others = taken.setdefault(parent, set())
@@ -177,7 +177,7 @@ class ContainerSource(Measurable):
         config = table(container, "HostConfig")
         shares = number(config, "CpuShares")
         if shares > 0:
-            group.weight = units.weight_of_shares(self.library, shares, self.wish.runtime)
+            group.weight = units.weight_of_shares(self.library, shares, self.options.runtime)
         set_limit(group, config, model.notes)
         return group.path
 
@@ -229,7 +229,7 @@ class ContainerSource(Measurable):
                       lambda each: cpus_text(Fraction(each)), f"{self.host.processors} are all")]
 
 
-def read(files: Sequence[File], library: Library, wish: SourceOptions) -> Model:
+def read(files: Sequence[File], library: Library, options: SourceOptions) -> Model:
     """The model of the containers of some files."""
     raw: list[Inspected] = []
     for name, data in files:
@@ -239,8 +239,8 @@ def read(files: Sequence[File], library: Library, wish: SourceOptions) -> Model:
                                                     for each in entries):
             raise HostFault(f"{name}: no containers as `docker inspect` prints them")
         raw += entries
-    running, wish = tuple(filter(is_running, raw)), wish.for_containers("limit", "docker")
+    running, options = tuple(filter(is_running, raw)), options.for_containers("limit", "docker")
     left = len(raw) - len(running)
-    source = ContainerSource(library, wish, wish.machine(), running, notes=(
+    source = ContainerSource(library, options, options.machine(library), running, notes=(
         f"containers that do not run, left out: {left}",) if left else ())
-    return (wish.measured(source) if wish.measured else source).model()
+    return (options.measured(source) if options.measured else source).model()

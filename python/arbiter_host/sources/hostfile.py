@@ -208,12 +208,12 @@ def model_of(data: bytes, name: str, is_toml: bool) -> Model:
     return model
 
 
-def read(files: Sequence[File], _: Library, wish: SourceOptions) -> Model:
+def read(files: Sequence[File], library: Library, options: SourceOptions) -> Model:
     """The model of a host file, with what is asked for in place of its host."""
     name, data = only(files, "host file")
     model = model_of(data, name, not is_json(data))
-    model = model.with_host(wish.host(model.host)) if wish.names_host else model
-    return wish.with_demands(model, "host file")
+    model = model.with_host(options.host(library, model.host)) if options.names_host else model
+    return options.with_demands(model, "host file")
 
 
 def group_data(group: Group) -> dict[str, Any]:

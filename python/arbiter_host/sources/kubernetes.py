@@ -118,14 +118,14 @@ def pods_on(items: Sequence[dict[str, Any]], node: str, notes: list[str]) -> lis
     return [pod_of(each, notes) for each in lasting]
 
 
-def node_of(items: Sequence[dict[str, Any]], wish: SourceOptions) -> dict[str, Any] | None:
+def node_of(items: Sequence[dict[str, Any]], options: SourceOptions) -> dict[str, Any] | None:
     """The node of that name, or the only one."""
     nodes = [(text_field(each, "metadata", "name"), each) for each in items
              if each.get("kind") == "Node"]
     known = [name for name, _ in nodes]
-    if nodes and wish.node and wish.node not in known:
-        raise several(f"no node {shown(wish.node)} among {len(nodes)}", known)
-    meant = [node for name, node in nodes if wish.node in ("", name)]
+    if nodes and options.node and options.node not in known:
+        raise several(f"no node {shown(options.node)} among {len(nodes)}", known)
+    meant = [node for name, node in nodes if options.node in ("", name)]
     if len(meant) > 1:
         raise several(f"{len(meant)} nodes", known)
     return meant[0] if meant else None
@@ -135,7 +135,7 @@ class PodBuilder:
     """Makes the groups of pods."""
 
     def __init__(self, source: PodSource) -> None:
-        self.source, self.wish = source, source.wish
+        self.source, self.options = source, source.options
         self.model = Model(checked(source.host), notes=list(source.notes),
                            names_host=source.names_host)
         self.measured: dict[str, Measured] = {}
@@ -159,29 +159,29 @@ class PodBuilder:
 
     def classes(self) -> None:
         """Makes kubepods and its two classes."""
-        allocatable, driver = self.source.allocatable, self.wish.driver
+        allocatable, driver = self.source.allocatable, self.options.driver
         self.add(".", TOP, 100 if allocatable is None else self.weight(
-            allocatable, self.wish.kubelet), folder_at([TOP], driver))
+            allocatable, self.options.kubelet), folder_at([TOP], driver))
         burstable = requested_by([pod for pod in self.source.pods if pod.quality == "Burstable"])
         for quality, request in (("burstable", burstable), ("besteffort", 0)):
-            path = self.add(TOP, quality, self.weight(request, self.wish.kubelet),
+            path = self.add(TOP, quality, self.weight(request, self.options.kubelet),
                             folder_at([TOP, quality], driver))
             self.measured[path] = Measured(request=Fraction(0), tasks=0)
 
     def pod(self, pod: Pod, place: int) -> None:
         """Makes a pod, its pause container and its containers."""
         amounts = Amounts() if pod.quality == "BestEffort" else pod.amounts
-        folder, wish = folder_of(pod, self.wish.driver), self.wish
+        folder, options = folder_of(pod, self.options.driver), self.options
         path = self.add(CLASSES[pod.quality], f"{pod.namespace}:{pod.name}",
-                        self.weight(amounts.request, wish.kubelet), folder, pod.title,
+                        self.weight(amounts.request, options.kubelet), folder, pod.title,
                         amounts.limit, (pod.namespace, pod.name, ""))
         pause = self.add(path, "pause", 1, NOWHERE, f"{pod.title}/pause")
         self.measured[pause] = Measured(request=Fraction(0), tasks=0)
         for number, each in enumerate(pod.parts):
             if each.has_group:
                 given = pod.given(each)
-                made = self.add(path, each.name, self.weight(given.request, wish.runtime),
-                                scope_of(folder, each, wish.driver), f"{pod.title}/{each.name}",
+                made = self.add(path, each.name, self.weight(given.request, options.runtime),
+                                scope_of(folder, each, options.driver), f"{pod.title}/{each.name}",
                                 given.limit, (pod.namespace, pod.name, each.name))
                 self.places[made] = (place, number)
                 self.measured[made] = replace(self.source.known.get((place, number), Measured()),
@@ -189,7 +189,7 @@ class PodBuilder:
 
     def set_demands(self) -> None:
         """Sets the demands. Pause containers and classes without a pod ask for nothing."""
-        want, idle = self.wish.want, self.measured.keys() - self.places.keys()
+        want, idle = self.options.want, self.measured.keys() - self.places.keys()
         if want in demands.OF_USE:
             if self.places and not (self.source.known or self.source.elsewhere):
                 raise HostFault(f"--want {want}: what these pods used is not told (--used);"
@@ -407,7 +407,7 @@ class PodSource(Measurable):
             raise HostFault(f"it requests {asked}m, and {self.allocatable}m less the {taken}m of"
                             " others are there")
         known = dict(self.known)
-        if self.wish.want in demands.OF_USE:
+        if self.options.want in demands.OF_USE:
             # What is new has used nothing yet: it asks for its requests.
             known |= {(len(self.pods) + place, number): Measured(
                 told=(Fraction(each.amounts.request or 0),))
@@ -436,23 +436,23 @@ def requested_by(pods: Sequence[Pod]) -> int:
     return sum(pod.amounts.request or 0 for pod in pods)
 
 
-def read(files: Sequence[File], library: Library, wish: SourceOptions) -> Model:
+def read(files: Sequence[File], library: Library, options: SourceOptions) -> Model:
     """The model of a node from the files of its pods and of the node itself."""
-    wish = wish.for_containers("request", TOP)
+    options = options.for_containers("request", TOP)
     items = [item for name, data in files for item in items_of(loads(data, name), name)]
-    node = node_of(items, wish)
+    node = node_of(items, options)
     notes = other_kinds(items)
     capacity, allocatable = (thousandths(field(node, "status", key, "cpu"), "node", notes)
                              for key in ("capacity", "allocatable"))
-    if not capacity and wish.cpus is None:
+    if not capacity and options.cpus is None:
         raise NoHost("number of CPUs unknown: pass the node's JSON or --cpus")
-    host = wish.host(Host(max((capacity or 0) // 1000, 1), units.DEFAULT_PERIOD, 1000))
-    pods = pods_on(items, text_field(node, "metadata", "name") if node else wish.node, notes)
+    host = options.host(library, Host(max((capacity or 0) // 1000, 1), units.DEFAULT_PERIOD, 1000))
+    pods = pods_on(items, text_field(node, "metadata", "name") if node else options.node, notes)
     notes += [] if pods else ["no pod is in these files that has not ended"]
     if node is None:
         notes.append("no node's JSON: kubepods has weight 100")
-    source = PodSource(library, wish, host, tuple(pods), allocatable, capacity is not None,
+    source = PodSource(library, options, host, tuple(pods), allocatable, capacity is not None,
                        node_facts(node), notes=tuple(notes))
     used = list(of_metrics([each for each in items if each.get("kind") == "PodMetrics"], "usage"))
     source = source.with_usage(used, "usage") if used else source
-    return (wish.measured(source) if wish.measured else source).model()
+    return (options.measured(source) if options.measured else source).model()

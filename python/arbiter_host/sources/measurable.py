@@ -12,8 +12,8 @@ from arbiter_host.base.demands import Measured, Place, Use, use_of
 from arbiter_host.base.faults import HostFault
 from arbiter_host.base.model import Model
 from arbiter_host.base.owned import Owned
-from arbiter_host.sources.usage import Used, some
 from arbiter_host.sources.source_options import DRIVERS, SourceOptions
+from arbiter_host.sources.usage import Used, some
 
 S = TypeVar("S", bound="Measurable")
 # What entries are of that name no container here.
@@ -26,7 +26,7 @@ class Measurable(Owned):
     """Containers as they were read, and what was measured of them."""
 
     library: Library
-    wish: SourceOptions
+    options: SourceOptions
     host: Host
     notes: tuple[str, ...] = field(default=(), kw_only=True)
     # What was measured of containers, and the seconds from one reading to the next.
@@ -47,8 +47,8 @@ class Measurable(Owned):
         raise NotImplementedError
 
     def folders(self) -> dict[Place, tuple[str, ...]]:
-        """Where each container may be below the top of a tree. The wish's driver comes first."""
-        drivers = sorted(DRIVERS, key=lambda each: each != self.wish.driver)
+        """Where each container may be below the top of a tree. The driver asked for comes first."""
+        drivers = sorted(DRIVERS, key=lambda each: each != self.options.driver)
         one, two = map(self.folders_by, drivers)
         return {place: (folder, two[place]) for place, folder in one.items()}
 

@@ -15,6 +15,7 @@ BLANK = b"\xef\xbb\xbf \t\r\n"
 TABLE = re.compile(rb"\[[A-Za-z]")
 OBJECTS = re.compile(rb'"kind"\s*:\s*"(Pod|PodList|Node|NodeList|List|Deployment|StatefulSet'
                      rb'|DaemonSet|ReplicaSet)"')
+NODE = re.compile(rb'"kind"\s*:\s*"Node"')
 PARTS = re.compile(rb'"kind"\s*:\s*"(Pod|Node)(?:List)?"')
 UNITS = re.compile(rb"^(ControlGroup|Slice|CPUWeight)=", re.M)
 # The head of what sacct and sstat print, and what sstat says a step has used.
@@ -60,6 +61,8 @@ class SourceKind(NamedTuple):
     is_here: bool = False
 
 
+# The word of a running service.
+SERVICE = re.compile("(k8s|docker|podman|systemd)://")
 # In the order in which they are tried. A folder is a tree; what is none of these is a script.
 READERS = {
     "toml": SourceKind("hostfile", lambda path, data: path.endswith(".toml") or bool(

@@ -124,12 +124,12 @@ def script_lines(data: bytes) -> list[bytes]:
     return lines[:-1] if lines[-1] == b"" else lines
 
 
-def read(files: Sequence[File], library: Library, wish: SourceOptions) -> Model:
+def read(files: Sequence[File], library: Library, options: SourceOptions) -> Model:
     """The model at the end of a script, with what is asked for in place of what it tells."""
     name, data = only(files, "script")
     told = head_host(script_lines(data))
-    host = wish.host(told or Host()) if wish.names_host else None
-    return wish.with_demands(model_of(data, name, library, host), "script")
+    host = options.host(library, told or Host()) if options.names_host else None
+    return options.with_demands(model_of(data, name, library, host), "script")
 
 
 def model_of(data: bytes, name: str, library: Library, host: Host | None = None) -> Model:

@@ -1,8 +1,8 @@
 """The groups that -g, -n and -l choose, each with what is below it."""
 from __future__ import annotations
 
-import argparse
 from collections.abc import Iterable, Sequence
+from typing import NamedTuple
 
 from arbiter_host.base import demands
 from arbiter_host.base.faults import NothingFound, UsageFault
@@ -10,15 +10,23 @@ from arbiter_host.base.model import Model
 from arbiter_host.base.names import parent_path, shown
 
 
-def chosen(model: Model, options: argparse.Namespace) -> frozenset[str] | None:
+class Selection(NamedTuple):
+    """The words of -g, -n and -l."""
+
+    groups: Sequence[str] = ()
+    namespaces: Sequence[str] = ()
+    selectors: Sequence[str] = ()
+
+
+def chosen(model: Model, by: Selection) -> frozenset[str] | None:
     """The paths that are chosen; None where no option chooses. A fault of status 6 where nothing
     fits."""
     parts = []
-    if options.group:
-        parts.append(with_below(model, [group.path for word in options.group
+    if by.groups:
+        parts.append(with_below(model, [group.path for word in by.groups
                                         for group in demands.matching(model, word)]))
-    if options.namespace or options.selector:
-        parts.append(with_below(model, pods(model, options)))
+    if by.namespaces or by.selectors:
+        parts.append(with_below(model, pods(model, by)))
     if not parts:
         return None
     paths = frozenset.intersection(*parts)
@@ -38,13 +46,13 @@ def labels_of(words: Sequence[str]) -> dict[str, str]:
     return labels
 
 
-def pods(model: Model, options: argparse.Namespace) -> list[str]:
+def pods(model: Model, by: Selection) -> list[str]:
     """The groups of the pods of some namespaces that have all labels asked for."""
-    labels = labels_of(options.selector)
+    labels = labels_of(by.selectors)
     source = model.owned
-    paths = source.pods_where(options.namespace, labels) if source else []
+    paths = source.pods_where(by.namespaces, labels) if source else []
     if not paths:
-        words = [*(f"-n {each}" for each in options.namespace),
+        words = [*(f"-n {each}" for each in by.namespaces),
                  *(f"-l {key}={value}" for key, value in labels.items())]
         raise NothingFound(f"no pod of {shown(' '.join(words))}")
     return paths

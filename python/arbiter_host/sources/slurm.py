@@ -359,22 +359,23 @@ def on_node(jobs: Iterable[SlurmJob], name: str) -> list[SlurmJob]:
     return here
 
 
-def read(files: Sequence[File], _: Library, wish: SourceOptions) -> Model:
+def read(files: Sequence[File], library: Library, options: SourceOptions) -> Model:
     """The model of one node's jobs."""
     parts: dict[str, list[File]] = {"jobs": [], "sacct": [], "sstat": [], "nodes": []}
     for file in files:
         parts.setdefault(part_of_jobs(file[1]), []).append(file)
     check_parts(files[0][0], parts)
     nodes = [each for name, data in parts["nodes"] for each in tables(loads(data, name), "nodes")]
-    node = wish.node or (text_field(nodes[0], "name") if len(nodes) == 1 else "")
+    node = options.node or (text_field(nodes[0], "name") if len(nodes) == 1 else "")
     jobs, left, others = jobs_of(parts, node)
     name = node or node_of(nodes, jobs.values())
-    told = Host() if wish.cpus is not None else host_of(nodes, name)
-    want = wish.want or ("usage" if parts["sacct"] else "request")
-    host = replace(wish, want=want).host(Host(told.processors, units.DEFAULT_PERIOD, 1000))
-    model = Model(host, names_host=wish.cpus is None)
+    told = Host() if options.cpus is not None else host_of(nodes, name)
+    want = options.want or ("usage" if parts["sacct"] else "request")
+    host = replace(options, want=want).host(
+        library, Host(told.processors, units.DEFAULT_PERIOD, 1000))
+    model = Model(host, names_host=options.cpus is None)
     here = on_node(jobs.values(), name)
-    if parts["sacct"] and not wish.want:
+    if parts["sacct"] and not options.want:
         take_allotted(here, model)
     measured: dict[str, Measured] = {}
     suspended: list[str] = []

@@ -1,4 +1,4 @@
-"""What is asked of the reading of a source, whatever its kind."""
+"""What is asked of a source, and of what its groups used."""
 from __future__ import annotations
 
 import os
@@ -11,6 +11,7 @@ from arbiter import Host, Library
 from arbiter_host.base import demands, units
 from arbiter_host.base.faults import UsageFault
 from arbiter_host.base.model import Model, checked, fine, planned
+from arbiter_host.sources.readings import Times
 
 if TYPE_CHECKING:
     from arbiter_host.base.owned import Owned
@@ -23,16 +24,47 @@ File = tuple[str, bytes]
 
 
 @dataclass(frozen=True)
-class SourceOptions:
-    """The host, the node, the conversions of shares, the driver, and the rule for demands. kubelet
-    writes the weights of kubepods, classes and pods, the runtime those of containers."""
+class UseOptions:
+    """What is asked of what groups used: the words of `--used`, and how they are read."""
 
-    # What says which hosts can be planned.
-    library: Library
+    words: tuple[str, ...]
+    # What of the use is meant; empty for the mean.
+    want: str = ""
+    # What is asked of a server, in which time, each step; and the time where none is said.
+    query: str | None = None
+    range: str | None = None
+    step: str | None = None
+    span: str = "1d"
+    # COLUMN=GROUP for each column whose name is not the group's, and the unit of columns.
+    columns: tuple[str, ...] = ()
+    unit: str = "cpu"
+    # Microseconds by which amounts in slices are counted; None for those of a plain host.
+    period: int | None = None
+    slice: int | None = None
+    times: Times = Times()
+    # Options that were given and have no effect on what was used at one time.
+    idle: tuple[str, ...] = ()
+    # Whether standard input is the source.
+    has_input: bool = True
+
+    @property
+    def host(self) -> Host:
+        """A host for amounts in slices."""
+        return Host(1, self.period or units.DEFAULT_PERIOD, self.slice or 1000)
+
+
+@dataclass(frozen=True)
+class SourceOptions:
+    """What is asked of a source, whatever its kind: the host, the node, the conversions of shares,
+    the driver, and the rule for demands. kubelet writes the weights of kubepods, classes and pods,
+    the runtime those of containers."""
+
     # CPUs, and microseconds of the period and the slice; None for what the source tells.
     cpus: int | None = None
     period: int | None = None
     slice: int | None = None
+    # None for the kind that is found.
+    kind: str | None = None
     node: str = ""
     kubelet: str = "linear"
     runtime: str = "linear"
@@ -41,39 +73,77 @@ class SourceOptions:
     tree: str = ""
     # What the demands are taken from; empty for what the kind of source has.
     want: str = ""
-    # Seconds from one reading of units to the next.
-    seconds: Fraction = Fraction(1)
-    # What gives a source the use of its groups; None where nothing is said of it.
+    # GROUP=FACTOR for each group whose demands are multiplied.
+    scales: tuple[str, ...] = ()
+    # Whether refused lines of a script are a fault.
+    is_strict: bool = False
+    # How often a source is read that can be read again, and whether one that cannot is refused.
+    times: Times = Times()
+    is_reread: bool = False
+    # Whether its settings alone are meant, so that a service is asked once.
+    has_settings_alone: bool = False
+    # What groups used, where that is told beside the source.
+    uses: UseOptions | None = None
+    # Gives a source that use, once it is read.
     measured: Callable[[Measurable], Owned] | None = None
+    # Refuses a kind of source on which an option that was given has no effect.
+    check: Callable[[str], None] | None = None
+
+    @property
+    def seconds(self) -> Fraction:
+        """Seconds from one reading of units to the next."""
+        return self.times.interval
 
     @property
     def names_host(self) -> bool:
         """Whether a part of the host is asked for."""
         return not self.cpus == self.period == self.slice is None
 
-    def host(self, told: Host) -> Host:
+    def host(self, library: Library, told: Host) -> Host:
         """The host that a source tells, with what is asked for in its place. Use is planned by
         slices as fine as can be."""
         host = checked(Host(told.processors if self.cpus is None else self.cpus,
                             told.period_us if self.period is None else self.period,
                             told.slice_us if self.slice is None else self.slice))
-        planned(self.library, host)
-        return self.of_use(host) if self.want in demands.OF_USE else host
+        planned(library, host)
+        return self.of_use(library, host) if self.want in demands.OF_USE else host
 
-    def of_use(self, host: Host, sample: int = 0) -> Host:
+    def of_use(self, library: Library, host: Host, sample: int = 0) -> Host:
         """A host for use in samples of so many microseconds (0: of any time): with slices as fine
         as can be, unless others are asked for."""
-        return fine(self.library, host, sample) if self.period is self.slice is None else host
+        return fine(library, host, sample) if self.period is self.slice is None else host
 
-    def machine(self) -> Host:
+    def machine(self, library: Library) -> Host:
         """This machine with slices of 1 ms, with what is asked for in its place."""
-        return self.host(Host(os.cpu_count() or 1, units.DEFAULT_PERIOD, 1000))
+        return self.host(library, Host(os.cpu_count() or 1, units.DEFAULT_PERIOD, 1000))
+
+    def of_samples(self, library: Library, kind: str, model: Model, unit: str,
+                   sample: int) -> Model:
+        """The model for samples of what was used: with slices as fine as can be, unless the source
+        says its period itself or the demands are counted in it."""
+        if kind in ("script", "toml", "json") or unit in ("slices", "us"):
+            return model
+        after = model.with_host(self.of_use(library, model.host, sample))
+        one = Fraction(1000 * after.host.slice_us, after.host.period_us)
+        if one > 1:
+            after.notes.append(f"a slice is {units.decimal(one)}m: each use is rounded up to it")
+        return after
+
+    def check_kind(self, kind: str) -> None:
+        """A fault where an option was given that has no effect on a source of a kind."""
+        if self.check is not None:
+            self.check(kind)
+
+    def without_use(self, kind: str) -> SourceOptions:
+        """The same for a source of a kind, after that was checked, that is read as it is."""
+        self.check_kind(kind)
+        return replace(self, uses=None, is_reread=False, check=None)
 
     def for_containers(self, want: str, folder: str) -> SourceOptions:
         """The same with a rule for demands where none is asked for, and with the driver of the
         tree: cgroupfs makes a folder of this name at its top."""
         is_there = self.tree and os.path.isdir(os.path.join(self.tree, folder))
-        return replace(self, want=self.want or ("usage" if self.measured else want),
+        return replace(self, want=self.want or ("usage" if self.uses else want),
                        driver="cgroupfs" if is_there else self.driver)
 
     def with_demands(self, model: Model, what: str) -> Model:

@@ -284,7 +284,7 @@ class TreeSource(Units):
         return replace(self, settings_since=(*self.settings_since, *settings))
 
 
-def read(files: Sequence[File], _: Library, wish: SourceOptions) -> Model:
+def read(files: Sequence[File], library: Library, options: SourceOptions) -> Model:
     """The model of one file, or of several that were printed some seconds apart."""
     readings = [{path_of(unit): unit for unit in blocks(data)} for _, data in files]
     if not any("Id" in unit for unit in readings[0].values()):
@@ -292,6 +292,6 @@ def read(files: Sequence[File], _: Library, wish: SourceOptions) -> Model:
                         " '*.scope'` prints them")
     properties = {path: unit for path, unit in readings[0].items()
                   if path not in ("", ".") and path.count("/") < MAX_DEPTH}
-    wish = replace(wish, want=wish.want or ("usage" if len(files) > 1 else "busy"))
-    return UnitSource(wish.machine(), wish.want, properties, tuple(readings), "" in readings[0],
-                      seconds=wish.seconds).model()
+    options = replace(options, want=options.want or ("usage" if len(files) > 1 else "busy"))
+    return UnitSource(options.machine(library), options.want, properties, tuple(readings),
+                      "" in readings[0], seconds=options.seconds).model()

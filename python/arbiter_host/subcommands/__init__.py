@@ -11,7 +11,8 @@ from collections.abc import Callable
 from pathlib import Path
 from typing import Any, NamedTuple
 
-from arbiter_host.base import options as table
+from arbiter_host import options as table
+
 
 # One line for the list of all.
 SUMMARIES = {

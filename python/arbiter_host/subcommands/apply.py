@@ -9,11 +9,13 @@ from collections.abc import Iterable, Iterator, Sequence
 from contextlib import contextmanager, suppress
 
 from arbiter_host import exports
-from arbiter_host.base import names, options as table, output, plain_files, safe_files
+from arbiter_host import options as table
+from arbiter_host.base import names, output, plain_files, safe_files
 from arbiter_host.base.faults import HostFault, UsageFault
-from arbiter_host.base.options import Output
+from arbiter_host.base.output import Output
 from arbiter_host.base.output import emit
 from arbiter_host.base.plan import engine_of
+from arbiter_host.records import source_options
 from arbiter_host.setting import apply, record
 from arbiter_host.sources import change, load
 
@@ -64,17 +66,16 @@ def run(options: argparse.Namespace) -> None:
     if any(map(change.is_host, options.set)):
         raise UsageFault("--set: apply changes settings of groups, and no host")
     # (what groups ask for has no part in a change: nothing is waited for)
-    options.want = "busy"
-    sources = load.sources(options, options.source)
+    source = source_options(options, want="busy", has_settings_alone=True, tree=options.root)
+    sources = load.sources(source, load.opened(source, options.source))
     if len(sources) > 2 or (len(sources) == 1) != bool(options.set):
         raise UsageFault("apply takes BEFORE and AFTER, or BEFORE and --set")
     by = engine_of(options.library, changes=options.yes)
-    models = [load.model_of(options, opened, by) for opened in sources]
+    models = [load.model_of(source, files, by.library) for files in sources]
     after = change.warned(models[-1], change.changed(models[-1], options.set))
     root, way = safe_files.Root(options.root), apply.By(options.by)
     for each in forms:
-        write_form(each, exports.Draft(models[0], after, root, by.library,
-                                       load.wish_of(options, by.library).runtime))
+        write_form(each, exports.Draft(models[0], after, root, by.library, source.runtime))
     if len(forms) < len(outputs):
         set_host(options, apply.changes(models[0], after, root), root, way)
 

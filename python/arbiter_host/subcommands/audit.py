@@ -5,16 +5,18 @@ import argparse
 import os
 
 from arbiter import Library
+from arbiter_host import options
 from arbiter_host.audit import answer, intervals, ranges, unknown
 from arbiter_host.audit.answer import Ranked
 from arbiter_host.audit.causes import NOTHING
-from arbiter_host.base import options, progress, text
+from arbiter_host.base import progress, text
 from arbiter_host.base.faults import HostFault, UsageFault
 from arbiter_host.base.model import Model
 from arbiter_host.base.names import shown
 from arbiter_host.base.output import json_text, write_forms
 from arbiter_host.base.plan import Engine, engine_of
-from arbiter_host.sources import by_options, load, readings, prometheus, used
+from arbiter_host.records import source_options
+from arbiter_host.sources import load, prometheus, readings
 from arbiter_host.sources.readings import TreeReading, Times
 from arbiter_host.subcommands.base import source_name
 
@@ -26,12 +28,13 @@ def of_range(asked: argparse.Namespace, by: Engine
         raise UsageFault("--used: it belongs to a SOURCE whose groups were measured")
     server = ranges.Prometheus(asked.used[0], asked.query or "",
                                prometheus.range_of(asked.range, asked.step))
-    files = load.opened(asked, asked.source)
-    kind = asked.kind or load.kind_of(*files[0])
-    model = load.model_of(used.without(asked, kind), files, by)
+    source = source_options(asked)
+    files = load.opened(source, asked.source)
+    kind = load.kind_in(source, files)
+    model = load.model_of(source.without_use(kind), files, by.library)
     load.warn(model, source_name(asked.source))
     found, notes = ranges.readings_of(server, model.with_host(
-        by_options.of_host(asked, by.library).of_use(model.host)))
+        source.of_use(by.library, model.host)))
     return intervals.collected(found), notes, ranges.gaps(found)
 
 
@@ -57,7 +60,7 @@ def of_trees(asked: argparse.Namespace, library: Library) -> list[TreeReading]:
             raise UsageFault(f"{shown(folder)}: no folder: a source that is no tree takes --used")
     options.check(asked, "cgroup")
     times = times_of(asked, len(folders) == 1)
-    host = by_options.machine(asked, library, "usage")
+    host = source_options(asked, want="usage", times=times).machine(library)
     seen = readings.readings_of(folders, host, times, has_threads=True)
     return intervals.collected(seen, times.number or 0 if len(folders) == 1 else len(folders))
 

@@ -3,35 +3,31 @@ from __future__ import annotations
 
 import argparse
 from collections.abc import Sequence
+from dataclasses import replace
 
-from arbiter import Host
+from arbiter_host import options as table
 from arbiter_host.answers import diff, report
-from arbiter_host.base import options as table
 from arbiter_host.base.faults import NoHost, NothingFound, UsageFault
 from arbiter_host.base.model import Model
 from arbiter_host.base.names import shown
 from arbiter_host.base.output import json_text, write_forms
 from arbiter_host.base.plan import Engine, engine_of, plan
-from arbiter_host.fleet import questions
-from arbiter_host.sources import change, selection, load
-from arbiter_host.subcommands.base import source_name, view_of
+from arbiter_host.records import source_options
+from arbiter_host.sources import change, load
+from arbiter_host.sources.load import Opened
+from arbiter_host.sources.source_options import SourceOptions
+from arbiter_host.subcommands.base import are_many, chosen, source_name, view_of
 
 
-def on_host(options: argparse.Namespace, host: Host) -> argparse.Namespace:
-    """The options with a host in the place of what a source says."""
-    return argparse.Namespace(**{**vars(options), "cpus": host.processors,
-                                 "period": f"{host.period_us}us", "slice": f"{host.slice_us}us"})
-
-
-def read(options: argparse.Namespace, files: Sequence[load.Opened], by: Engine) -> Model | None:
+def read(options: SourceOptions, files: Sequence[Opened], by: Engine) -> Model | None:
     """The model of a source; None where it does not say how many CPUs its host has."""
     try:
-        return load.model_of(options, files, by)
+        return load.model_of(options, files, by.library)
     except NoHost:
         return None
 
 
-def models_of(options: argparse.Namespace, sources: Sequence[Sequence[load.Opened]],
+def models_of(options: SourceOptions, sources: Sequence[Sequence[Opened]],
               by: Engine) -> list[Model]:
     """The models of sources on one host: that of the last which names one. Another that names its
     own keeps it."""
@@ -41,28 +37,30 @@ def models_of(options: argparse.Namespace, sources: Sequence[Sequence[load.Opene
                 known[-1].host if known else None)
     if host is None:
         raise NoHost("number of CPUs unknown: pass the node's JSON or --cpus")
+    on_host = replace(options, cpus=host.processors, period=host.period_us, slice=host.slice_us)
     return [each if each is not None and (each.names_host or each.host == host)
-            else load.model_of(on_host(options, host), files, by)
+            else load.model_of(on_host, files, by.library)
             for each, files in zip(models, sources)]
 
 
-def compared(options: argparse.Namespace, by: Engine) -> tuple[Model, Model]:
+def compared(options: argparse.Namespace, source: SourceOptions, files: Sequence[Opened],
+             by: Engine) -> tuple[Model, Model]:
     """The models before and after: of two sources, or of one and of it with changes."""
-    sources = load.sources(options, options.source)
+    sources = load.sources(source, files)
     if len(sources) > 2 or len(sources) == 1 and not options.set:
         raise UsageFault("diff takes BEFORE and AFTER, or BEFORE and --set")
-    models = models_of(options, sources, by)
-    for model, files in zip(models, sources):
-        load.warn(model, source_name([path for path, _ in files]))
+    models = models_of(source, sources, by)
+    for model, of_one in zip(models, sources):
+        load.warn(model, source_name([path for path, _ in of_one]))
     return models[0], change.warned(models[-1], change.changed(models[-1], options.set))
 
 
-def chosen(options: argparse.Namespace, models: Sequence[Model]) -> frozenset[str] | None:
+def chosen_in(options: argparse.Namespace, models: Sequence[Model]) -> frozenset[str] | None:
     """The groups that are chosen in one of the models; None for all."""
     groups, faults = list[frozenset[str] | None](), list[NothingFound]()
     for model in models:
         try:
-            groups.append(selection.chosen(model, options))
+            groups.append(chosen(options, model))
         except NothingFound as fault:
             faults.append(fault)
     if not groups:
@@ -72,10 +70,12 @@ def chosen(options: argparse.Namespace, models: Sequence[Model]) -> frozenset[st
 
 def run(options: argparse.Namespace) -> None:
     outputs, by = table.outputs(options), engine_of(options.library)
-    if questions.answered(options):
+    source = source_options(options, has_settings_alone=True)
+    files = load.opened(source, options.source)
+    if are_many(options, files, "CHANGE"):
         return
-    before, after = compared(options, by)
-    view = view_of(options, chosen(options, [before, after]))
+    before, after = compared(options, source, files, by)
+    view = view_of(options, chosen_in(options, [before, after]))
     one, two = plan(by, before), plan(by, after)
     write_forms(outputs, {"text": lambda: diff.table(one, two, view),
                           "json": lambda: json_text(diff.as_data(one, two, view)),

@@ -4,19 +4,19 @@ from __future__ import annotations
 import argparse
 from functools import cache
 
+from arbiter_host import options as table
 from arbiter_host.answers import explain, picture, placement, report
 from arbiter_host.answers.explain import View
-from arbiter_host.base import options as table
 from arbiter_host.base.output import json_text, write_forms
 from arbiter_host.base.plan import Plan, engine_of, guarantees, plan
-from arbiter_host.fleet import questions
-from arbiter_host.sources import selection
-from arbiter_host.subcommands.base import loaded, source_name, view_of
+from arbiter_host.records import source_options
+from arbiter_host.sources import load
+from arbiter_host.subcommands.base import are_many, chosen, loaded, source_name, view_of
 
 
 def shown_view(options: argparse.Namespace, plan: Plan) -> View:
     """What is shown of a plan, with what the groups are guaranteed where that is asked for."""
-    view = view_of(options, selection.chosen(plan.model, options))
+    view = view_of(options, chosen(options, plan.model))
     if not options.guaranteed:
         return view
     groups = [group for group in plan.groups[1:] if explain.is_one_of(group, view)]
@@ -26,10 +26,11 @@ def shown_view(options: argparse.Namespace, plan: Plan) -> View:
 
 def run(options: argparse.Namespace) -> None:
     outputs = table.outputs(options)
-    if questions.answered(options):
+    files = load.opened(source_options(options), options.source)
+    if are_many(options, files, "PLAN"):
         return
     by = engine_of(options.library)
-    plan_ = plan(by, loaded(options, by))
+    plan_ = plan(by, loaded(options, files, by))
     view, outlook = shown_view(options, plan_), cache(lambda: placement.outlook(plan_.model))
     write_forms(outputs, {
         "text": lambda: [*explain.table(plan_, view), *(

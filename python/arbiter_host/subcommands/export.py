@@ -6,10 +6,11 @@ from collections.abc import Callable, Mapping
 from dataclasses import replace
 
 from arbiter import Library
-from arbiter_host.base import options as table
+from arbiter_host import options as table
 from arbiter_host.base.model import Model
 from arbiter_host.base.output import say, write_file
 from arbiter_host.base.plan import engine_of
+from arbiter_host.records import source_options
 from arbiter_host.sources import change, hostfile, load, script
 from arbiter_host.subcommands.base import source_name
 
@@ -21,7 +22,7 @@ WRITERS: Mapping[str, Callable[[Model, Library], str]] = {
 
 def run(options: argparse.Namespace) -> None:
     outputs, by = table.outputs(options), engine_of(options.library)
-    model = load.load(options, options.source, by)
+    model = load.load(source_options(options), options.source, by.library)
     if options.set:
         model = change.warned(model, change.changed(model, options.set))
     # A script and TOML have the warnings in them.

@@ -17,13 +17,15 @@ from fractions import Fraction
 from typing import TYPE_CHECKING
 
 from arbiter import Host, Library
-from arbiter_host.base import lines, options, output, safe_files
+from arbiter_host import options
+from arbiter_host.base import lines, output, safe_files
 from arbiter_host.base.faults import HostFault, UsageFault
 from arbiter_host.base.model import MAX_CAPACITY, MAX_DEPTH
 from arbiter_host.base.plan import engine_of
 from arbiter_host.hold import harm, hold
+from arbiter_host.records import host_of, time_option
 from arbiter_host.setting import record
-from arbiter_host.sources import by_options, readings
+from arbiter_host.sources import readings
 
 if TYPE_CHECKING:
     from arbiter_host.top.metrics import File
@@ -169,11 +171,11 @@ def machine(asked: argparse.Namespace, root: safe_files.Root, library: Library) 
     """The host. That of a real tree has no more CPUs than this machine. Without --slice one that
     has too many slices of 1 ms for the planner has slices of 10 ms."""
     there = os.cpu_count()
-    period = PERIOD if asked.period is None else by_options.time_option(asked.period, "--period")
+    period = PERIOD if asked.period is None else time_option(asked.period, "--period")
     fine = Host(there or 1, PERIOD, SLICE)
     if (asked.cpus or fine.processors) * period > MAX_CAPACITY * SLICE:
         fine = replace(fine, slice_us=10 * SLICE)
-    host = by_options.of_host(asked, library).host(fine)
+    host = host_of(asked).host(library, fine)
     if is_real(root) and there is not None and host.processors > there:
         raise UsageFault(f"--cpus {host.processors}: this machine has {there}")
     return host

@@ -3,9 +3,12 @@ from __future__ import annotations
 
 import argparse
 from collections.abc import Sequence, Set
+from dataclasses import replace
+from typing import Any
 
 from arbiter_host import recommend
-from arbiter_host.base import options as table, output, text, units
+from arbiter_host import options as table
+from arbiter_host.base import output, text, units
 from arbiter_host.base.demands import Use
 from arbiter_host.base.faults import NothingFound, UsageFault
 from arbiter_host.base.model import Model
@@ -15,16 +18,26 @@ from arbiter_host.base.plan import Engine, engine_of
 from arbiter_host.fleet import hosts as cluster
 from arbiter_host.fleet.hosts import Fleet
 from arbiter_host.recommend import Advised, Recommendation, SeenHost
-from arbiter_host.sources import by_options, change, selection, kubernetes, load, used
+from arbiter_host.records import OF_SAMPLES, source_options, use_options
+from arbiter_host.sources import change, kubernetes, load, used
 from arbiter_host.sources.data import loads
+from arbiter_host.sources.load import Opened
 from arbiter_host.sources.measurable import Measurable, measured
 from arbiter_host.sources.register import READERS
-from arbiter_host.subcommands.base import source_name
+from arbiter_host.sources.source_options import SourceOptions
+from arbiter_host.subcommands.base import chosen, source_name
 
 
-def cluster_of(options: argparse.Namespace, files: Sequence[load.Opened]) -> Fleet | None:
+def options_of(options: argparse.Namespace) -> SourceOptions:
+    """What is asked of the source and of its use: of that as much time as most servers have."""
+    more: dict[str, Any] = {"span": "14d", "unit": options.unit, "idle": tuple(
+        each for each in OF_SAMPLES if each in options.given)}
+    return source_options(options, uses=use_options(options, **more))
+
+
+def cluster_of(options: SourceOptions, files: Sequence[Opened]) -> Fleet | None:
     """The nodes of a cluster with their pods; None where there is one node or another source."""
-    if (options.kind or load.kind_of(*files[0])) != "kubernetes":
+    if load.kind_in(options, files) != "kubernetes":
         return None
     items = [item for path, data in files
              for item in kubernetes.items_of(loads(data or b"", shown(path)), shown(path))]
@@ -32,43 +45,44 @@ def cluster_of(options: argparse.Namespace, files: Sequence[load.Opened]) -> Fle
     return cluster.of_cluster(files[0][0], items) if many else None
 
 
-def of_cluster(options: argparse.Namespace, fleet: Fleet, by: Engine) -> list[Model]:
+def of_cluster(options: SourceOptions, fleet: Fleet, by: Engine) -> list[Model]:
     """The model of each node. What was used is read once."""
-    whole = argparse.Namespace(**{**vars(options), "node": ""})
-    models = [load.model_of(used.without(whole, "kubernetes"), [(each.path, each.data)], by)
-              for each in fleet.hosts]
-    if not options.used:
+    whole = replace(options, node="").without_use("kubernetes")
+    models = [load.model_of(whole, [(each.path, each.data)], by.library) for each in fleet.hosts]
+    if options.uses is None:
         return models
-    if used.is_tree(options):
+    if used.is_tree(options.uses):
         raise UsageFault("--used: a tree of cgroups is of one node: give this node's pods alone")
     sources = [each.owned for each in models if isinstance(each.owned, Measurable)]
-    with_use, notes = measured(sources, used.entries(options), used.name(options))
+    with_use, notes = measured(sources, used.entries(options.uses), used.name(options.uses))
     for note in (*fleet.notes, *notes):
         output.warn(note)
     return [each.model() for each in with_use]
 
 
-def models_of(options: argparse.Namespace, by: Engine) -> list[tuple[str, Model]]:
+def models_of(options: SourceOptions, paths: Sequence[str], by: Engine
+              ) -> list[tuple[str, Model]]:
     """The models of the source, of a cluster that of each node, with its name. What was used of
     pods and containers is part of it."""
     # (replicas on other nodes are of the same owner)
-    files = load.opened(argparse.Namespace(**{**vars(options), "node": ""}), options.source)
-    fleet, name = cluster_of(options, files), source_name(options.source)
+    files = load.opened(replace(options, node=""), paths)
+    fleet, name = cluster_of(options, files), source_name(paths)
     if fleet is not None:
         if options.node and options.node not in [each.name for each in fleet.hosts]:
             raise NothingFound(f"no node {shown(options.node)}")
         return list(zip((each.name for each in fleet.hosts), of_cluster(options, fleet, by)))
-    kind = options.kind or load.kind_of(*files[0])
+    kind = load.kind_in(options, files)
     is_part = READERS[kind].is_measured
-    return [(name, load.model_of(options if is_part else used.without(options, kind), files, by))]
+    return [(name, load.model_of(options if is_part else options.without_use(kind), files,
+                                 by.library))]
 
 
-def uses_of(options: argparse.Namespace, model: Model) -> dict[str, Use]:
+def uses_of(options: SourceOptions, model: Model) -> dict[str, Use]:
     """What was seen of each group: with the source, or of units in samples beside it."""
     owned = recommend.owned_of(model)
     seen = owned.seen()
-    if options.used and owned.noun == "unit":
-        uses, told = recommend.of_entries(owned, used.entries(options))
+    if options.uses and owned.noun == "unit":
+        uses, told = recommend.of_entries(owned, used.entries(options.uses))
         model.notes += told
         return seen | uses
     return seen
@@ -77,29 +91,30 @@ def uses_of(options: argparse.Namespace, model: Model) -> dict[str, Use]:
 def chosen_of(options: argparse.Namespace, models: Sequence[tuple[str, Model]]
               ) -> list[Set[str] | None]:
     """The groups that are chosen of each model. A fault where that is none of any."""
-    chosen, faults = list[Set[str] | None](), list[NothingFound]()
+    groups, faults = list[Set[str] | None](), list[NothingFound]()
     for name, model in models:
         try:
             is_other = len(models) > 1 and options.node not in ("", name)
-            chosen.append(frozenset() if is_other else selection.chosen(model, options))
+            groups.append(frozenset() if is_other else chosen(options, model))
         except NothingFound as fault:
             faults.append(fault)
-            chosen.append(frozenset())
+            groups.append(frozenset())
     if len(faults) == len(models):
         raise faults[0]
-    return chosen
+    return groups
 
 
 def run(options: argparse.Namespace) -> None:
     rule = recommend.rule_of(options.target, options.headroom)
     by, outputs = engine_of(options.library), table.outputs(options)
-    models, wish = models_of(options, by), by_options.of_host(options, by.library)
-    uses = [uses_of(options, model) for _, model in models]
+    source = options_of(options)
+    models = models_of(source, options.source, by)
+    uses = [uses_of(source, model) for _, model in models]
     for name, model in models:
         load.warn(model, name)
     advice = recommend.recommended(by, [
-        SeenHost(change.on_host(model, wish.of_use(model.host)), *each) for (_, model), each in zip(
-            models, zip(uses, chosen_of(options, models)))], rule)
+        SeenHost(change.on_host(model, source.of_use(by.library, model.host)), *each)
+        for (_, model), each in zip(models, zip(uses, chosen_of(options, models)))], rule)
     for before, after in advice.plans:
         change.warned(before.model, after.model)
     output.write_forms(outputs, {"text": lambda: lines_of(advice),

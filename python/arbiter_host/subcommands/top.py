@@ -10,17 +10,21 @@ import shlex
 import sys
 import time
 from collections.abc import Callable, Sequence
+from dataclasses import replace
 from typing import TYPE_CHECKING
 
+from arbiter_host import options
 from arbiter_host.answers import explain
 from arbiter_host.answers.explain import View
-from arbiter_host.base import children, options, output, progress
+from arbiter_host.base import children, output, progress
 from arbiter_host.base.faults import Alerted, HostFault, UsageFault
 from arbiter_host.base.model import PodNames
 from arbiter_host.base.names import shown
 from arbiter_host.base.plan import Plan, engine_of, plan
-from arbiter_host.sources import by_options, selection, kubernetes, load, readings
-from arbiter_host.subcommands.base import view_of
+from arbiter_host.records import source_options
+from arbiter_host.sources import kubernetes, load, readings
+from arbiter_host.sources.source_options import SourceOptions
+from arbiter_host.subcommands.base import chosen, view_of
 from arbiter_host.top import top, viewer
 
 if TYPE_CHECKING:
@@ -39,11 +43,13 @@ def reader(asked: argparse.Namespace, wanted: Sequence[top.Condition],
            warn: Callable[[str], None]) -> tuple[Callable[[], top.PlannedRound], int]:
     """Reader of a round, and the readings that it takes before the first one."""
     by, paths = engine_of(asked.library), asked.source or [readings.HOST_TREE]
+    source = source_options(asked, is_reread=False)
     if len(paths) == 1 and os.path.isdir(paths[0]) and asked.kind in (None, "cgroup"):
         options.check(asked, "cgroup")
         want = asked.want or "psi"
-        tree = readings.Tree(paths[0], by_options.machine(asked, by.library, want), time.monotonic)
-        ask = functools.partial(pod_names, asked) if asked.pod else None
+        host = replace(source, want=want).machine(by.library)
+        tree = readings.Tree(paths[0], host, time.monotonic)
+        ask = functools.partial(pod_names, source, asked.pod) if asked.pod else None
         return top.Watched(by, tree, want, ask, warn).round, 1
     if "-" in paths:
         raise UsageFault("standard input is read once: top takes files or a folder")
@@ -51,13 +57,13 @@ def reader(asked: argparse.Namespace, wanted: Sequence[top.Condition],
     if measured and not asked.used:
         raise UsageFault(f"--alert {shown(measured[0])}: what is measured is a tree of cgroups, or"
                          " told by --used")
-    return lambda: top.with_use(plan(by, load.load(asked, paths, by))), 0
+    return lambda: top.with_use(plan(by, load.load(source, paths, by.library))), 0
 
 
-def pod_names(asked: argparse.Namespace) -> dict[str, PodNames]:
+def pod_names(source: SourceOptions, words: Sequence[str]) -> dict[str, PodNames]:
     """The names of pods by the folders of their groups."""
-    return kubernetes.names_at([(shown(path), data or b"{}") for path, data in load.opened(
-        argparse.Namespace(**vars(asked), kept=([], [])), asked.pod)])
+    return kubernetes.names_at([(shown(path), data or b"{}")
+                                for path, data in load.opened(source, words)])
 
 
 def run_command(words: Sequence[str], raised: Sequence[top.Alert]) -> None:
@@ -133,7 +139,7 @@ class Watch:
 
 
 def shown_view(asked: argparse.Namespace, plan: Plan) -> View:
-    return view_of(asked, selection.chosen(plan.model, asked))
+    return view_of(asked, chosen(asked, plan.model))
 
 
 def form_of(asked: argparse.Namespace) -> tuple[str, str]:

@@ -4,14 +4,16 @@ from __future__ import annotations
 import argparse
 from collections.abc import Sequence
 
-from arbiter_host.base import options as table, text, units
+from arbiter_host import options as table
+from arbiter_host.base import text, units
 from arbiter_host.base.faults import NothingFound, UsageFault
 from arbiter_host.base.model import MAX_PROCESSORS
 from arbiter_host.base.names import short, shown
 from arbiter_host.base.output import json_text, write_forms
 from arbiter_host.base.plan import engine_of, plan
-from arbiter_host.sources import change, selection
-from arbiter_host.subcommands.base import loaded
+from arbiter_host.records import source_options
+from arbiter_host.sources import change, load
+from arbiter_host.subcommands.base import chosen, loaded
 from arbiter_host.tune import single_settings, tune
 from arbiter_host.tune.goals import Clash, Goal, Way
 from arbiter_host.tune.single_settings import SingleSetting
@@ -30,10 +32,11 @@ def run(options: argparse.Namespace) -> None:
     if not options.goal:
         raise UsageFault("tune: the following arguments are required: --goal")
     outputs, by = table.outputs(options), engine_of(options.library)
-    model = loaded(options, by)
+    files = load.opened(source_options(options), options.source)
+    model = loaded(options, files, by)
     before = plan(by, change.warned(model, change.changed(model, options.set)))
     answer = tune.tune(before, options.goal, options.guaranteed,
-                       selection.chosen(before.model, options))
+                       chosen(options, before.model))
     if answer.best is not None:
         change.warned(before.model, answer.best.plan.model)
     write_forms(outputs, {"text": lambda: TuneText(answer, options.unit).lines(),

@@ -13,8 +13,8 @@ from typing import Any
 from arbiter_host.base.plan import Plan, payers
 from arbiter_host.tune import single_settings
 from arbiter_host.tune.goals import Clash, Goals, Way, goals_of
-from arbiter_host.tune.single_settings import SingleSetting
 from arbiter_host.tune.other_limits import by_limits
+from arbiter_host.tune.single_settings import SingleSetting
 from arbiter_host.tune.tune_settings import by_settings
 from arbiter_host.tune.tune_weights import best_weights
 

@@ -21,6 +21,7 @@ from typing import Any, NamedTuple
 
 from arbiter_host.base.faults import UsageFault
 from arbiter_host.base.names import shown
+from arbiter_host.base.output import Output
 
 # What a source is. `hosts` stands for many hosts: a folder, a list, or a cluster's JSON.
 KINDS = ("script", "toml", "json", "cgroup", "kubernetes", "systemd", "docker", "slurm")
@@ -37,8 +38,6 @@ WAYS = ("systemd", "persistent", "files")
 # Of `hold`: limits, or the kernel's scheduler.
 LIMITS, SCHEDULER = "limits", "scheduler"
 MAX_DEPTH = 64
-# The word of a running service.
-SERVICE = re.compile("(k8s|docker|podman|systemd)://")
 
 # The forms that each subcommand writes. The first is the one without -o.
 FORMS: dict[str, tuple[str, ...]] = {
@@ -276,13 +275,6 @@ TABLE = (
            " that is found)", "PATH"),
 )
 MOST = 46
-
-
-class Output(NamedTuple):
-    """A form, and the file that has it; `-` is standard output."""
-
-    form: str
-    path: str
 
 
 def of(subcommand: str) -> list[Option]:
