@@ -5,7 +5,7 @@
 from collections.abc import Iterator
 from pathlib import Path
 
-from arbiter_pages import interface
+from arbiter_pages import interface, rust
 
 TOP = Path(__file__).resolve().parent.parent.parent
 SHARE = TOP / "share"
@@ -13,7 +13,8 @@ SHARE = TOP / "share"
 
 def parts() -> Iterator[dict[Path, str]]:
     """The files with their texts, those of the calls first."""
-    yield {TOP / name: text for name, text in interface.files().items()}
+    yield {TOP / name: text for each in (interface, rust)
+           for name, text in each.files().items()}
     # (they import arbiter_host, which the files above may keep from being imported)
     from arbiter_pages import completions, manual
     yield {SHARE / "man" / name: text for name, text in manual.pages().items()}

@@ -11,8 +11,14 @@
 //! The code that plans and checks is proved; these wrappers are not.
 #![warn(missing_docs)]
 
+mod columns;
+#[rustfmt::skip]
+mod plain;
+#[rustfmt::skip]
+#[allow(clippy::too_many_arguments)]
 mod raw;
 
+pub use plain::*;
 use raw::Columns;
 use std::fmt;
 
@@ -211,7 +217,7 @@ pub enum Conversion {
 fn of_rows(number: u32, columns: &Columns) -> Result<(), Fault> {
     let mut row = u32::MAX;
     if (4..=10).contains(&number) {
-        columns.refused_row(&mut row);
+        raw::refused_row(columns, &mut row);
     }
     answered(number, Some(row).filter(|row| *row != u32::MAX))
 }
@@ -223,24 +229,14 @@ fn answered(number: u32, row: Option<u32>) -> Result<(), Fault> {
     }
 }
 
-/// The plan: the slices that each row gets in one period.
-///
-/// # Errors
-/// The host is refused (1 to 3), the rows are (4 to 10, with the row that the number speaks of), or memory is (71).
-pub fn plan(host: Host, rows: &[Row]) -> Result<Vec<u64>, Fault> {
-    let (columns, mut amounts) = (Columns::of(rows), vec![0; rows.len()]);
-    of_rows(columns.plan(host, &mut amounts), &columns)?;
-    Ok(amounts)
-}
-
 /// The plan, and its certificate.
 ///
 /// # Errors
 /// As of [`plan`].
 pub fn certify(host: Host, rows: &[Row]) -> Result<(Vec<u64>, Certificate), Fault> {
     let (columns, mut amounts) = (Columns::of(rows), vec![0; rows.len()]);
-    let mut claim = raw::Claim::zeros(rows.len());
-    of_rows(columns.certify(host, &mut amounts, &mut claim), &columns)?;
+    let mut claim = raw::Claim::room(rows.len());
+    of_rows(raw::certify(host, &columns, &mut amounts, &mut claim), &columns)?;
     Ok((amounts, claim.certificate()))
 }
 
@@ -255,7 +251,7 @@ pub fn check(
     certificate: &Certificate,
 ) -> Result<(), Fault> {
     let (columns, mut row) = (Columns::of(rows), u32::MAX);
-    let number = columns.check(host, amounts, &raw::Claim::of(certificate), &mut row);
+    let number = raw::check(host, &columns, amounts, &raw::Claim::of(certificate), &mut row);
     if number <= 10 {
         return of_rows(number, &columns);
     }
@@ -292,7 +288,7 @@ pub fn limiting(host: Host, rows: &[Row]) -> Result<(Vec<u32>, u64), Fault> {
     let (columns, mut groups) = (Columns::of(rows), vec![0; rows.len()]);
     let (mut count, mut rest) = (0, 0);
     of_rows(
-        columns.limiting(host, &mut groups, &mut count, &mut rest),
+        raw::limiting(host, &columns, &mut groups, &mut count, &mut rest),
         &columns,
     )?;
     groups.truncate(count as usize);
@@ -305,7 +301,7 @@ pub fn limiting(host: Host, rows: &[Row]) -> Result<(Vec<u32>, u64), Fault> {
 /// As of [`plan`].
 pub fn figures(host: Host, rows: &[Row]) -> Result<Vec<Figures>, Fault> {
     let (columns, mut found) = (Columns::of(rows), raw::FigureColumns::room(rows.len()));
-    of_rows(columns.figures(host, &mut found), &columns)?;
+    of_rows(raw::figures(host, &columns, &mut found), &columns)?;
     Ok((0..rows.len())
         .map(|row| Figures {
             want: found.wants[row],
@@ -325,9 +321,9 @@ pub fn figures(host: Host, rows: &[Row]) -> Result<Vec<Figures>, Fault> {
 pub fn reasons(host: Host, rows: &[Row]) -> Result<Vec<Reason>, Fault> {
     let (columns, mut kinds) = (Columns::of(rows), vec![0; rows.len()]);
     let mut blamed = vec![0; rows.len()];
-    of_rows(columns.reasons(host, &mut kinds, &mut blamed), &columns)?;
+    of_rows(raw::reasons(host, &columns, &mut kinds, &mut blamed), &columns)?;
     let told = kinds.into_iter().zip(blamed);
-    Ok(told.map(|(kind, row)| raw::reason(kind, row)).collect())
+    Ok(told.map(|(kind, row)| columns::reason(kind, row)).collect())
 }
 
 /// The limits of a round, with the demands and the certified plan that they come from.
@@ -353,15 +349,8 @@ pub struct Round {
 pub fn hold(host: Host, rows: &[Row], hungry: &[bool]) -> Result<Round, Fault> {
     let (columns, flags) = (Columns::of(rows), flags(hungry));
     let (mut held, mut demands) = (vec![0; rows.len()], vec![0; rows.len()]);
-    let (mut amounts, mut claim) = (vec![0; rows.len()], raw::Claim::zeros(rows.len()));
-    let number = columns.hold(
-        host,
-        &flags,
-        &mut held,
-        &mut demands,
-        &mut amounts,
-        &mut claim,
-    );
+    let (mut amounts, mut claim) = (vec![0; rows.len()], raw::Claim::room(rows.len()));
+    let number = raw::hold(host, &columns, &flags, &mut held, &mut demands, &mut amounts, &mut claim);
     of_rows(number, &columns)?;
     Ok(Round {
         limits: limits(held),
@@ -371,8 +360,8 @@ pub fn hold(host: Host, rows: &[Row], hungry: &[bool]) -> Result<Round, Fault> {
     })
 }
 
-fn flags(hungry: &[bool]) -> Vec<u8> {
-    hungry.iter().map(|flag| u8::from(*flag)).collect()
+fn flags(each: &[bool]) -> Vec<u8> {
+    each.iter().map(|flag| u8::from(*flag)).collect()
 }
 
 fn limits(numbers: Vec<u64>) -> Vec<Option<u64>> {
@@ -398,7 +387,7 @@ pub struct Served {
 pub fn serve(host: Host, rows: &[Row], hungry: &[bool]) -> Result<Served, Fault> {
     let columns = Columns::of(rows);
     let (mut amounts, mut most) = (vec![0; rows.len()], vec![0; rows.len()]);
-    let number = columns.serve(host, &flags(hungry), &mut amounts, &mut most);
+    let number = raw::serve(host, &columns, &flags(hungry), &mut amounts, &mut most);
     of_rows(number, &columns)?;
     Ok(Served {
         amounts,
@@ -444,9 +433,15 @@ pub struct Reading {
 /// 50 where these differ in length or have more entries than the group has tasks; the host is refused (1 to 3), or no time
 /// passed (15).
 pub fn reading(host: Host, times: RoundTimes, ran: &[u64], waited: &[u64]) -> Result<Reading, Fault> {
-    let (number, found) = raw::reading(host, times, ran, waited);
-    answered(number, None)?;
-    Ok(found)
+    let (mut used, mut asked, mut hungry, mut guess) = (0, 0, 0, 0);
+    let allowed_us = times.allowed_us.unwrap_or(raw::NO_LIMIT);
+    let throttled = u32::from(times.is_throttled);
+    answered(
+        raw::reading(host, times.passed_ns, times.used_us, times.waited_us, times.tasks, throttled, allowed_us,
+                     ran, waited, &mut used, &mut asked, &mut hungry, &mut guess),
+        None,
+    )?;
+    Ok(Reading { used, asked, is_hungry: hungry != 0, is_guess: guess != 0 })
 }
 
 /// What is counted of a leaf that a scheduler serves in a round, in nanoseconds.
@@ -468,9 +463,10 @@ pub struct LeafTimes {
 /// # Errors
 /// The host is refused (1 to 3), or no time passed (15).
 pub fn leaf_reading(host: Host, times: LeafTimes) -> Result<Reading, Fault> {
-    let (number, found) = raw::leaf_reading(host, times);
-    answered(number, None)?;
-    Ok(found)
+    let (mut used, mut asked) = (0, 0);
+    let LeafTimes { passed_ns, used_ns, waited_ns, some_ns } = times;
+    answered(raw::leaf_reading(host, passed_ns, used_ns, waited_ns, some_ns, &mut used, &mut asked), None)?;
+    Ok(Reading { used, asked, is_hungry: used < asked, is_guess: false })
 }
 
 /// The quota and the weight that are written for a leaf's limit of a round, as share/arbiter.h has them.
@@ -503,10 +499,10 @@ pub enum Tuning {
 /// # Errors
 /// As of [`plan`], and 50 where there is not one goal and one `may` for each row.
 pub fn tune(host: Host, rows: &[Row], goals: &[u64], may: &[bool], guaranteed: bool) -> Result<Tuning, Fault> {
-    let flags: Vec<u8> = may.iter().map(|each| u8::from(*each)).collect();
+    let flags = flags(may);
     let (columns, mut tuned) = (Columns::of(rows), vec![0; rows.len()]);
     let mut unmet = raw::NO_GOAL;
-    let number = columns.tune(host, goals, &flags, guaranteed, &mut tuned, &mut unmet);
+    let number = raw::tune(host, &columns, goals, &flags, u32::from(guaranteed), &mut tuned, &mut unmet);
     of_rows(number, &columns)?;
     Ok(match u32::try_from(unmet) {
         Ok(row) => Tuning::Unmet(row),
@@ -530,120 +526,19 @@ pub fn limit_others(
     lowest: &[Option<u64>],
     guaranteed: bool,
 ) -> Result<Option<Vec<Option<u64>>>, Fault> {
-    let flags: Vec<u8> = may.iter().map(|each| u8::from(*each)).collect();
+    let flags = flags(may);
     let least: Vec<u64> = lowest.iter().map(|each| each.unwrap_or(raw::NO_LIMIT)).collect();
     let (columns, mut limited, mut met) = (Columns::of(rows), vec![0; rows.len()], 0);
-    let number = columns.limit_others(host, goals, &flags, &least, guaranteed, &mut limited, &mut met);
+    let guaranteed = u32::from(guaranteed);
+    let number = raw::limit_others(host, &columns, goals, &flags, &least, guaranteed, &mut limited, &mut met);
     of_rows(number, &columns)?;
     let limits = limited.iter().map(|limit| Some(*limit).filter(|limit| *limit != raw::NO_LIMIT));
     Ok((met != 0).then(|| limits.collect()))
 }
 
-/// The slices of one period that a group gets whatever the groups not under it ask for.
-///
-/// They give it no less, and for some demands of theirs no more. `group` is its row.
-///
-/// # Errors
-/// As of [`plan`], then 20 where the group is no row.
-pub fn guarantee(host: Host, rows: &[Row], group: u32) -> Result<u64, Fault> {
-    let (columns, mut amount) = (Columns::of(rows), 0);
-    of_rows(columns.guarantee(host, group, &mut amount), &columns)?;
-    Ok(amount)
-}
-
-/// The least weight with which a group gets at least `amount` slices of one period.
-///
-/// It is 1 to 10000, none where no weight does. All else is as the rows say. At most 14 plans.
-///
-/// # Errors
-/// As of [`plan`], then 20 where the group is no row.
-pub fn least_weight(
-    host: Host,
-    rows: &[Row],
-    group: u32,
-    amount: u64,
-) -> Result<Option<u64>, Fault> {
-    let (columns, mut weight) = (Columns::of(rows), 0);
-    let number = columns.least_weight(host, group, amount, &mut weight);
-    of_rows(number, &columns)?;
-    Ok(Some(weight).filter(|weight| *weight != 0))
-}
-
-/// The least limit with which a group gets at least `amount` slices of one period.
-///
-/// It is in slices of one period, none where no limit does, nor the group without one. One plan.
-///
-/// # Errors
-/// As of [`plan`], then 20 where the group is no row, and 10 for the root, which is row 0.
-pub fn least_limit(
-    host: Host,
-    rows: &[Row],
-    group: u32,
-    amount: u64,
-) -> Result<Option<u64>, Fault> {
-    let (columns, mut limit) = (Columns::of(rows), raw::NO_LIMIT);
-    let number = columns.least_limit(host, group, amount, &mut limit);
-    of_rows(number, &columns)?;
-    Ok(Some(limit).filter(|limit| *limit != raw::NO_LIMIT))
-}
-
-/// The least number of processors with which a group gets at least `amount` slices of one period.
-///
-/// It is 1 to 64, of a host of this period and slice, none where no number does. The processors
-/// of `host` change nothing but the refusal 1. At most 7 plans.
-///
-/// # Errors
-/// As of [`plan`], then 20 where the group is no row.
-pub fn least_processors(
-    host: Host,
-    rows: &[Row],
-    group: u32,
-    amount: u64,
-) -> Result<Option<u64>, Fault> {
-    let (columns, mut least) = (Columns::of(rows), 0);
-    let number = columns.least_processors(host, group, amount, &mut least);
-    of_rows(number, &columns)?;
-    Ok(Some(least).filter(|least| *least != 0))
-}
-
-/// The whole slices of one period that a quota or burst allows, rounded down: a limit of a row.
-///
-/// `us` is 0 to 10^15 microseconds of each own period of 1000 to 1000000. Below one slice it allows none.
-///
-/// # Errors
-/// The host is refused (1 to 3), `us` is (14), or `own_period_us` is (15).
-pub fn slices(host: Host, us: u64, own_period_us: u64) -> Result<u64, Fault> {
-    let mut slices = 0;
-    answered(raw::slices(host, us, own_period_us, &mut slices), None)?;
-    Ok(slices)
-}
-
-/// The slices that a group may use in the next period: the limit of its row.
-///
-/// It is the quota plus `carry`, and at most the quota plus the burst. `carry` is the slices of its limit that the last period
-/// left. The quota is 1000 to 10^15 microseconds of each own period of 1000 to 1000000, the burst 0 to 10^15.
-///
-/// # Errors
-/// The host is refused (1 to 3), the quota is (13, 14), `own_period_us` is (15), or `burst_us` is (14).
-pub fn period_limit(
-    host: Host,
-    quota_us: Option<u64>,
-    own_period_us: u64,
-    burst_us: u64,
-    carry: u64,
-) -> Result<Option<u64>, Fault> {
-    let mut limit = 0;
-    let quota_us = raw::number_of(quota_us);
-    answered(
-        raw::period_limit(host, quota_us, own_period_us, burst_us, carry, &mut limit),
-        None,
-    )?;
-    Ok(Some(limit).filter(|limit| *limit != raw::NO_LIMIT))
-}
-
 /// Counts one period for each row and gives the slices that each left of its limit, 0 without one.
 ///
-/// The rows are those of the period. `used` are the slices that each group used, as a plan gives them. `quotas` are in slices,
+/// The rows are those of the period. `drawn` are the slices that each group used, as a plan gives them. `quotas` are in slices,
 /// without what was carried in. A counter stops at its greatest value.
 ///
 /// # Errors
@@ -652,13 +547,13 @@ pub fn book(
     host: Host,
     rows: &[Row],
     quotas: &[Option<u64>],
-    used: &[u64],
+    drawn: &[u64],
     stats: &mut [Stat],
 ) -> Result<Vec<u64>, Fault> {
     let columns = Columns::of(rows);
-    let quotas: Vec<u64> = quotas.iter().map(|quota| raw::number_of(*quota)).collect();
+    let quotas: Vec<u64> = quotas.iter().map(|quota| columns::number_of(*quota)).collect();
     let (mut carries, mut found) = (vec![0; rows.len()], raw::StatColumns::of(stats));
-    of_rows(columns.book(host, &quotas, used, &mut carries, &mut found), &columns)?;
+    of_rows(raw::book(host, &columns, &quotas, drawn, &mut carries, &mut found), &columns)?;
     for (row, stat) in stats.iter_mut().enumerate() {
         *stat = found.stat(row);
     }
@@ -719,18 +614,8 @@ pub fn periods(
     carries: &mut [u64],
 ) -> Result<Vec<Sums>, Fault> {
     let (columns, mut sums) = (raw::SettingColumns::of(groups), raw::SumColumns::room(demands.len()));
-    answered(columns.periods(host, demands, times, carries, &mut sums), None)?;
+    answered(raw::periods(host, &columns, demands, times, carries, &mut sums), None)?;
     Ok((0..demands.len()).map(|at| sums.sums(at)).collect())
-}
-
-/// The slices of one period that a ratio of processors takes, rounded up: a demand of a row.
-///
-/// # Errors
-/// The host is refused (1 to 3), the denominator is 0 (11), or the demand takes more than 1000000 slices (9).
-pub fn demand(host: Host, numerator: u64, denominator: u64) -> Result<u64, Fault> {
-    let mut slices = 0;
-    answered(raw::demand(host, numerator, denominator, &mut slices), None)?;
-    Ok(slices)
 }
 
 /// The host that is planned in place of one of any number of processors: itself up to 64, else one of the same capacity.
