@@ -49,6 +49,7 @@ find_installed() {
     "$library.a" lib/libarbiter.a 644
     share/arbiter.pc lib/pkgconfig/arbiter.pc 644
     share/arbiter.h include/arbiter.h 644
+    share/libarbiter.3 share/man/man3/libarbiter.3 644
     share/arbiter.1 share/man/man1/arbiter.1 644
     share/completions/arbiter.bash share/bash-completion/completions/arbiter 644
     share/completions/_arbiter share/zsh/site-functions/_arbiter 644

@@ -21,11 +21,11 @@
  *
  * Answers of all calls but arbiter_name, arbiter_version and arbiter_weight_of_shares: 0, or
  *   1 to 3    the host is refused (BadProcessors, BadPeriod, BadSlice)
- *   4 to 10   the rows are (TooMany, BadParent, BadWeight, TooDeep, InnerDemand, DemandTooLarge, RootLimited)
+ *   4 to 10   the rows are refused (TooMany, BadParent, BadWeight, TooDeep, InnerDemand, DemandTooLarge, RootLimited)
  *   11        the denominator of a demand is 0 (BadNumber)
- *   13 to 15  the quota, burst or limit is, or its own period or the round (QuotaTooSmall, QuotaTooLarge, PeriodOutOfRange)
+ *   13 to 15  a quota, burst or limit, an own period or a round is out of range (QuotaTooSmall, QuotaTooLarge, PeriodOutOfRange)
  *   20        the group is no row (NotFound)
- *   40 to 43  the text is (BadLine, BadField, CutShort, Trailing)
+ *   40 to 43  it is no certified text (BadLine, BadField, CutShort, Trailing)
  *   50        columns differ in length (WrongLength)
  *   51 to 58  the amounts are not the plan by this certificate
  *   71        memory was refused (OutOfMemory)

@@ -22,6 +22,7 @@ FILES = {
     "lib/libarbiter.a": (f"{LIBRARY}.a", 0o644),
     "lib/pkgconfig/arbiter.pc": ("share/arbiter.pc", 0o644),
     "include/arbiter.h": ("share/arbiter.h", 0o644),
+    "share/man/man3/libarbiter.3": ("share/libarbiter.3", 0o644),
     "share/man/man1/arbiter.1": ("share/arbiter.1", 0o644),
     "share/bash-completion/completions/arbiter": ("share/completions/arbiter.bash", 0o644),
     "share/zsh/site-functions/_arbiter": ("share/completions/_arbiter", 0o644),

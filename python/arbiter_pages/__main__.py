@@ -17,6 +17,7 @@ def parts() -> Iterator[dict[Path, str]]:
            for name, text in each.files().items()}
     # (they import arbiter_host, which the files above may keep from being imported)
     from arbiter_pages import completions, manual
+    yield {SHARE / "libarbiter.3": manual.library_page()}
     yield {SHARE / "man" / name: text for name, text in manual.pages().items()}
     yield {SHARE / "completions" / name: text for name, text in completions.completions().items()}
 

@@ -505,6 +505,20 @@ NAMES = (
                CHAR, "the name, with a 0 behind it, where there is room for both; else, and where"
                " the answer is 0, as it was")), allocates=False),
 )
+# What the numbers that a call answers mean, with the names of the faults.
+FAULTS = {
+    "1 to 3": "the host is refused (BadProcessors, BadPeriod, BadSlice)",
+    "4 to 10": "the rows are refused (TooMany, BadParent, BadWeight, TooDeep, InnerDemand,"
+               " DemandTooLarge, RootLimited)",
+    "11": "the denominator of a demand is 0 (BadNumber)",
+    "13 to 15": "a quota, burst or limit, an own period or a round is out of range (QuotaTooSmall,"
+                " QuotaTooLarge, PeriodOutOfRange)",
+    "20": "the group is no row (NotFound)",
+    "40 to 43": "it is no certified text (BadLine, BadField, CutShort, Trailing)",
+    "50": "columns differ in length (WrongLength)",
+    "51 to 58": "the amounts are not the plan by this certificate",
+    "71": "memory was refused (OutOfMemory)",
+}
 # All calls by the titles of their sections.
 SECTIONS: dict[str, tuple[Call, ...]] = {
     "Plans and certificates": PLANS,

@@ -3,8 +3,9 @@ from __future__ import annotations
 
 import textwrap
 from collections.abc import Iterable, Iterator
+from pathlib import Path
 
-from arbiter_pages.calls import (CHANGED, HOST, READ, ROWS, SECTIONS, TABLE, U8, U32, U64, WRITTEN,
+from arbiter_pages.calls import (CHANGED, FAULTS, HOST, READ, ROWS, SECTIONS, TABLE, U8, U32, U64, WRITTEN,
                                  Call, Part, CallWord)
 from arbiter_pages.shapes import environment
 
@@ -13,6 +14,9 @@ SOURCE = "python/arbiter_pages/calls.py"
 C_TYPES = {U8: "uint8_t", U32: "uint32_t", U64: "uint64_t", "char": "char"}
 CODES = {U8: "B", U32: "I", U64: "Q", "char": "B"}
 HEADER_COLUMNS, PIPE_COLUMNS = 128, 100
+# The page with the tables of the calls, and the lines around these.
+PAGE = Path(__file__).resolve().parents[2] / "docs/EMBEDDING.md"
+BEGIN, END = "<!-- the calls, as `python -m arbiter_pages` prints them -->", "<!-- end -->"
 
 
 def filled(begin: str, items: Iterable[str], end: str, width: int) -> str:
@@ -57,13 +61,19 @@ def refusals_line(call: Call) -> str:
     return "; ".join(f"{each.numbers} where {each.when}" for each in call.refusals)
 
 
+def ways(call: Call) -> dict[str, list[CallWord]]:
+    """The words of a call beside host and rows, by what it does with them."""
+    found = {title: [word for word in call.own if word.way == way]
+             for way, title in ((READ, "Reads"), (CHANGED, "Changes"), (WRITTEN, "Writes"))}
+    return {title: words for title, words in found.items() if words}
+
+
 def c_comment(call: Call) -> str:
     """What the header says of a call: its paragraph, each word of its own, and its refusals."""
     lines = comment_lines(call.about, "/* ", " * ")
-    for way, title in ((READ, "Reads"), (CHANGED, "Changes"), (WRITTEN, "Writes")):
-        words = [word for word in call.own if word.way == way]
-        width = max((len(word.name) for word in words), default=0) + 2
-        lines += [f" * {title}:"] * bool(words)
+    for title, words in ways(call).items():
+        lines.append(f" * {title}:")
+        width = max(len(word.name) for word in words) + 2
         for word in words:
             lines += comment_lines(about(word), f" *   {word.name:<{width}}",
                                    f" *   {'':<{width}}")
@@ -83,7 +93,7 @@ def c_files() -> dict[str, str]:
     """The header and the list of exported names."""
     made = environment()
     made.filters |= {"c_lines": c_lines, "c_comment": c_comment}
-    words = {"source": SOURCE, "calls": TABLE, "sections": SECTIONS,
+    words = {"source": SOURCE, "calls": TABLE, "sections": SECTIONS, "faults": FAULTS,
              "without_memory": without_memory()}
     return {name: made.get_template(name).render(**words)
             for name in ("arbiter.h", "arbiter.map")}
@@ -164,6 +174,31 @@ def pipe_told(call: Call) -> str:
                       f"        {told[-1]}"])
 
 
+def listed(words: Iterable[CallWord]) -> str:
+    return ", ".join(f"`{word.name}`" for word in words)
+
+
+def page_row(call: Call) -> str:
+    """A call's row in the tables of EMBEDDING.md."""
+    records = [name for part, name in ((HOST, "host"), (ROWS, "rows")) if part in call.parts]
+    reads = [word for word in call.own if word.way != WRITTEN]
+    writes = [word for word in call.own if word.way != READ]
+    taken = ", ".join([*records, *([listed(reads)] if reads else [])])
+    return f"| `arbiter_{call.name}` | {call.summary} | {taken} | {listed(writes)} |"
+
+
+def page() -> str:
+    """EMBEDDING.md with its tables of the calls, between two lines that stay."""
+    text = PAGE.read_text(encoding="utf-8")
+    above, _, rest = text.partition(f"{BEGIN}\n")
+    below = rest.partition(f"{END}\n")[2]
+    lines = []
+    for title, calls in SECTIONS.items():
+        lines += [f"**{title}**", "", "| Call | Answers | Reads | Writes |", "|---|---|---|---|",
+                  *map(page_row, calls), ""]
+    return f"{above}{BEGIN}\n" + "\n".join(lines) + f"{END}\n{below}"
+
+
 def pipe_program() -> str:
     """The calls in the program of the pipe."""
     made = environment()
@@ -174,5 +209,6 @@ def pipe_program() -> str:
 def files() -> dict[str, str]:
     """All files with their texts, by their places in the repository."""
     return {**{f"share/{name}": text for name, text in c_files().items()},
+            "docs/EMBEDDING.md": page(),
             "python/arbiter/words.py": python_words(),
             "scripts/calls/calls.rattle": pipe_program()}

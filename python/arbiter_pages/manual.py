@@ -1,4 +1,5 @@
-"""Man pages in mdoc: arbiterctl(1), and one for each subcommand. Their shape is in templates/."""
+"""Man pages in mdoc: arbiterctl(1), one for each subcommand, and libarbiter(3). Their shape is in
+templates/."""
 from __future__ import annotations
 
 import re
@@ -6,6 +7,7 @@ import textwrap
 
 from arbiter_host import helps
 from arbiter_host.subcommands import every
+from arbiter_pages import calls, interface
 from arbiter_pages.words import Word, environment
 
 DATE = "November 25, 2026"
@@ -60,6 +62,19 @@ def head(word: Word) -> str:
     """An option or an argument with its value, as the head of an item."""
     flags = " , ".join(f"Fl {escaped(name[1:])}" for name in word.names)
     return f"{flags} {value_of(word) if word.takes_value else ''}".strip()
+
+
+def library_page() -> str:
+    """The man page of the C library."""
+    made = environment()
+    made.filters |= {"prose": prose, "answer": lambda call: interface.C_TYPES[call.answer],
+                     "about": interface.about, "ways": interface.ways,
+                     "parameters": lambda call: [part for word in call.words
+                                                 for part in interface.c_word(word).split(", ")]}
+    exact = [call for call in calls.TABLE if not call.allocates]
+    return made.get_template("libarbiter.3").render(
+        source=interface.SOURCE, date=DATE, calls=calls.TABLE, sections=calls.SECTIONS,
+        faults=calls.FAULTS, host=calls.HOST.words, rows=calls.ROWS.words, exact=exact)
 
 
 def pages() -> dict[str, str]:

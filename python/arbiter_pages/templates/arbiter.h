@@ -20,15 +20,9 @@
  * says otherwise.
  *
  * Answers of all calls but arbiter_name, arbiter_version and arbiter_weight_of_shares: 0, or
- *   1 to 3    the host is refused (BadProcessors, BadPeriod, BadSlice)
- *   4 to 10   the rows are (TooMany, BadParent, BadWeight, TooDeep, InnerDemand, DemandTooLarge, RootLimited)
- *   11        the denominator of a demand is 0 (BadNumber)
- *   13 to 15  the quota, burst or limit is, or its own period or the round (QuotaTooSmall, QuotaTooLarge, PeriodOutOfRange)
- *   20        the group is no row (NotFound)
- *   40 to 43  the text is (BadLine, BadField, CutShort, Trailing)
- *   50        columns differ in length (WrongLength)
- *   51 to 58  the amounts are not the plan by this certificate
- *   71        memory was refused (OutOfMemory)
+{% for numbers, what in faults.items() %}
+ *   {{ "%-9s" | format(numbers) }} {{ what }}
+{% endfor %}
  * Each call lists what refuses it, in the order in which it is looked for. Memory is asked for after the lengths and the host:
  * 71 can stand in place of any later answer, and of no earlier one. Of arbiter_check_text it can stand in place of any.
  * arbiter_name gives the name of each, and of those that arbiter_script writes for lines. docs/USING.md says what to do about
