@@ -5,7 +5,7 @@ import itertools
 import os
 import re
 import unicodedata
-from collections.abc import Container, Iterable, Sequence
+from collections.abc import Callable, Container, Iterable, Sequence
 
 from arbiter_host.base.faults import HostFault
 
@@ -24,7 +24,7 @@ MOST_ALIKE = 1000
 # The place of a group that is not known to be a folder of its host.
 NOWHERE = "."
 # What a path of a script cannot hold, and what begins an escape.
-RESERVED = re.compile(r"[ \t\n/\0%]")
+RESERVED = " \t\n/\0%"
 ESCAPE = re.compile(rb"%([0-9A-F]{2})")
 
 
@@ -41,11 +41,36 @@ def escaped(letter: str) -> str:
     return f"\\u{code:04x}" if code < 0x10000 else f"\\U{code:08x}"
 
 
+def escaped_in_json(letter: str) -> str:
+    """A letter as JSON has it in a string: by two numbers where one is too small."""
+    data = letter.encode("utf-16-be", "surrogatepass")
+    return "".join(f"\\u{data[at]:02x}{data[at + 1]:02x}" for at in range(0, len(data), 2))
+
+
+def escaped_in_toml(letter: str) -> str:
+    """A letter as TOML has it in a string. Half of a letter has no place there: it is replaced."""
+    if unicodedata.category(letter) == "Cs":
+        return "\\ufffd"
+    code = ord(letter)
+    return f"\\u{code:04x}" if code < 0x10000 else f"\\U{code:08x}"
+
+
+def in_bytes(letter: str) -> str:
+    """A letter as %XX for each of its bytes."""
+    return "".join(f"%{byte:02X}" for byte in letter.encode("utf-8", "surrogateescape"))
+
+
+def without_raw(text: str, form: Callable[[str], str], also: str = "") -> str:
+    """A text in which each letter that a terminal or a page could take as a command has a form of
+    its own, and so have some others. Each form of an answer has its names from here."""
+    return "".join(form(each) if is_raw(each) or each in also else each for each in text)
+
+
 def shown(text: str) -> str:
     """A text without any letter that a terminal or a page could take as a command."""
     if text.isascii() and text.isprintable():
         return text
-    return "".join(escaped(each) if is_raw(each) else each for each in text)
+    return without_raw(text, escaped)
 
 
 def short(text: str) -> str:
@@ -94,16 +119,14 @@ def padded(text: str, cells: int) -> str:
 
 def in_path(raw: str) -> str:
     """A name with %XX for what a path of a script or a terminal cannot hold, and for `%`."""
-    if raw.isascii() and raw.isprintable() and not RESERVED.search(raw):
+    if raw.isascii() and raw.isprintable() and not any(each in raw for each in RESERVED):
         return raw
     try:
         data = os.fsencode(raw)
     except UnicodeEncodeError:
         data = raw.encode("utf-8", "replace")
     # A letter that stands for a byte that is no UTF-8 is that byte.
-    letters = data.decode("utf-8", "surrogateescape")
-    return "".join("".join(f"%{byte:02X}" for byte in each.encode("utf-8", "surrogateescape"))
-                   if is_raw(each) or RESERVED.match(each) else each for each in letters)
+    return without_raw(data.decode("utf-8", "surrogateescape"), in_bytes, RESERVED)
 
 
 def place_text(place: str) -> str:

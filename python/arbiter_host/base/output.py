@@ -54,8 +54,8 @@ def json_text(data: Any) -> str:
     """Data as JSON. Letters that a terminal could take as a command are escaped."""
     import json
     dumped = json.dumps(data, indent=2, ensure_ascii=False)
-    return "".join(f"\\u{ord(each):04x}" if names.is_raw(each) and each != "\n" and
-                   ord(each) < 0x10000 else each for each in dumped) + "\n"
+    lines = (names.without_raw(line, names.escaped_in_json) for line in dumped.split("\n"))
+    return "\n".join(lines) + "\n"
 
 
 def write_file(path: str, data: str) -> None:

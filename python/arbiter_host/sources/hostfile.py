@@ -24,6 +24,7 @@ from arbiter import Host, Library
 from arbiter_host.base import names, units
 from arbiter_host.base.faults import HostFault, naming
 from arbiter_host.base.model import Group, Model, check_count, check_settings, checked
+from arbiter_host.base.output import json_text
 from arbiter_host.sources.data import decoded
 from arbiter_host.sources.register import is_json
 from arbiter_host.sources.source_options import File, SourceOptions, only
@@ -243,7 +244,7 @@ def data(model: Model) -> dict[str, Any]:
 
 def toml_value(value: Any) -> str:
     """A whole number or a text in TOML."""
-    return json.dumps(value, ensure_ascii=False).replace("\x7f", "\\u007f")
+    return names.without_raw(json.dumps(value, ensure_ascii=False), names.escaped_in_toml)
 
 
 def write_toml(model: Model) -> str:
@@ -259,4 +260,4 @@ def write_toml(model: Model) -> str:
 
 def write_json(model: Model) -> str:
     """A host file in JSON."""
-    return json.dumps(data(model), indent=2, ensure_ascii=False) + "\n"
+    return json_text(data(model))
