@@ -5,6 +5,7 @@ import resource
 import signal
 import time
 from contextlib import contextmanager, suppress
+from pathlib import Path
 
 import pytest
 from arbiter_host.base import children, safe_files
@@ -46,15 +47,19 @@ def is_gone(process):
     return not is_there(process)
 
 
+def opened_and_begun():
+    """How many descriptors this process has, and its children, also those that ended."""
+    begun = Path(f"/proc/self/task/{os.getpid()}/children")
+    return len(os.listdir("/proc/self/fd")), begun.read_text(encoding="ascii").split()
+
+
 @contextmanager
 def soon():
     """Fails where what is done takes long, or leaves a descriptor or a child of this process."""
-    began, opened = time.monotonic(), os.listdir("/proc/self/fd")
+    began, before = time.monotonic(), opened_and_begun()
     yield
     assert time.monotonic() - began < SOON
-    assert len(os.listdir("/proc/self/fd")) == len(opened)
-    with pytest.raises(ChildProcessError):
-        os.waitpid(-1, os.WNOHANG)
+    assert opened_and_begun() == before
 
 
 def test_what_it_prints():
