@@ -43,16 +43,63 @@ PARTS: dict[str, tuple[tuple[str, ...], ...]] = {
         ("bw_cert/specs/Spelling.antt",),
         ("bw_cert/specs/Reading.antt",),
     ),
+    "Scripts": (
+        ("bw_model/src/limits.rt",), ("bw_model/src/quota.rt", "Quota"),
+        ("bw_model/src/stat.rt", "Stat"), ("bw_model/specs/Quota.antt",),
+        ("bw_text/specs/Words.antt",), ("bw_streams/specs/Answers.antt",),
+        ("bw_demand/specs/Demands.antt",), ("bw_demand/specs/Figures.antt",),
+        ("bw_cert/specs/Levels.antt",),
+        ("bw_files/src/fault.rt", "FileFault"), ("bw_files/src/reading.rt", "MaxWrite"),
+        ("bw_files/specs/Faults.antt",), ("bw_files/specs/Reading.antt",),
+        ("bw_files/specs/Values.antt",), ("bw_files/specs/Writing.antt",),
+        ("bw_tree/src/limits.rt",), ("bw_tree/src/fault.rt", "TreeFault"),
+        ("bw_tree/src/setting.rt", "Setting"),
+        ("bw_tree/specs/Faults.antt",), ("bw_tree/specs/Groups.antt",),
+        ("bw_tree/specs/Paths.antt",), ("bw_tree/specs/Tree.antt",),
+        ("bw_tree/specs/Snapshot.antt",),
+        ("bw_stat/specs/Books.antt",), ("bw_stat/specs/Report.antt",),
+        ("bw_hierarchy/src/fault.rt", "Fault"), ("bw_hierarchy/src/group_file.rt", "GroupFile"),
+        ("bw_hierarchy/specs/Faults.antt",), ("bw_hierarchy/specs/Calls.antt",),
+        ("bw_hierarchy/specs/State.antt",), ("bw_hierarchy/specs/GroupFiles.antt",),
+        ("bw_hierarchy/specs/Files.antt",),
+        ("bw_workers/src/fault.rt", "ServeFault"), ("bw_commands/src/fault.rt", "ScriptFault"),
+        ("bw_commands/specs/Word.antt",), ("bw_commands/specs/Command.antt",),
+        ("bw_commands/specs/Faults.antt",), ("bw_commands/specs/Lines.antt",),
+        ("bw_commands/specs/GroupLines.antt",), ("bw_commands/specs/State.antt",),
+        ("bw_commands/specs/Planned.antt",), ("bw_commands/specs/Total.antt",),
+        ("bw_commands/specs/Reported.antt",), ("bw_commands/specs/CertifiedPlan.antt",),
+        ("bw_commands/specs/Period.antt",), ("bw_commands/specs/Script.antt",),
+        ("bw_shell/specs/Transcript.antt",),
+    ),
+    "Laws": (
+        ("bw_commands/src/reading.rt", "RefusedLine"), ("bw_commands/specs/Reading.antt",),
+        ("bw_laws/specs/Transcripts.antt",),
+    ),
 }
 # Definitions that are left out: they join a text with the program's own values.
 LEFT_OUT = {"certified_value", "IsCertifiedText", "seen", "Fails", "ReadsAs", "group_view",
             "columns_view", "certified_view", "groups_read", "rows_view", "IsLate", "IsRefused",
-            "host_fault_name", "instance_fault_name", "cert_fault_name"}
+            "host_fault_name", "instance_fault_name", "cert_fault_name",
+            "demands_of", "blanks_of", "Gathered"}
 # Constants of Rust that the definitions name.
 CONSTANTS = ("MAX_PROCESSORS", "MIN_PERIOD_US", "MAX_PERIOD_US", "MIN_SLICE_US", "MIN_WEIGHT",
              "MAX_WEIGHT", "MAX_DEMAND", "MAX_GROUPS", "MAX_DEPTH", "MAX_PER_PROCESSOR")
+MORE_CONSTANTS = {"Scripts": ("MIN_QUOTA_US", "MAX_QUOTA_US", "MAX_BURST_US", "MAX_PATH",
+                              "MAX_NAME", "DEFAULT_WEIGHT", "DEFAULT_PERIOD_US", "FIRST_ID")}
+# Parts in which a name that is taken gets a tag.
+TAGGED = {"Scripts", "Laws"}
+# The names of Words.v and of Coq that a definition may not take.
+WORDS_TAKEN = set("""
+range_with_len slice_index slice_index_or slice_get slice_set remove replicate take drop sum
+sum_by count_by list_any nat_lt nat_le not option_map_or unwrap_or IsTrue IsSome All
+AllByRecursion Result Ok Err IfSome is_some list_all enumerate_from is_ascii_digit bytes_eq
+slice_split join_with_byte decimal_within decimal keys_of values_of lookup remove_entry set_value
+insert_entry position rsplit_once is_utf8 nat_eq option_map length map filter min max list nat
+bool option fst snd Some None true false O S app rev nth seq existsb forallb flat_map int pos
+negsuc IsErrOf
+""".split())
 WORDS = {"ℕ": "nat", "List": "list", "Option": "option", "Bool": "bool", "zero": "0", "suc": "S",
-         "⊥": "False", "[]": "[]"}
+         "⊥": "False", "⊤": "True", "ℤ": "int", "[]": "[]"}
 # Operators by their binding, the loosest first: how Coq writes them, and how they associate.
 OPERATORS = {
     "→": (1, "->", "right"), "↔": (2, "<->", "none"), "×": (3, "/\\", "right"),
@@ -66,13 +113,14 @@ OPERATORS = {
 }
 TOKEN = re.compile(r"""\s*(?:(?P<text>"[^"]*")|(?P<number>[0-9]+)|(?P<name>[^\W\d][\w']*)
     |(?P<field>\.(?=\w))
-    |(?P<sign>>>=|==|\|\||&&|\+\+|[→↔×⊎≡≢<≤∷+\-*/%^¬λ⊥(){}\[\],;:=.←⏎]))""",
+    |(?P<sign>>>=|==|\|\||&&|\+\+|[→↔×⊎≡≢<≤∷+\-*/%^¬λ⊥⊤(){}\[\],;:=.←⏎]))""",
                    re.X)
 # Names that mean something else to Coq.
 RESERVED = {"at", "return", "end", "match", "as", "fun", "forall", "exists", "in", "to", "with"}
 CLAIM = re.compile(r"(Is|Are|Has|Holds|Headline)")
 # A struct or an enum of Rust, with its parameters and its fields or variants.
-DECLARATION = re.compile(r"pub (struct|enum) (\w+)(?:<([^>]*)>)? \{(.*?)^\}", re.M | re.S)
+DECLARATION = re.compile(r"pub(?:\(crate\))? (struct|enum) (\w+)(?:<([^>]*)>)? \{(.*?)^\}",
+                         re.M | re.S)
 # How the names of claims begin that are no records.
 CLAIMED = re.compile(r"(Is|Are|Has|No|May|Drains|All|If|⊥)")
 # The word by which a file names the variants of its faults.
@@ -179,8 +227,10 @@ class Parser:
         if word == "let":
             take()
             bound = take()
-            take(":")
-            parts = [self.term()]
+            parts = [Node("hole")]
+            if self.tokens.look()[1] == ":":
+                take(":")
+                parts = [self.term()]
             for middle in ("=", "in"):
                 take(middle)
                 parts.append(self.term())
@@ -228,7 +278,7 @@ class Parser:
         kind, word = self.tokens.look()
         if kind == "name":
             return word not in ("then", "else", "in", "where")
-        return kind in ("number", "text") or word in ("(", "[", "{", "⊥", "λ")
+        return kind in ("number", "text") or word in ("(", "[", "{", "⊥", "⊤", "λ")
 
     def atom(self) -> Node:
         """A name, a number, a text, a record, or what stands in parentheses, with its fields."""
@@ -243,7 +293,7 @@ class Parser:
             found = name("[]")
         elif word in ("(", "{"):
             found = self.inside(")" if word == "(" else "}")
-        elif kind == "name" or word == "⊥":
+        elif kind == "name" or word in ("⊥", "⊤"):
             found = name(word)
         else:
             raise Unknown(f"no term begins with {word!r}")
@@ -341,6 +391,26 @@ class Writer:
         self.lines: list[str] = []
         # The record that the definition at hand gives, if it gives one.
         self.wanted = ""
+        # The names that are taken in Coq, and those that stand for others, by their full path.
+        self.taken: set[str] = set(WORDS_TAKEN)
+        self.full: dict[str, str] = {}
+        self.homes: dict[str, str] = {}
+        self.part = ""
+        self.step = STEP_NAME
+
+    def coq_name(self, path: str, title: str, tag: str) -> str:
+        """The Coq name of a definition: its own, or with a tag where that is taken."""
+        if self.part not in TAGGED:
+            self.taken.add(title)
+            self.full[path] = title if self.homes.setdefault(title, self.part) == self.part else \
+                f"{self.part}.{title}"
+            return title
+        found = title if title not in self.taken else f"{title}_{tag}"
+        if found in self.taken:
+            raise Unknown(f"twice: {path} {found}")
+        self.taken.add(found)
+        self.full[path] = found
+        return found
 
     # ---- types, for the fields of records
 
@@ -354,6 +424,9 @@ class Writer:
         """The type of a term, where a field of it is asked for."""
         if term.kind == "name" and term.word in scope:
             return scope[term.word][1]
+        if term.kind == "apply" and term.parts[0].word == "values_of":
+            entries = self.type_of(term.parts[1], scope)
+            return Node("apply", [name("List"), entries.parts[1].parts[1]]) if entries else None
         if term.kind in ("name", "apply"):
             first = term.parts[0] if term.kind == "apply" else term
             known = self.results.get(first.word) if first.word not in scope else None
@@ -380,12 +453,14 @@ class Writer:
 
     def number(self, value: int) -> str:
         """A number, as a product where it is great."""
+        if self.part in TAGGED and 9 < value < 256:
+            return f"n{value}"
         for base in (2, 10):
             power = 0
             while base ** power < value:
                 power += 1
-            if value > MOST_WRITTEN and base ** power == value:
-                return f"({base} ^ {power})"
+            if value > (255 if self.part in TAGGED else MOST_WRITTEN) and base ** power == value:
+                return f"({self.number(base)} ^ {self.number(power)})"
         if value > MOST_WRITTEN:
             raise Unknown(f"a great number that is no power: {value}")
         return str(value)
@@ -399,7 +474,8 @@ class Writer:
         if node.kind == "number":
             return self.number(int(node.word))
         if node.kind == "text":
-            return "[" + "; ".join(str(ord(each)) for each in node.word) + "]"
+            word = node.word.replace("\\n", "\n")
+            return "[" + "; ".join(self.number(ord(each)) for each in word) + "]"
         if node.kind == "apply":
             return self.application(node, scope, is_claim)
         if node.kind == "operator" and node.word == ">>=":
@@ -408,7 +484,7 @@ class Writer:
             of_ok = kind.parts[1] if kind is not None and head(kind) == "Result" else None
             is_function = rest.kind == "function"
             text = self.binding(rest, scope, is_claim, of_ok) if is_function else inner(rest)
-            return f"({STEP_NAME} {inner(value)} {text})"
+            return f"({self.step} {inner(value)} {text})"
         if node.kind == "operator":
             sign = OPERATORS[node.word][1]
             sign = "*" if node.word == "×" and not is_claim else sign
@@ -420,7 +496,9 @@ class Writer:
         if node.kind == "pair":
             return f"({inner(node.parts[0])}, {inner(node.parts[1])})"
         if node.kind == "let":
-            below: Scope = {**scope, node.word: (plain(node.word), node.parts[0])}
+            is_told = node.parts[0].kind != "hole"
+            of_let = node.parts[0] if is_told else self.type_of(node.parts[1], scope)
+            below: Scope = {**scope, node.word: (plain(node.word), of_let)}
             return (f"(let {plain(node.word)} := {inner(node.parts[1])} in"
                     f" {self.term(node.parts[2], below, is_claim)})")
         if node.kind == "field":
@@ -459,7 +537,7 @@ class Writer:
             kind = self.type_of(each, scope)
             while head(kind) in self.aliases:
                 kind = self.aliases[head(kind)]
-            if head(kind) == "List" and kind is not None:
+            if head(kind) in ("List", "Result", "Option") and kind is not None:
                 return kind.parts[1]
         return None
 
@@ -608,6 +686,17 @@ class Writer:
         raise Unknown(f"a pattern: {node}")
 
 
+def variables(pattern: Node) -> list[str]:
+    """The names that a pattern binds."""
+    if pattern.kind == "name":
+        is_constructor = pattern.word in ("zero", "true", "false", "suc")
+        is_bound = pattern.word[0].islower() and not is_constructor
+        return [pattern.word] if is_bound else []
+    if pattern.kind == "field":
+        return []
+    return [each for part in pattern.parts for each in variables(part)]
+
+
 def plain(word: str) -> str:
     """A name that Coq takes."""
     return f"{word}_" if word in RESERVED else word
@@ -691,6 +780,72 @@ class Reader:
 
     def __init__(self, writer: Writer) -> None:
         self.writer, self.sections = writer, 0
+        self.crate = self.stem = ""
+        self.named: dict[str, str] = {}
+        self.modules: dict[str, str] = {}
+
+    def open(self, crate: str, stem: str, text: str) -> None:
+        """A new file: what its names mean."""
+        self.crate, self.stem, self.named, self.modules = crate, stem, {}, {}
+        self.writer.step = STEP_NAME
+        for path, names in re.findall(r"^use Rattle\.(\S+?)\.\{(.*)\}$", text, re.M):
+            for each in names.split(", "):
+                word, _, own = each.partition(" as ")
+                self.import_name(path, word, own or word)
+        for path, own in re.findall(r"^use Rattle\.(\S+) as (\w+)$", text, re.M):
+            self.modules[own] = path.replace(".specs.", ".", 1)
+
+    def import_name(self, path: str, word: str, own: str) -> None:
+        """A name that a file takes from another."""
+        full = f"{path.replace('.specs.', '.', 1)}.{word}"
+        is_known = full in self.writer.full or word in LEFT_OUT or ".TheConstants." in full
+        if self.writer.part in TAGGED and full.startswith("bw_") and not is_known:
+            raise Unknown(f"a name that no file defines: {full}")
+        found = self.writer.full.get(full, word)
+        if self.writer.part not in TAGGED:
+            found = found.rsplit(".")[-1]
+        if found != own:
+            self.named[own] = found
+        if word == STEP:
+            self.writer.step = found
+
+    def own_name(self, title: str) -> str:
+        """The Coq name of what the file at hand defines."""
+        short = self.crate.removeprefix("bw_")
+        found = self.writer.coq_name(f"{self.crate}.{self.stem}.{title}",
+                                     STEP_NAME if title == STEP else title, f"{short}_{self.stem}")
+        if found != title:
+            self.named[title] = found
+        if title == STEP:
+            self.writer.step = found
+        return found
+
+    def in_module(self, module: str, word: str) -> str:
+        """The Coq name of what a module of definitions has under a name."""
+        full = self.writer.full
+        if f"{module}.{word}" in full:
+            return full[f"{module}.{word}"]
+        # a variant of a type of definitions is in the file of the type
+        return next((full[each] for each in full
+                     if each.startswith(f"{module}.") and each.endswith(f".{word}")), word)
+
+    def resolve(self, node: Node, bound: frozenset[str] = frozenset()) -> Node:
+        """A term with the Coq names of what its free names mean."""
+        if node.kind == "name" and node.word not in bound and node.word in self.named:
+            return name(self.named[node.word])
+        if node.kind == "field" and node.parts[0].kind == "name":
+            module = node.parts[0].word
+            if module in self.modules and module not in bound and module != ALIAS:
+                return name(self.in_module(self.modules[module], node.word))
+        below = bound
+        if node.kind in ("function", "forall", "exists", "binder"):
+            below = bound | {each for names in node.names for each in names}
+        if node.kind == "let":
+            below = bound | {node.word}
+            parts = [self.resolve(each, bound) for each in node.parts[:2]]
+            return Node("let", [*parts, self.resolve(node.parts[2], below)], node.word, node.names)
+        return Node(node.kind, [self.resolve(each, below) for each in node.parts], node.word,
+                    node.names)
 
     def block(self, lines: Sequence[str], scope: Scope) -> None:
         """The items of a file or of a module."""
@@ -700,10 +855,12 @@ class Reader:
         for item in all_items:
             text = one_line(item)
             title = text.split(" ")[0] if item else ""
-            is_step = signature is not None and STEP_NAME == signature[0] and " >>= " in text
+            is_step = signature is not None and STEP == signature[0] and " >>= " in text
             if signature and title != signature[0] and not is_step:
                 if signature[0] not in LEFT_OUT:
-                    self.writer.add_function(*signature, clauses, scope)
+                    own = self.own_name(signature[0])
+                    clauses = [self.resolved(signature[0], each) for each in clauses]
+                    self.writer.add_function(own, self.resolve(signature[1]), clauses, scope)
                 signature, clauses = None, []
             if not item or title in ("use", "infixl"):
                 continue
@@ -713,6 +870,8 @@ class Reader:
                 front, body = text.split(" = ", 1) if " = " in text else text.split(" =", 1)
                 front = front.replace(" >>=", "") if is_step else front[len(title):]
                 clauses.append((patterns_of(front), parsed(body)))
+            elif match := re.match(r"pub data (\w+) : Type 0 where(.*)$", text):
+                self.data(match[1], item[1:])
             elif title == "module":
                 self.module(item, scope)
             elif match := re.match(r"pub record (\w+)\s*(.*?)\s*: Type 0 where", text):
@@ -721,9 +880,33 @@ class Reader:
             elif match := re.match(r"(?:abbrev|unfoldable) pub (\S+) : (.*)$", text):
                 is_left = match[1] in LEFT_OUT
                 kind = Node("name") if is_left else parsed(match[2])
-                signature = STEP_NAME if match[1] == STEP else match[1], kind
+                signature = match[1], kind
             else:
                 raise Unknown(f"an item: {text[:80]}")
+
+    def resolved(self, title: str, clause: tuple[list[Node], Node]) -> tuple[list[Node], Node]:
+        """A clause with the Coq names of what its free names mean."""
+        patterns, body = clause
+        bound = frozenset(each for pattern in patterns for each in variables(pattern))
+        return [self.resolve(each, bound) for each in patterns], self.resolve(body, bound)
+
+    def data(self, title: str, lines: Sequence[str]) -> None:
+        """A type of definitions: its variants, each with its values."""
+        own, variants = self.own_name(title), []
+        for each in items(lines):
+            match = re.match(r"(\w+) : (.*)$", one_line(each).strip())
+            if match is None:
+                raise Unknown(f"a variant: {one_line(each)[:80]}")
+            word, kind = match.groups()
+            values, front = [], kind.rsplit("→", 1)[0] if "→" in kind else ""
+            for names, of, _ in binders_of(front.strip()) if front else ():
+                text = self.writer.term(self.resolve(of), {}, False)
+                values += [(one, text) for one in names]
+            found = self.writer.coq_name(f"{self.crate}.{self.stem}.{title}.{word}", word, own)
+            if found != word:
+                self.named[word] = found
+            variants.append((found, values))
+        self.writer.add_enum(own, (), variants)
 
     def module(self, item: Sequence[str], scope: Scope) -> None:
         """A module, whose parameters all of its items have."""
@@ -744,12 +927,15 @@ class Reader:
     def record(self, match: re.Match[str], item: Sequence[str], scope: Scope) -> None:
         """A record with its fields."""
         end = next(at for at, line in enumerate(item) if line.endswith(" where"))
-        fields = []
+        fields: list[tuple[str, Node]] = []
         for each in items(item[end + 1:]):
             text = " ".join(line.strip() for line in each)
             word, kind = re.match(r"pub (\w+) : (.*)$", text).groups()  # type: ignore[union-attr]
-            fields.append((word, parsed(kind)))
-        self.writer.add_record(match[1], binders_of(match[2]), fields, scope)
+            fields.append((word, self.resolve(parsed(kind), frozenset(own for own, _ in fields))))
+        title = self.own_name(match[1])
+        binders = [(names, self.resolve(kind), is_implicit)
+                   for names, kind, is_implicit in binders_of(match[2])]
+        self.writer.add_record(title, binders, fields, scope)
 
 
 def rust_type(text: str) -> Node:
@@ -781,13 +967,14 @@ def rust_parts(text: str) -> list[str]:
     return [each.strip().replace("\ufe64", "<") for each in found if each.strip()]
 
 
-def add_declared(writer: Writer, text: str, wanted: Sequence[str]) -> None:
+def add_declared(writer: Writer, text: str, wanted: Sequence[str], path: str,
+                 constants: Sequence[str]) -> None:
     """The types and constants of a file of Rust that the definitions name."""
     text = re.sub(r"^\s*//.*$|^\s*#\[.*\]$", "", text, flags=re.M)
-    known = {each: writer.results[each] for each in CONSTANTS if each in writer.results}
+    known = {each: writer.results[each] for each in constants if each in writer.results}
     for match in re.finditer(r"pub const (\w+): \w+ = ([^;]+);", text):
-        if match[1] in CONSTANTS and match[1] not in known:
-            value = re.sub(r"(?<=\d)_(?=\d)", "", match[2])
+        if match[1] in constants and match[1] not in known:
+            value = re.sub(r"(?<=\d)_(?=\d)| as \w+", "", match[2])
             writer.results[match[1]] = (0, name("ℕ"))
             writer.lines.append(f"Definition {match[1]} : nat := "
                                 f"{writer.term(parsed(value), {}, False)}.")
@@ -795,13 +982,18 @@ def add_declared(writer: Writer, text: str, wanted: Sequence[str]) -> None:
         kind, title, parameters, body = match.groups()
         if title not in wanted:
             continue
+        front = f"{path}.{title}"
+        title = writer.coq_name(f"{front}.{title}", title, path.split(".")[0])
         own = [each.strip() for each in (parameters or "").split(",") if each.strip()]
         if kind == "struct":
             sort = Node("apply", [name("Type"), Node("number", word="0")])
             writer.add_record(title, [([each], sort, False) for each in own],
                               [rust_field(each) for each in rust_parts(body)], {})
         else:
-            writer.add_enum(title, own, [variant(writer, each) for each in rust_parts(body)])
+            found = [variant(writer, each) for each in rust_parts(body)]
+            writer.add_enum(title, own, [
+                (writer.coq_name(f"{front}.TheVariants.{word}", word, title), values)
+                for word, values in found])
 
 
 def variant(writer: Writer, text: str) -> tuple[str, list[tuple[str, str]]]:
@@ -820,17 +1012,34 @@ def translated(top: Path) -> dict[str, str]:
     writer, found = Writer(), {}
     reader, words = Reader(writer), "Words"
     for part, entries in PARTS.items():
-        writer.lines = []
+        writer.lines, writer.part = [], part
         for file, *wanted in entries:
             text = (top / "crates" / file).read_text(encoding="utf-8")
             writer.lines.append(f"\n(* ---- crates/{file} ---- *)")
             if file.endswith(".rt"):
-                add_declared(writer, text, wanted)
+                crate, stem = file.split("/")[0], file.split("/")[-1][:-3]
+                add_declared(writer, text, wanted, f"{crate}.declared.{stem}",
+                             (*CONSTANTS, *MORE_CONSTANTS.get(part, ())))
             else:
+                crate, stem = file.split("/")[0], file.split("/")[-1][:-5]
+                reader.open(crate, stem, text)
                 reader.block(without_comments(text), {})
-        found[part] = HEAD.format(words) + "\n".join(writer.lines) + "\n"
+        more = words.replace("Words", "Words ScriptWords Numbers", 1) if part in TAGGED else words
+        found[part] = HEAD.format(more) + "\n".join(writer.lines) + "\n"
         words += f" {part}"
+    found["Numbers"] = numbers()
     return found
+
+
+def numbers() -> str:
+    """Numbers of bytes from 10 on as constants, each by the one before it.
+
+    Extraction writes 101 as 101 successors, and OCaml reads all of them at each start.
+    """
+    lines = ["(* Made by translate.py: bytes from 10 on, each by the one before it. *)",
+             "Definition n10 : nat := 10.",
+             *(f"Definition n{n} : nat := S n{n - 1}." for n in range(11, 256))]
+    return "\n".join(lines) + "\n"
 
 
 HEAD = """(* Made by translate.py of the definitions in crates/, of which the Rattle kit proves. *)

@@ -6,15 +6,16 @@ python=python packages=(arbiter arbiter_host) python_place=lib/arbiter
 # The man pages of arbiterctl, whose names stay, and their place below DIR.
 pages=(share/man/*.1) pages_place=share/man/man1
 
-# The checker that is proved in Coq. It is installed where Coq was there to make it.
-checker=out/independent/arbiter-check
+# The checker and the program for scripts that are proved in Coq. They are installed where Coq was
+# there to make them.
+checker=out/independent/arbiter-check second=out/independent/arbiter-script
 
-# Makes the checker, if Coq and the source are there. Otherwise it names what is missing, and removes
-# a checker that may be of other sources.
+# Makes both, if Coq and the source are there. Otherwise it names what is missing, and removes those
+# that may be of other sources.
 make_checker() {
   [ -x independent/build ] || return 0
   if ! command -v coqc >/dev/null || ! ocamlfind query zarith >/dev/null 2>&1; then
-    rm -f -- "$checker"
+    rm -f -- "$checker" "$second"
     echo "build: no arbiter-check without Coq: apt-get install $coq_packages" >&2
     return 0
   fi
@@ -65,6 +66,8 @@ find_installed() {
   [ ! -x "$checker" ] || installed+=(
     "$checker" bin/arbiter-check 755
     share/arbiter-check.1 share/man/man1/arbiter-check.1 644
+    "$second" bin/arbiter-script 755
+    share/arbiter-script.1 share/man/man1/arbiter-script.1 644
   )
   [ ! -x "$scheduler" ] || installed+=(
     "$scheduler" sbin/arbiter-scheduler 755

@@ -1,5 +1,7 @@
 """Options and fixtures of all tests (a pytest plugin, loaded by conftest.py)."""
+import shutil
 import signal
+import subprocess
 import tempfile
 from pathlib import Path
 
@@ -90,3 +92,16 @@ def heeds_interrupts():
     as a script starts what it runs in the background."""
     if signal.getsignal(signal.SIGINT) is signal.SIG_IGN:
         signal.signal(signal.SIGINT, signal.default_int_handler)
+
+
+@pytest.fixture(scope="session")
+def built():
+    """The folder in which all is proved in Coq, and both programs are made."""
+    if not all(map(shutil.which, ("coqc", "coqchk", "ocamlfind"))):
+        pytest.skip("no Coq: apt-get install coq ocaml-findlib libzarith-ocaml-dev")
+    folder = support.ROOT / "out/independent"
+    ended = subprocess.run([support.ROOT / "independent/build", folder], capture_output=True, text=True,
+                           timeout=900, check=False)
+    assert ended.returncode == 0, ended.stdout + ended.stderr
+    print(ended.stdout)
+    return folder

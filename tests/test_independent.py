@@ -39,19 +39,6 @@ CHANGES = {
 }
 
 
-@pytest.fixture(scope="module")
-def built():
-    """The folder in which all is proved, and the checker made."""
-    if not all(map(shutil.which, TOOLS)):
-        pytest.skip("no Coq: apt-get install coq ocaml-findlib libzarith-ocaml-dev")
-    folder = ROOT / "out/independent"
-    ended = subprocess.run([FOLDER / "build", folder], capture_output=True, text=True,
-                           timeout=900, check=False)
-    assert ended.returncode == 0, ended.stdout + ended.stderr
-    print(ended.stdout)
-    return folder
-
-
 def test_nothing_is_assumed(built):
     """Each theorem that Assumptions.v asks of is closed, and no proof is left open."""
     log = (built / "build.log").read_text(encoding="utf-8")
