@@ -18,6 +18,7 @@ STATUSES = {
     4: "lines of a script were refused, under --strict",
     5: "an alert was raised",
     6: "nothing was found: no setting, no host, or no group of that name",
+    7: "hold has no group left to hold, since limits help none",
 }
 ENVIRONMENT = {
     "ARBITER_LIBRARY": "The C library, as of --library.",

@@ -72,15 +72,24 @@ class SharedHost(World):
     (STEADY, lambda *_: 2, 90, 0.999, 1), (STEADY, lambda *_: 0.5, 90, 0.999, 1),
     # one works in one second of four, and nobody else wants anything
     (STEADY, lambda each, second: 2 * (each == "c" and second % 4 == 0), 90, 0.999, 1),
-    # limits come a round late where one works in each other second, or third one: the loop ends
-    (FLIPPING, lambda each, second: 2 * (each != "flip" or second % 2), 61, 0.75, 0.8),
-    (FLIPPING, lambda each, second: 2 * (each != "flip" or second % 3 == 0), 61, 0.8, 0.85),
+    # limits come a round late where one works in each other second, or third one: it is let go
+    (FLIPPING, lambda each, second: 2 * (each != "flip" or second % 2), 60, 0.75, 0.8),
+    (FLIPPING, lambda each, second: 2 * (each != "flip" or second % 3 == 0), 60, 0.8, 0.85),
     # in each tenth second they cost a twentieth
     (FLIPPING, lambda each, second: 2 * (each != "flip" or second % 10 == 0), 90, 0.94, 0.96)])
-def test_parts_served(engine, folder, groups, wants, rounds, least, most):
-    """The part of what weights alone serve in ninety seconds, or until the loop ends."""
-    model = SharedHost(folder, groups, wants)
-    lines = model.run(model.loop(engine, folder / "undo"), *[model.step] * 90)
-    assert len(lines) == rounds and not (folder / "undo").exists()
-    assert least <= model.served / model.by_weights <= most
+def test_parts_served(engine, folder, capsys, groups, wants, rounds, least, most):
+    """The part of what weights alone serve in ninety seconds, or until one is let go: all from then
+    on, and the others are held."""
+    model, part = SharedHost(folder, groups, wants), []
+
+    def step():
+        model.step()
+        part.append((model.served, model.by_weights))
+    lines = model.run(model.loop(engine, folder / "undo"), *[step] * 90)
+    assert len(lines) == 90 and not (folder / "undo").exists()
+    served, by_weights = part[rounds - 1]
+    assert least <= served / by_weights <= most
+    assert model.served - part[-20][0] > 0.999 * (model.by_weights - part[-20][1]) or rounds == 90
+    assert capsys.readouterr().err.count("flip: held no longer: ") == (rounds < 90)
+    assert (lines[-1][1]["a"] != FREE) == (lines[-1][0]["held"] > 0)
     assert {model.maximum(each) for each in groups} == {FREE}

@@ -130,6 +130,60 @@ def test_a_leaf_below_a_limit_is_limited(folder, begun):
         "p/x": True, "q": False, "r": False}
 
 
+def leaves_of(folder, world):
+    """The groups of each plan that the loader was given."""
+    names = {os.stat(path).st_ino: str(path.relative_to(world.tree))
+             for path in world.tree.rglob("*") if path.is_dir()}
+    plans = "\n".join(commands(folder)).split("plan 200\n")[1:]
+    return [[names[int(line.split()[1])] for line in plan.splitlines() if line.startswith("leaf")]
+            for plan in plans]
+
+
+@pytest.mark.skipif(os.geteuid() != 0, reason="gives files to another user")
+def test_more_leaves_of_others_than_it_takes(monkeypatch, folder, begun, capsys):
+    """Fewer groups of each other user have a leaf of their own, and those that have few keep
+    theirs. The loop goes on."""
+    monkeypatch.setattr(scheduler, "MOST_LEAVES", 8)
+    monkeypatch.setattr(hold, "MOST_OF_OTHERS", 8)
+    world, loop = begun([("a", 100, FREE), ("b", 100, FREE), ("c", 100, FREE)], *[""] * 6)
+    for user, count in (("a/few", 2), ("b/many", 6), ("c/many", 7)):
+        world.add(user)
+        for at in range(count):
+            world.add(f"{user}/g{at}")
+        for path in [user, *(f"{user}/g{at}" for at in range(count))]:
+            for each in (world.tree / path, *(world.tree / path).iterdir()):
+                os.chown(each, 65534, 65534)
+    world.lacks = "a/few/g0"
+    lines = world.run(loop, *[lambda: None] * 4)
+    wanted = ["a/few/g0", "a/few/g1", "b/many", "c/many"]
+    assert len(lines) == 4 and leaves_of(folder, world)[-2:] == [wanted] * 2
+    assert capsys.readouterr().err.count("they are held as one") == 2
+
+
+def test_more_leaves_than_it_takes(monkeypatch, folder, begun, capsys):
+    """Those of root beyond the bound are in the rest, which is told once. The loop goes on."""
+    monkeypatch.setattr(scheduler, "MOST_LEAVES", 8)
+    world, loop = begun([(f"g{at:02}", 100, FREE) for at in range(12)], *[""] * 6)
+    world.lacks = "g00"
+    lines = world.run(loop, *[lambda: None] * 4)
+    assert [line["written"] for line, _ in lines] == [8] * 4
+    assert leaves_of(folder, world)[-1] == [f"g{at:02}" for at in range(8)]
+    assert capsys.readouterr().err.count("more than 8 leaves: the others are in the rest") == 1
+
+
+def test_the_bound_is_that_of_the_loader():
+    """It has a row for the rest, and ends at one leaf more."""
+    if not shutil.which("cc"):
+        pytest.skip("no cc")
+    words = ["cc", "-E", "-P", "-include", str(PACKAGE.parent / "scheduler/plan.h"), "-"]
+    found = subprocess.run(words, input="MOST_LEAVES", capture_output=True, text=True, check=True,
+                           timeout=60)
+    first, mark, second = re.fullmatch(r"\(?(\d+)(?: (<<) (\d+)\))?",
+                                       found.stdout.strip().split("\n")[-1]).groups()
+    rows = int(first) << int(second) if mark else int(first)
+    assert scheduler.MOST_LEAVES == rows - 1 == 4095
+
+
 def test_a_loader_that_ends_ends_the_loop(begun):
     """What it said is the fault, and is no failed reading that may pass."""
     world, loop = begun(GROUPS, "", "", "fail")

@@ -1,4 +1,5 @@
 """Hold: weights, what Linux did not serve, metrics, systemd's messages, and the unit."""
+import functools
 import json
 import os
 import re
@@ -16,12 +17,13 @@ import pytest
 import trees
 from arbiter import Host
 from arbiter_host.base import safe_files
-from arbiter_host.base.faults import HostFault
+from arbiter_host.base.faults import HostFault, NoHelp
 from arbiter_host.base.model import Group, Model
+from arbiter_host.helps import STATUSES
 from arbiter_host.hold import hold
-from arbiter_host.hold.harm import MOST_ROUNDS, Harm, Shadow
+from arbiter_host.hold.harm import MOST_ROUNDS, Harm, Shadow, Swings, has_turned, is_back
 from arbiter_host.setting import apply
-from arbiter_host.sources import task_times
+from arbiter_host.sources import readings, task_times
 from arbiter_host.subcommands.hold import Notifier, Service
 from arbiter_host.top import metrics
 from held import FREE, TWO, World, content, limit, said, started
@@ -312,67 +314,129 @@ def test_use_outside_the_tree(folder, engine, capsys, outside, is_told):
     assert capsys.readouterr().err.count(said) == is_told
 
 
-def test_limits_that_go_back_and_forth(world, engine, folder, capsys):
-    """They end a loop that writes, after its bound, and what stood is put back. Those that stay,
-    move on, or swing a little do not."""
-    turns = iter(range(1000))
-
+def turning(world, turns):
+    """Steps in which `a` wants all in each other second, and b in each."""
     def step():
         if next(turns) % 2:
             world.uses("a", 90, throttled=1, waited=10**6)
         world.uses("b", 90, throttled=1, waited=10**6)
+    return step
 
-    lines = world.run(world.loop(engine, folder / "undo"), *[step] * 70)
-    assert len(lines) == MOST_ROUNDS + 2 and not (folder / "undo").exists()
+
+def test_limits_that_go_back_and_forth(world, engine, folder, capsys):
+    """The group that asks so is let go after its bound, and told. It has its own limit from then
+    on, and moves no limit of others, which are held on. What stood is put back at the end."""
+    step, last = turning(world, iter(range(1000))), 150
+    lines = world.run(world.loop(engine, folder / "undo"), *[step] * last)
+    assert len(lines) == last and not (folder / "undo").exists()
     assert [world.maximum(path) for path in "abc"] == [FREE] * 3
-    assert "a: its limit went back and forth for 60 rounds" in capsys.readouterr().err
-    assert len(world.run(world.loop(engine), *[step] * 70)) == 70
-    for limits in ([50] * 70, [100, 90] * 35, [*range(50, 120)], [50, 90, None] * 23):
-        ends = Harm(200)
-        assert {ends.swung({"a": limit}) for limit in limits} == {None}
-    ends = Harm(200)
-    assert [ends.swung({"a": limit}) for limit in [None, 50] * 31] == [None] * 61 + ["a"]
+    told = f"a: held no longer: limits went back and forth for {MOST_ROUNDS} rounds\n"
+    assert capsys.readouterr().err == f"arbiterctl: warning: {told}"
+    limits = {path: [stood[path] for _, stood in lines] for path in "abc"}
+    assert set(limits["a"][:MOST_ROUNDS]) - {FREE} and set(limits["a"][MOST_ROUNDS + 2:]) == {FREE}
+    assert len(set(limits["b"][MOST_ROUNDS + 4:])) == 1
+    assert {line["groups"]["a"]["want"] for line, _ in lines[MOST_ROUNDS + 2:]} == {0}
+    # (one that writes nothing lets go of nobody)
+    shown = world.run(world.loop(engine), *[step] * last)
+    assert len(shown) == last and capsys.readouterr().err == ""
+    assert {line["groups"]["a"]["want"] for line, _ in shown[-2:]} != {0}
 
 
-def of_round(held, used, plan, hungry=True, guess=False):
-    """The line of a round with one group."""
-    return {"held": held, "groups": {"a": {"used": used, "plan": plan, "limit": 50,
-                                           "hungry": hungry, "guess": guess}}}
+@pytest.mark.parametrize("values, wanted", [
+    ([100] * 70, 0), ([0] * 70, 0), ([100, 90] * 35, 0), ([*range(50, 120)], 0),
+    ([50, 90, 200] * 23, 0), ([200, 50] * 31, 60), ([50, 200] * 31 + [50, 50], 0)])
+def test_what_goes_back_and_forth(values, wanted):
+    """For how many rounds up to the last: to a twentieth what it was two rounds before, and a
+    quarter off the last one. What stays does not, also where it is nothing."""
+    swings = Swings(is_back)
+    for each in values:
+        swings.take({"a": each})
+    assert swings.rounds["a"] == wanted
+    assert swings.long() == ["a"] * (wanted >= MOST_ROUNDS)
+    assert [has_turned(*each) for each in ((1, 2, 1), (2, 1, 2), (3, 2, 1), (1, 1, 2))] == [
+        True, True, False, False]
 
 
-@pytest.mark.parametrize("free, last, why", [
-    # 90 of 100 while nobody was held, 84 of 100 then; 86 are not 5 hundredths less
-    (90, of_round(1, 84, 100), "84% of the plan was served, and 90% while nobody was held"),
-    (90, of_round(1, 86, 100), ""), (80, of_round(1, 84, 100), ""),
-    # nothing was planned
-    (90, of_round(1, 0, 0, False), ""),
-    (90, of_round(1, 90, 100, guess=True), "who is hungry is mostly a guess here"),
+def of_round(held, **groups):
+    """The line of a round: of each group what it used, its plan, and whether it is hungry, and by a
+    guess."""
+    return {"held": held, "groups": {
+        path: {"used": used, "plan": plan, "limit": 50, "want": plan, "hungry": hungry,
+               "guess": guess} for path, (used, plan, hungry, guess) in groups.items()}}
+
+
+@pytest.mark.parametrize("free, last, paths, why", [
+    # 90 of 100 while nobody was held, 84 of 100 then: who left most of the plan that stood
+    (90, {"a": (14, 30, True, False), "b": (70, 70, True, False)}, ["a"],
+     "84% of the plan was served, and 90% while nobody was held"),
+    # 86 are not 5 hundredths less; nothing was planned
+    (90, {"a": (16, 30, True, False), "b": (70, 70, True, False)}, [], ""),
+    (80, {"a": (14, 30, True, False), "b": (70, 70, True, False)}, [], ""),
+    (90, {"a": (0, 0, False, False)}, [], ""),
+    # guesses of 50 and 40 beside 45 that are sure: the greatest is let go, and then both
+    (90, {"a": (50, 50, True, True), "b": (40, 40, True, True), "c": (45, 45, True, False)}, ["a"],
+     "who is hungry is mostly a guess here"),
+    (90, {"a": (50, 50, True, True), "b": (40, 40, True, True), "c": (35, 35, True, False)},
+     ["a", "b"], "who is hungry is mostly a guess here"),
+    (90, {"a": (50, 50, True, True), "c": (50, 50, True, False)}, [], ""),
     # a guess that is 'served' is one too
-    (90, of_round(1, 90, 100, False, True), "who is hungry is mostly a guess here"),
+    (90, {"a": (90, 100, False, True)}, ["a"], "who is hungry is mostly a guess here"),
 ])
-def test_a_loop_that_does_harm_ends(free, last, why):
-    """It is judged by so many rounds under limits, and not by those in which nobody was held."""
-    ends = Harm(200)
+def test_groups_to_which_limits_do_harm(free, last, paths, why):
+    """They are judged by so many rounds in which some were held, and not by others. After that
+    the rounds are judged anew."""
+    harm, last = Harm(200), of_round(1, **last)
     # (nobody lacked anything in the first two rounds)
-    assert [ends.take(of_round(*each, 100)) for each in ((0, 9), (0, 9), (1, free))] == [""] * 3
-    assert [ends.take(last) for _ in range(MOST_ROUNDS - 1)] == [""] * (MOST_ROUNDS - 1)
-    told = ends.take(last)
-    assert told.startswith(why) and bool(told) == bool(why)
+    first = [of_round(held, a=(used, 100, True, False)) for held, used in ((0, 9), (0, 9), (1, free))]
+    assert [harm.take(each).paths for each in first] == [[]] * 3
+    for _ in range(2 if paths else 1):
+        assert [harm.take(last).paths for _ in range(MOST_ROUNDS - 1)] == [[]] * (MOST_ROUNDS - 1)
+        found = harm.take(last)
+        assert sorted(found.paths) == paths and found.why.startswith(why) and len(found.told()) > 9
     few = Harm(200)
-    assert {few.take({**last, "held": 0}) for _ in range(2 * MOST_ROUNDS)} == {""}
+    assert [each for each in (few.take({**last, "held": 0}) for _ in range(2 * MOST_ROUNDS))
+            if each.paths] == []
 
 
-def test_a_loop_that_guesses_ends(world, engine, folder, capsys):
-    """What stood is put back. A loop that writes nothing goes on."""
-    def step():
-        # (none uses all that his limit allows)
-        for path, used in (("a", 40), ("b", 40), ("c", 90)):
-            world.uses(path, used, waited=10**6)
+def test_groups_that_went_are_in_question_no_more():
+    """And no other in their place."""
+    harm, there = Harm(200), {"b": (10, 10, True, True), "c": (50, 50, True, False)}
+    for _ in range(MOST_ROUNDS):
+        assert harm.take(of_round(1, a=(100, 100, True, True), **there)).paths == []
+    assert harm.take(of_round(1, **there)).paths == []
 
+
+def test_many_groups_are_told_in_one_line():
+    harm = Harm(200)
+    groups = {f"g\x1b{number}": (9, 9, True, True) for number in range(8)}
+    found = [harm.take(of_round(1, **groups)) for _ in range(MOST_ROUNDS + 1)][-1]
+    assert found.told().startswith("g\\x1b0, g\\x1b1, ") and " and 3 more: held no" in found.told()
+
+
+def guessing(world):
+    """A step in which each group is hungry by a guess: none uses all that its limit allows."""
+    for path, used in (("a", 40), ("b", 40), ("c", 90)):
+        world.uses(path, used, waited=10**6)
+
+
+def test_a_loop_with_nobody_left_ends(world, engine, folder, capsys):
+    """With a status of its own, after what stood was put back. One that writes nothing goes on."""
+    step = functools.partial(guessing, world)
     assert len(world.run(world.loop(engine), *[step] * 62)) == 62
-    assert len(world.run(world.loop(engine, folder / "undo"), *[step] * 70)) == MOST_ROUNDS + 1
-    assert "mostly a guess here: tasks are too short to tell: limits" in capsys.readouterr().err
-    assert [world.maximum(path) for path in "abc"] == [FREE] * 3
+    lines = []
+    with pytest.raises(NoHelp, match="no group is left to be held") as fault:
+        loop, world.after = world.loop(engine, folder / "undo"), [step] * 70
+        hold.run(loop, readings.Times(number=None), world.wait, lines.append)
+    assert len(lines) == MOST_ROUNDS + 1 and fault.value.status == 7
+    assert "c, a, b: held no longer: who is hungry is mostly a guess" in capsys.readouterr().err
+    assert [world.maximum(path) for path in "abc"] == [FREE] * 3 and not (folder / "undo").exists()
+
+
+def test_a_loop_with_nobody_left_begins_anew():
+    """Each end that nobody asked for is a failure to systemd, and none keeps the unit down."""
+    assert NoHelp.status == 7 in STATUSES and option("Restart") == ["on-failure"]
+    assert [option(name) for name in ("SuccessExitStatus", "RestartPreventExitStatus",
+                                      "StartLimitBurst", "StartLimitIntervalSec")] == [[]] * 4
 
 
 def test_a_shadow_run():

@@ -123,6 +123,69 @@ def test_a_tenant_whose_groups_take_long(world, engine, folder, capsys, monkeypa
     assert "b/user: another user has more" in capsys.readouterr().err
 
 
+# What a tenant can do, who knows how the loop judges: in each round what it uses, in slices, and
+# how long its tasks waited.
+TENANTS = {
+    # short tasks, which wait half of the time, below its limit: nobody knows whether they lack
+    "short tasks": lambda turn: (110, 600_000),
+    # all of it in each other round, each third one, and by chance
+    "each other round": lambda turn: (turn % 2 * 110, turn % 2 * 10**6),
+    "each third round": lambda turn: (turn % 3 // 2 * 110, turn % 3 // 2 * 10**6),
+    "by chance": lambda turn: (turn * 2654435761 % 97, turn * 40503 % 7 * 10**5)}
+
+
+@as_root
+@pytest.mark.parametrize("name", TENANTS)
+def test_a_tenant_of_short_tasks(folder, engine, capsys, name):
+    """For 500 rounds: the loop lets go of the group in question, if it has to, and says so. The
+    others are held on as they are without it, and no group is let go that is root's."""
+    world = World(folder, [("t", 400, FREE), ("v", 100, FREE), ("w", 200, FREE)], lacks="v")
+    give(world.tree / "t")
+    turns = iter(range(1, 10**6))
+
+    def step():
+        used, waited = TENANTS[name](next(turns))
+        world.uses("t", used, waited=waited)
+        for path, most in (("v", 100), ("w", 100)):
+            # (all that its limit allows)
+            quota = world.maximum(path).split()[0]
+            world.uses(path, most if quota == "max" else min(most, int(quota) // 1000), 1, 10**6)
+
+    lines = world.run(world.loop(engine, folder / "undo"), *[step] * 500)
+    assert len(lines) == 500 and not (folder / "undo").exists()
+    said = [line for line in capsys.readouterr().err.splitlines() if "held no longer" in line]
+    assert all(line.startswith("arbiterctl: warning: t: held no longer: ") for line in said)
+    assert len(said) == 1 or not said and name == "by chance"
+    if said:
+        assert all(stood["t"] == FREE for _, stood in lines[-100:])
+    assert all(stood[path] != FREE for _, stood in lines[-100:] for path in "vw"), lines[-1]
+    assert [world.maximum(path) for path in "tvw"] == [FREE] * 3
+
+
+@as_root
+def test_tenants_alone_end_no_loop(folder, engine, capsys):
+    """Where each group is let go the loop goes on, if one is of another user: a new one is held."""
+    world = World(folder, [("t", 100, FREE), ("u", 100, FREE)], lacks="u")
+    for path in "tu":
+        give(world.tree / path)
+
+    def step(*more):
+        for path in ("t", "u", *more):
+            world.uses(path, 60, waited=600_000)
+
+    def with_new():
+        if "n" not in world.counters:
+            world.add("n")
+        step("n")
+
+    lines = world.run(world.loop(engine, folder / "undo"), *[step] * 100, *[with_new] * 30)
+    assert len(lines) == 130
+    err = capsys.readouterr().err
+    assert "held no longer" in err and "no group is left to be held: new ones are" in err
+    assert {stood[path] for _, stood in lines[70:] for path in "tu"} == {FREE}
+    assert lines[-1][0]["groups"]["n"]["limit"] is not None
+
+
 @as_root
 def test_more_groups_of_others_than_are_planned(world, engine, folder, monkeypatch):
     """Fewer of them are held one by one then, of each user alike. Root's own are refused."""

@@ -53,6 +53,12 @@ class NothingFound(HostFault):
     status = 6
 
 
+class NoHelp(HostFault):
+    """A loop of limits that has nobody left to hold."""
+
+    status = 7
+
+
 @contextmanager
 def naming(place: str, kind: type[HostFault] = HostFault) -> Iterator[None]:
     """Faults of what is done here, each with the place where it was found before it."""

@@ -21,12 +21,13 @@ from typing import Any, NamedTuple
 from arbiter import Columns, Host, Reading, Refused, Round, Row
 from arbiter_host.base import output, safe_files, units
 from arbiter_host.base.demands import rise
-from arbiter_host.base.faults import HostFault
-from arbiter_host.base.model import MAX_DEPTH, Group, Model, TooMany, planned, up_to_64_cpus
+from arbiter_host.base.faults import HostFault, NoHelp
+from arbiter_host.base.model import (MAX_DEPTH, MAX_GROUPS, Group, Model, TooMany, planned,
+                                     up_to_64_cpus)
 from arbiter_host.base.names import shown
 from arbiter_host.base.plan import Engine, asking, fault_of
 from arbiter_host.base.safe_files import Gone, Identity, Root
-from arbiter_host.hold.harm import Harm, Sums, served
+from arbiter_host.hold.harm import Harm, LetGo, Sums, served
 from arbiter_host.setting import apply
 from arbiter_host.setting.apply import BURST, MAXIMUM, WEIGHT, Back, By, Change, Settings
 from arbiter_host.setting.record import Record
@@ -88,6 +89,8 @@ class Kept:
     is_idle: bool = False
     # Whether its limit is left alone, since somebody else sets it.
     is_left: bool = False
+    # Whether it is held no longer, since limits do harm to it.
+    is_let_go: bool = False
     # Slices that the plan of the last round gave it; None before its first round.
     planned: int | None = None
 
@@ -185,15 +188,24 @@ class HeldTree(readings.Tree):
         self.last, self.slow = 0, set[Identity | None]()
 
     def look(self) -> readings.TreeReading:
-        """A look at all groups. Where there are too many in all, fewer of others are held."""
+        """A look at all groups. Where there are too many in all, fewer of each other user are held
+        one by one."""
         while True:
             self.parts = {}
+            can_be_fewer = bool(self.most)
             try:
-                return super().look()
+                look = super().look()
+                if not self.has_too_many_leaves(look.model) or not (self.parts and can_be_fewer):
+                    return look
             except TooMany:
-                if not self.parts or not self.most:
+                if not (self.parts and can_be_fewer):
                     raise
-                self.most //= 4
+            self.most //= 4
+
+    def has_too_many_leaves(self, model: Model) -> bool:
+        """Whether there are more groups without children than can be held."""
+        most = self.loop.most_leaves
+        return len(model.groups) > most < sum(not below for below in model.children().values())
 
     def took(self, spent: Mapping[Identity | None, int]) -> None:
         """Takes how long the parts took in a round. One that takes too long twice in a row is held
@@ -249,6 +261,9 @@ class HeldTree(readings.Tree):
 
 class Loop:
     """The rounds over one tree. `record` is None where nothing is written."""
+
+    # The most leaves that can be held.
+    most_leaves = MAX_GROUPS
 
     def __init__(self, engine: Engine, root: Root, top: str, host: Host,
                  record: Record | None = None, ways: Ways = Ways(),
@@ -502,13 +517,18 @@ class Loop:
     def planned(self, model: Model, used: dict[str, Reading]) -> Written:
         """The limits and weights of the next round."""
         rows, weights = self.rows(model), dict[str, int]()
+        # One that was let go asks for nothing, so that it moves no limit of others.
+        used = {path: Reading(each.used, 0, False) if self.groups[path].is_let_go else each
+                for path, each in used.items()}
         self.places = places = {path: row for row, path in enumerate(model.groups, 1)
                                 if path in used}
         held = self.held(Columns.of(rows), {row: used[path] for path, row in places.items()})
-        found = Written({}, {}, {}, sum(held.limits[row] != rows[row].limit
-                                        for row in places.values()))
+        found = Written({}, {}, {}, sum(
+            held.limits[row] != rows[row].limit and not self.groups[path].is_let_go
+            for path, row in places.items()))
         for path, row in places.items():
-            limit, kept, each = held.limits[row], self.groups[path], used[path]
+            kept, each = self.groups[path], used[path]
+            limit = None if kept.is_let_go else held.limits[row]
             lacks = (kept.planned or 0) - each.used if each.is_hungry else 0
             kept.planned = held.amounts[row]
             found.told[path] = {"want": held.demands[row], "plan": held.amounts[row],
@@ -542,7 +562,7 @@ class Loop:
 
     def target_of(self, path: str, kept: Kept, found: Written) -> Settings:
         """What a group is to hold. A leaf without a limit of the rule holds what it holds."""
-        if kept.is_left:
+        if kept.is_left or kept.is_let_go:
             return kept.old
         if kept.is_leaf and path not in found.told:
             return kept.stands
@@ -637,16 +657,27 @@ class Loop:
         found = self.planned(model, used)
         self.rounds += 1
         return {"round": self.rounds, "missed": missed, "written": self.write(found),
-                "held": found.held, "served": served([Sums.of(found.told.values())]),
+                "held": found.held, "served": served([Sums.of(
+                    line for path, line in found.told.items() if not self.groups[path].is_let_go)]),
                 "unserved": sum(line["unserved"] for line in found.told.values()),
                 "groups": found.told}
 
-    def is_over(self, line: Line) -> bool:
-        """Whether the rounds up to one tell that limits do harm here. It is said why."""
-        why = self.harm.take(line) if self.is_written else ""
-        if why:
-            output.warn(f"{why}: limits do not help here, and the loop ends")
-        return bool(why)
+    def judge(self, line: Line) -> None:
+        """Lets go of the groups to which limits do harm, by the rounds up to one. It is said which,
+        and why. A fault where none is left to be held: not where other users have groups, since
+        they may do what makes limits harmful."""
+        found = self.harm.take(line) if self.is_written else LetGo([])
+        if not found.paths:
+            return
+        output.warn(found.told())
+        leaves = {path: self.groups[path] for path in line["groups"]}
+        for path in found.paths:
+            leaves[path].is_let_go = True
+        if not all(kept.is_let_go for kept in leaves.values()):
+            return
+        if not any(map(self.is_of_others, leaves.values())):
+            raise NoHelp("no group is left to be held: limits do not help here, and the loop ends")
+        output.warn("no group is left to be held: new ones are")
 
     def end(self) -> None:
         """Puts back what stood, and removes the undo file if all of it stands again."""
@@ -664,9 +695,9 @@ class Loop:
 
 def run(loop: Loop, times: Times, wait: Callable[[float], bool], emit: Callable[[Line], None],
         begin: Callable[[], object] = lambda: None, is_once: bool = False) -> None:
-    """Rounds until the last reading, until `wait` tells a signal, or until limits do harm. What
-    stood is put back at each end. The limits of the last round stand for an interval. With
-    `is_once` they alone are written, and stay. `begin` is called after the first reading."""
+    """Rounds until the last reading, or until `wait` tells a signal. What stood is put back at each
+    end. The limits of the last round stand for an interval. With `is_once` they alone are written,
+    and stay. `begin` is called after the first reading."""
     loop.is_written = not is_once and loop.record is not None
     try:
         loop.read()
@@ -694,8 +725,7 @@ def run(loop: Loop, times: Times, wait: Callable[[float], bool], emit: Callable[
             else:
                 failed = 0
                 emit(line)
-                if loop.is_over(line):
-                    return
+                loop.judge(line)
             if readings == times.number and (is_once or loop.record is None):
                 loop.stays = is_once
                 return

@@ -29,6 +29,8 @@ LONGEST = 60
 MOST_LINE = 1 << 12
 # The period of limits in nanoseconds; the greatest amount that it takes.
 LIMIT_PERIOD, MOST_AMOUNT = 10**8, 10**9
+# The leaves of a plan that it takes, beside the rest.
+MOST_LEAVES = 4095
 
 
 class Scheduler:
@@ -123,6 +125,7 @@ class ScheduledLoop(hold.Loop):
     def __init__(self, scheduler: Scheduler, *words: Any, **more: Any) -> None:
         super().__init__(*words, **more)
         self.scheduler, self.used = scheduler, dict[int, LeafTimes]()
+        self.most_leaves = MOST_LEAVES
         # The amount and the limit of each row, in slices.
         self.served = list[int](), list[int | None]()
         # kubelet's groups are served too, since nothing in them is written
@@ -156,11 +159,15 @@ class ScheduledLoop(hold.Loop):
     def write(self, found: Written) -> int:
         """Gives the scheduler the amount and the limit of each leaf."""
         slices, (amounts, limits) = self.host.capacity, self.served
+        given = list(self.places.items())[:self.most_leaves]
+        if len(given) < len(self.places):
+            self.tell([f"more than {self.most_leaves} leaves: the others are in the rest, with what"
+                       " the plan leaves"])
         self.scheduler.plan(slices, [
             (self.groups[path].identity[1], min(amounts[row], MOST_AMOUNT),
              self.limit(limits[row]))
-            for path, row in self.places.items()])
-        return len(found.told)
+            for path, row in given])
+        return len(given)
 
     def limit(self, slices: int | None) -> int:
         """A limit in nanoseconds of its period; 0 for none."""
