@@ -1,14 +1,19 @@
 -- The files of lemmas.
 mod Accepts
+mod Backlog
 mod Counts
+mod Demands
 mod Exact
 mod Gains
 mod Happens
 mod Leads
+mod Ledger
 mod LeastBelow
 mod Least
 mod Lifts
 mod Lines
 mod Plans
+mod Served
 mod Shares
+mod Totals
 mod TraceRuns

@@ -3,5 +3,7 @@ pub mod Accepted
 pub mod Faults
 pub mod Input
 pub mod Replay
+pub mod Reservation
 pub mod Rule
 pub mod Runs
+pub mod Windows

@@ -6,6 +6,7 @@ ghost use Rattle.dispatch.specs.Runs.{LiftIsAtMostTheLeast};
 ghost use Rattle.dispatch.specs.Rule.{RefusalIsExact};
 ghost use Rattle.dispatch.specs.Replay.{AcceptsExactly};
 ghost use Rattle.dispatch.specs.Accepted.{TraceIsARun};
+ghost use Rattle.dispatch.specs.Windows.{OwedIsBounded, WindowsAreServed};
 
 /// No leaf gets far ahead of one that waits throughout, whatever the others do.
 ///
@@ -74,4 +75,25 @@ pub fn accepts_exactly()
 /// of it.
 pub fn trace_is_a_run()
     ensures { TraceIsARun }
+{}
+
+/// What a leaf is owed is bounded, whatever the others do and how many they are.
+///
+/// It is at most what its guarantee brings in the time of the credit, and two quanta less one for
+/// each processor; it is at least less than nothing by one quantum. The premises are those of
+/// [`windows_are_served`].
+pub fn owed_is_bounded()
+    ensures { OwedIsBounded }
+{}
+
+/// In each window of time of a run, a leaf that wants k processors has them, or its guarantee if
+/// that is less, but for two quanta for each processor and what its guarantee brings in the time of
+/// the credit.
+///
+/// The bound knows neither the other leaves nor their number, and the window may hold new plans that
+/// keep the guarantees. The run begins at rest. Its premises are told of each event: guarantees fit
+/// the host, no processor is free while a leaf waits, no run is longer than a quantum, and a leaf
+/// that is owed more than its credit has a task that waits whenever a processor picks.
+pub fn windows_are_served()
+    ensures { WindowsAreServed }
 {}

@@ -12,6 +12,7 @@ mod laws;
 mod leaves;
 mod limits;
 mod replay;
+mod reservation;
 mod rule;
 
 use replay::{Finding, put_finding, replay, status_of};

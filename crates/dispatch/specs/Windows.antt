@@ -1,0 +1,137 @@
+-- Runs of the rule of reservations, and what it promises of each window of time.
+use Rattle.std.specs.Prelude.{◌≡◌, ◌≢◌, ℕ, ◌+◌, ◌-◌, ◌*◌, ◌<◌, ◌≤◌, ◌==◌, ◌⊎◌, min, List, []}
+use Rattle.std.specs.Prelude.{◌∷◌, ◌++◌, length, Option, None, Some, slice_get, if◌then◌else◌}
+use Rattle.std.specs.List.{sum_by, AllByRecursion}
+use Rattle.dispatch.specs.declared.reservation.Account.{Account}
+use Rattle.dispatch.specs.declared.reservation.Run.{Run}
+use Rattle.dispatch.specs.declared.reservation.Step.{Step}
+use Rattle.dispatch.specs.declared.reservation.Step.TheVariants.{Pass, Wake, Pick, End, Level}
+use Rattle.dispatch.specs.declared.reservation.Step.TheVariants.{Give, Cut}
+use Rattle.dispatch.specs.Reservation.{Reservations, WHOLE, account_at, quantum_of, tasks_of}
+use Rattle.dispatch.specs.Reservation.{rate_of, credit_of, most_of, after, Allows, Waits}
+
+-- The host has room: the guarantees add up to its processors at most, and the slack is not above
+-- the credit.
+pub record FitsHost (s : Reservations) : Type 0 where
+  pub some : 0 < length s.processors
+  pub guarantees : sum_by (λ a. a.guarantee) s.accounts ≤ WHOLE * length s.processors
+  pub slack : s.slack ≤ s.credit
+
+-- A beginning: no processor runs a task, and no leaf is owed more than its credit.
+pub record IsAtRest (s : Reservations) : Type 0 where
+  pub idle : AllByRecursion (λ q. q ≡ None) s.processors
+  pub running : (k : ℕ) → (account_at s k).share.running ≡ 0
+  pub owed : (k : ℕ) → (account_at s k).owed ≤ credit_of s (account_at s k)
+
+-- Each leaf that is owed more than its credit has a task that waits.
+abbrev pub WaitsBeyondCredit : Reservations → Type 0
+WaitsBeyondCredit s =
+    (k : ℕ) → credit_of s (account_at s k) < (account_at s k).owed → Waits s k
+
+-- A leaf that waits has as many tasks as its guarantee has processors. Of a guarantee of one
+-- processor or less that is always so.
+abbrev pub HasTasksForGuarantees : Reservations → Type 0
+HasTasksForGuarantees s =
+    (k : ℕ) → Waits s k → (account_at s k).guarantee ≤ tasks_of (account_at s k) * WHOLE
+
+-- the processor runs a task
+abbrev pub IsBusy : Option Run → Type 0
+IsBusy None = ⊥
+IsBusy (Some run) = Unit {0}
+
+-- no leaf has a task that waits
+abbrev pub NoneWaits : Reservations → Type 0
+NoneWaits s = (k : ℕ) → (account_at s k).share.waiting ≡ 0
+
+-- No processor is free while a leaf waits: each that may pick did.
+abbrev pub IsPrompt : Reservations → Type 0
+IsPrompt s = AllByRecursion IsBusy s.processors ⊎ NoneWaits s
+
+-- the run takes no more than this, also if this much time passes
+abbrev pub RunsWithin : ℕ → ℕ → Option Run → Type 0
+RunsWithin quantum t None = Unit {0}
+RunsWithin quantum t (Some run) = run.age + t ≤ quantum
+
+-- The premises of the law at an event. They can be told of each event of a trace.
+abbrev pub IsFair : Reservations → Step → Type 0
+IsFair s (Pass t) =
+    IsPrompt s × WaitsBeyondCredit s × AllByRecursion (RunsWithin s.quantum t) s.processors
+IsFair s (Wake i tasks) = Unit {0}
+IsFair s (Pick p i) = WaitsBeyondCredit s × HasTasksForGuarantees s
+IsFair s (End p used remains) = AllByRecursion (RunsWithin s.quantum 0) s.processors
+IsFair s Level = Unit {0}
+IsFair s (Give i amount guarantee) = guarantee ≡ (account_at s i).guarantee
+IsFair s (Cut i) = Unit {0}
+
+-- the rule allows each event, and the premises hold
+abbrev pub IsFairRun : Reservations → List Step → Type 0
+IsFairRun s [] = Unit {0}
+IsFairRun s (e ∷ es) = Allows s e × IsFair s e × IsFairRun (after s e) es
+
+-- the state after all events
+abbrev pub after_all : Reservations → List Step → Reservations
+after_all s [] = s
+after_all s (e ∷ es) = after_all (after s e) es
+
+-- what a run would give back if it ended now
+abbrev pub back_of : ℕ → Run → ℕ
+back_of quantum run = min (quantum - WHOLE * run.age) run.paid
+
+-- the sum of a number over the runs of a leaf
+abbrev pub of_run : ℕ → (Run → ℕ) → Option Run → ℕ
+of_run i f None = 0
+of_run i f (Some run) = if run.leaf == i then f run else 0
+
+abbrev pub over_runs : ℕ → (Run → ℕ) → List (Option Run) → ℕ
+over_runs i f qs = sum_by (of_run i f) qs
+
+-- What the leaf would be owed if each of its runs ended now, and a quantum more.
+abbrev pub owed_in_all : Reservations → ℕ → ℕ
+owed_in_all s i =
+    (account_at s i).owed + over_runs i (back_of (quantum_of s)) s.processors
+
+-- What a leaf is owed is bounded, whatever the others do and how many they are.
+abbrev pub OwedIsBounded : Type 0
+OwedIsBounded = (s : Reservations) (events : List Step) (i : ℕ) → IsAtRest s → FitsHost s
+    → IsFairRun s events → i < length s.accounts →
+    let t = after_all s events in
+    0 < (account_at t i).guarantee → owed_in_all t i ≤ most_of t (account_at t i)
+
+-- the nanoseconds that pass
+abbrev pub time_of : List Step → ℕ
+time_of [] = 0
+time_of (Pass t ∷ es) = t + time_of es
+time_of (_ ∷ es) = time_of es
+
+-- The time that the leaf's tasks had a processor in these events, in nanoseconds: each that passes
+-- counts for each processor that runs a task of the leaf.
+abbrev pub held_at : ℕ → Reservations → Step → ℕ
+held_at i s (Pass t) = t * over_runs i (λ run. 1) s.processors
+held_at i s _ = 0
+
+abbrev pub held_in : ℕ → Reservations → List Step → ℕ
+held_in i s [] = 0
+held_in i s (e ∷ es) = held_at i s e + held_in i (after s e) es
+
+-- The leaf wants k processors: while time passes it has k tasks that wait or run. Its tasks do not
+-- become fewer than its guarantee could use, and no limit stops it.
+abbrev pub WantsAt : ℕ → ℕ → Reservations → Step → Type 0
+WantsAt k i s (Pass t) = k ≤ tasks_of (account_at s i)
+WantsAt k i s (End p used remains) =
+    rate_of (account_at s i) ≤ rate_of (account_at (after s (End p used remains)) i)
+WantsAt k i s (Cut j) = j ≢ i
+WantsAt k i s _ = Unit {0}
+
+abbrev pub Wants : ℕ → ℕ → Reservations → List Step → Type 0
+Wants k i s [] = Unit {0}
+Wants k i s (e ∷ es) = WantsAt k i s e × Wants k i (after s e) es
+
+-- In each window of a run a leaf that wants k processors has them, or its guarantee if that is
+-- less, but for two quanta for each processor and the credit of its guarantee. Other leaves, their
+-- number, and plans that keep the guarantees change nothing.
+abbrev pub WindowsAreServed : Type 0
+WindowsAreServed = (s : Reservations) (before window : List Step) (i k : ℕ) → IsAtRest s
+    → FitsHost s → IsFairRun s (before ++ window) → i < length s.accounts →
+    let t = after_all s before in
+    Wants k i t window → min (k * WHOLE) (account_at t i).guarantee * time_of window
+    ≤ WHOLE * held_in i t window + most_of t (account_at t i)

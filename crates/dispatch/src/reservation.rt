@@ -1,0 +1,62 @@
+//! Leaves with a guarantee: what they are owed, who runs, and what happens.
+
+use crate::leaves::Leaf;
+
+/// A leaf of the plan with its guarantee.
+///
+/// Times that are owed are in 2^-20 ns, so that a guarantee times nanoseconds needs no division.
+#[derive(Clone, Copy, Debug, PartialEq)]
+pub struct Account {
+    /// Share of the plan, its clock, and its tasks.
+    pub share: Leaf,
+    /// Guaranteed part of a processor, in 2^-20. A leaf may have more than one processor.
+    pub guarantee: u64,
+    /// What the leaf is owed, and a quantum more, in 2^-20 ns. So 0 says that it had a quantum
+    /// beyond its guarantee, and what it had beyond that is forgotten.
+    pub owed: u64,
+}
+
+/// What a processor runs.
+#[derive(Clone, Copy, Debug, PartialEq)]
+pub struct Run {
+    /// Leaf of the task.
+    pub leaf: u64,
+    /// What the leaf paid of a quantum at the pick, in 2^-20 ns.
+    pub paid: u64,
+    /// Nanoseconds since the pick.
+    pub age: u64,
+}
+
+/// An event. Leaves and processors are numbered from 0.
+#[derive(Clone, Copy, Debug, PartialEq)]
+pub enum Step {
+    /// This many nanoseconds pass.
+    Pass(u64),
+    /// Tasks of a leaf wake: this number of them.
+    Wake {
+        leaf: u64,
+        tasks: u64,
+    },
+    /// A processor that is free takes a waiting task of a leaf.
+    Pick {
+        processor: u64,
+        leaf: u64,
+    },
+    /// The task on a processor ends its run, in which it used this many nanoseconds. It waits again,
+    /// or has gone to sleep.
+    End {
+        processor: u64,
+        used: u64,
+        remains: bool,
+    },
+    /// A new plan begins: the clock of all is noted.
+    Level,
+    /// The new plan gives a leaf this amount and this guarantee. Its lead stays.
+    Give {
+        leaf: u64,
+        amount: u64,
+        guarantee: u64,
+    },
+    /// A limit stopped the leaf. What it is owed beyond its credit is cut.
+    Cut(u64),
+}
