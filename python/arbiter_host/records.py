@@ -9,7 +9,7 @@ from typing import Any
 from arbiter_host import options as table
 from arbiter_host.base import names, units
 from arbiter_host.base.faults import HostFault, UsageFault
-from arbiter_host.sources import readings
+from arbiter_host.sources import times
 from arbiter_host.sources.source_options import SourceOptions, UseOptions
 
 # Options of samples, which have no effect on what was used at one time.
@@ -31,10 +31,10 @@ def host_of(options: argparse.Namespace) -> SourceOptions:
     return SourceOptions(options.cpus, period, slice_)
 
 
-def times_of(options: argparse.Namespace) -> readings.Times:
+def times_of(options: argparse.Namespace) -> times.Times:
     """How often a source is read: twice where that is not said."""
-    times = readings.times_of(options.read or "2x1s")
-    return times if times.number else times._replace(number=2)
+    asked = times.times_of(options.read or "2x1s")
+    return asked if asked.number else asked._replace(number=2)
 
 
 def use_options(options: argparse.Namespace, **more: Any) -> UseOptions | None:

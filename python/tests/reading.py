@@ -2,8 +2,8 @@
 from fractions import Fraction
 
 from arbiter_host.sources import containers, hostfile, kubernetes, script, slurm, systemd
-from arbiter_host.sources.readings import Times
 from arbiter_host.sources.source_options import SourceOptions
+from arbiter_host.sources.times import Times
 
 
 class Planner:

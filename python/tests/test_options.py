@@ -10,7 +10,7 @@ from arbiter_host import options as table
 from arbiter_host.base import demands, text
 from arbiter_host.base.faults import UsageFault
 from arbiter_host.fleet import report
-from arbiter_host.sources import readings
+from arbiter_host.sources import times
 from arbiter_host.sources.register import READERS
 from arbiter_host.subcommands import SUMMARIES
 
@@ -124,8 +124,8 @@ def test_no_effect_on_a_form_is_refused(words, said):
 
 
 def test_readings():
-    assert readings.times_of("10x1s") == (1, 10)
-    assert readings.times_of("x5min") == (300, None)
+    assert times.times_of("10x1s") == (1, 10)
+    assert times.times_of("x5min") == (300, None)
     for words in ("10", "x", "0x1s", "10001x1s", "-1x1s"):
         with pytest.raises(UsageFault):
-            readings.times_of(words)
+            times.times_of(words)

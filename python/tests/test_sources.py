@@ -576,17 +576,27 @@ def test_docker_by_a_newer_runtime(ctl):
         assert json.loads(out)["groups"]["system.slice/web"]["weight"] == wanted
 
 
+# Modules of arbiterctl that `explain` of pods loads.
+MOST_MODULES = 38
+
+
 def test_pods_need_no_other_reader(library):
-    """What a command reads is all that it imports: no tree, units or jobs beside pods."""
+    """What a command reads is all that it imports: no tree, units or jobs beside pods, nothing of
+    many hosts, and no other form."""
     script = ("import sys; from arbiter_host import command; command.run(sys.argv[1:]);"
               " print(*sys.modules, file=sys.stderr)")
     words = ["explain", FIXTURES / "pods.json", FIXTURES / "node.json", "--library", library]
     ended = subprocess.run([sys.executable, "-c", script, *map(str, words)], check=True,
                            capture_output=True, text=True, cwd=PACKAGE)
-    found = {name.rpartition(".")[2] for name in ended.stderr.split("\n")[-2].split()
+    loaded = [name for name in ended.stderr.split("\n")[-2].split()
+              if name.startswith("arbiter_host")]
+    found = {name.rpartition(".")[2] for name in loaded
              if name.startswith("arbiter_host.sources.")}
     assert "kubernetes" in found
     assert not found & {"cgroups", "cgroup2", "systemd", "slurm", "containers", "script"}
+    others = ("fleet", "answers.report", "answers.picture", "answers.diff", "base.html")
+    assert not {f"arbiter_host.{name}" for name in others} & set(loaded)
+    assert len(loaded) <= MOST_MODULES, sorted(loaded)
 
 
 def test_pods_by_cgroupfs(engine):

@@ -9,7 +9,7 @@ import sys
 from contextlib import suppress
 from typing import BinaryIO
 
-from arbiter_host.base import atomic_files, names
+from arbiter_host.base import names
 from arbiter_host.base.faults import HostFault, strerror
 
 MAX_FILE = 256 << 20
@@ -42,6 +42,7 @@ def check_file(path: str, status: os.stat_result, is_plain: bool) -> None:
 def opened(path: str, is_plain: bool, is_trusted: bool) -> int:
     """Opens a file to be read. What has to be plain is opened in a way that waits for nobody."""
     if is_trusted:
+        from arbiter_host.base import atomic_files  # (no source is trusted)
         return atomic_files.kept_file(path)
     if is_plain:
         check_file(path, os.stat(path), True)

@@ -33,7 +33,8 @@ from arbiter_host.setting.apply import BURST, MAXIMUM, WEIGHT, Back, By, Change,
 from arbiter_host.setting.record import Record
 from arbiter_host.sources import cgroup2, task_times, readings
 from arbiter_host.sources.pods import kubelets
-from arbiter_host.sources.readings import Counted, Times
+from arbiter_host.sources.readings import Counted
+from arbiter_host.sources.times import Times
 
 # What is told of a round.
 Line = dict[str, Any]

@@ -8,7 +8,8 @@ from arbiter import Host
 from arbiter_host.base import demands, units
 from arbiter_host.base.model import Model, bound_notes
 from arbiter_host.sources import readings, systemd
-from arbiter_host.sources.readings import OverTime, Times
+from arbiter_host.sources.readings import OverTime
+from arbiter_host.sources.times import Times
 
 
 def own_notes(model: Model, series: OverTime) -> list[str]:

@@ -14,9 +14,9 @@ from arbiter import Library
 from arbiter_host.base import demands, names, output, plain_files
 from arbiter_host.base.faults import HostFault, RefusedLines, UsageFault
 from arbiter_host.base.model import Model
-from arbiter_host.sources import readings
 from arbiter_host.sources.register import BLANK, NODE, READERS, SERVICE
 from arbiter_host.sources.source_options import File, SourceOptions
+from arbiter_host.sources.times import turns
 
 # A path and its bytes; None stands for a folder.
 Opened = tuple[str, bytes | None]
@@ -47,7 +47,7 @@ def of_service(options: SourceOptions, word: str) -> list[Opened]:
     service = RunningService(word)
     is_once = service.kind != "systemd" or options.has_settings_alone or not is_of_use(options)
     times = options.times._replace(number=1) if is_once else options.times
-    return [(word, service.source(options.node)) for _ in readings.turns(times)]
+    return [(word, service.source(options.node)) for _ in turns(times)]
 
 
 def opened(options: SourceOptions, paths: Sequence[str]) -> list[Opened]:

@@ -5,10 +5,9 @@ by name and cost no run.
 """
 from __future__ import annotations
 
-import itertools
 import os
 import time
-from collections.abc import Callable, Hashable, Iterator, Mapping, Sequence
+from collections.abc import Hashable, Iterator, Mapping, Sequence
 from dataclasses import dataclass, field
 from fractions import Fraction
 from typing import NamedTuple
@@ -16,57 +15,19 @@ from typing import NamedTuple
 from arbiter import Host, Library, Reading, RoundTimes
 from arbiter_host.base import names, progress, safe_files, units
 from arbiter_host.base.demands import CounterReading, Measured, Place, rise
-from arbiter_host.base.faults import HostFault, UsageFault, strerror
+from arbiter_host.base.faults import HostFault, strerror
 from arbiter_host.base.model import (MAX_DEPTH, NO_POD, Group, Model, PodNames, checked,
                                      up_to_64_cpus)
 from arbiter_host.base.names import shown
 from arbiter_host.sources import cgroup2, task_times
+from arbiter_host.sources.times import MICROSECONDS, Clock, Sleep, Times, turns
 
-Clock = Callable[[], float]
-Sleep = Callable[[float], None]
 HOST_TREE = "/sys/fs/cgroup"
-MICROSECONDS, MAX_SECONDS, MAX_READINGS = 10**6, 86400, 10000
 # Microseconds that no group uses.
 MOST_ALLOWED = 2**63
 # Why nothing is known of what a group used between two readings.
 CAME, FELL, STILL = ("groups that came or went", "groups whose counters fell",
                      "groups without a new sample")
-
-
-class Times(NamedTuple):
-    """How often a source is read: seconds between readings, and their number; None for no end."""
-
-    interval: Fraction = Fraction(1)
-    number: int | None = 2
-
-
-def times_of(text: str) -> Times:
-    """The times of `--read`, such as 10x1s. A plain number is seconds."""
-    count, mark, time_ = text.partition("x")
-    number = units.whole(count, 5) if count else None
-    if not mark or count and not 1 <= (number or 0) <= MAX_READINGS:
-        raise UsageFault(f"--read {shown(text)}: NxTIME, such as 10x1s, with N from 1 to"
-                         f" {MAX_READINGS}")
-    parsed = units.number_and_unit(time_)
-    try:
-        seconds = (parsed[0] if parsed and not parsed[1]
-                   else Fraction(units.parse_time(time_), MICROSECONDS))
-    except HostFault as fault:
-        raise UsageFault(f"--read: {shown(fault.message)}") from fault
-    if not 0 < seconds <= MAX_SECONDS:
-        raise UsageFault(f"--read: a time above 0 and at most {MAX_SECONDS} seconds")
-    return Times(seconds, number)
-
-
-def turns(times: Times, clock: Clock = time.monotonic, sleep: Sleep = time.sleep,
-          first: int = 0) -> Iterator[None]:
-    """Waits for each reading from the one of a number on. One that took too long leaves the times
-    out that went by meanwhile."""
-    begun, turn = clock(), first
-    for _ in itertools.count() if times.number is None else range(first, times.number):
-        sleep(max(float(begun + turn * times.interval - clock()), 0))
-        yield
-        turn = max(turn + 1, int((clock() - begun) / float(times.interval)) + 1)
 
 
 class Counted(NamedTuple):

@@ -11,7 +11,7 @@ from arbiter import Host, Library
 from arbiter_host.base import demands, units
 from arbiter_host.base.faults import UsageFault
 from arbiter_host.base.model import Model, checked, fine, planned
-from arbiter_host.sources.readings import Times
+from arbiter_host.sources.times import Times
 
 if TYPE_CHECKING:
     from arbiter_host.base.owned import Owned

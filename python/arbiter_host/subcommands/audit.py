@@ -17,7 +17,8 @@ from arbiter_host.base.output import json_text, write_forms
 from arbiter_host.base.plan import Engine, engine_of
 from arbiter_host.records import source_options
 from arbiter_host.sources import load, prometheus, readings
-from arbiter_host.sources.readings import TreeReading, Times
+from arbiter_host.sources.readings import TreeReading
+from arbiter_host.sources.times import Times, times_of as read_times
 from arbiter_host.subcommands.base import source_name
 
 
@@ -44,7 +45,7 @@ def times_of(asked: argparse.Namespace, is_live: bool) -> Times:
         raise UsageFault("--read: how often and how long this tree is read, such as --read 13x5s"
                          if is_live else "--read: the time from one copy to the next, such as"
                          " --read x10s")
-    times = readings.times_of(asked.read)
+    times = read_times(asked.read)
     if is_live and (times.number or 0) < 2:
         raise UsageFault("--read: an interval is from one reading to the next: 2 or more")
     return times

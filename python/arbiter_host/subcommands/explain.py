@@ -5,7 +5,7 @@ import argparse
 from functools import cache
 
 from arbiter_host import options as table
-from arbiter_host.answers import explain, picture, placement, report
+from arbiter_host.answers import explain, placement
 from arbiter_host.answers.explain import View
 from arbiter_host.base.output import json_text, write_forms
 from arbiter_host.base.plan import Plan, engine_of, guarantees, plan
@@ -24,6 +24,18 @@ def shown_view(options: argparse.Namespace, plan: Plan) -> View:
     return view._replace(guaranteed={group.row: slices for group, slices in zip(groups, owed)})
 
 
+def page(plan: Plan, view: View, title: str) -> str:
+    """A plan as one HTML page."""
+    from arbiter_host.answers import report  # (no other form needs it)
+    return report.page(plan, view, title)
+
+
+def picture(plan: Plan, view: View) -> str:
+    """A plan as SVG."""
+    from arbiter_host.answers import picture as drawing  # (no other form needs it)
+    return drawing.picture(plan, view)
+
+
 def run(options: argparse.Namespace) -> None:
     outputs = table.outputs(options)
     files = load.opened(source_options(options), options.source)
@@ -38,5 +50,5 @@ def run(options: argparse.Namespace) -> None:
         "json": lambda: json_text(explain.with_placement(
             plan_, explain.as_data(plan_, view), outlook())),
         "csv": lambda: explain.as_csv(plan_, view),
-        "html": lambda: report.page(plan_, view, f"Plan of {source_name(options.source)}"),
-        "svg": lambda: picture.picture(plan_, view)})
+        "html": lambda: page(plan_, view, f"Plan of {source_name(options.source)}"),
+        "svg": lambda: picture(plan_, view)})

@@ -26,6 +26,7 @@ from arbiter_host.hold import harm, hold
 from arbiter_host.records import host_of, time_option
 from arbiter_host.setting import record
 from arbiter_host.sources import readings
+from arbiter_host.sources.times import MICROSECONDS, Times, times_of as read_times
 
 if TYPE_CHECKING:
     from arbiter_host.top.metrics import File
@@ -144,12 +145,12 @@ class Service:
                 self.warn([fault.message])
 
 
-def times_of(asked: argparse.Namespace, period: int) -> readings.Times:
+def times_of(asked: argparse.Namespace, period: int) -> Times:
     """How long a round is, and how many readings there are."""
-    times = readings.times_of(asked.read)
+    times = read_times(asked.read)
     if period not in PERIODS:
         raise UsageFault("--period: 100ms or 1s")
-    if times.interval * readings.MICROSECONDS < period:
+    if times.interval * MICROSECONDS < period:
         raise UsageFault("--read: a round lasts at least the period")
     if times.number == 1:
         raise UsageFault("--read: a round is from one reading to the next: 2 or more")

@@ -24,6 +24,7 @@ from arbiter_host.base.plan import Plan, engine_of, plan
 from arbiter_host.records import source_options
 from arbiter_host.sources import kubernetes, load, readings
 from arbiter_host.sources.source_options import SourceOptions
+from arbiter_host.sources.times import times_of
 from arbiter_host.subcommands.base import chosen, view_of
 from arbiter_host.top import top, viewer
 
@@ -169,7 +170,7 @@ def run(asked: argparse.Namespace) -> None:
             and each.dest in asked.given]
     if form == "json" and idle:
         raise UsageFault(f"{idle[0]}: it has no effect on lines of json (-o text)")
-    times = readings.times_of(asked.read or ("x1s" if form == "live" else "x15s"))
+    times = times_of(asked.read or ("x1s" if form == "live" else "x15s"))
     view_of(asked)
     try:
         watch = Watch(asked, form, file)

@@ -15,7 +15,7 @@ from arbiter_host.base.model import NO_POD, PodNames
 from arbiter_host.base.names import shown
 from arbiter_host.base.plan import Engine, Plan, plan
 from arbiter_host.sources import readings
-from arbiter_host.sources.readings import Times
+from arbiter_host.sources.times import Sleep, Times, turns
 
 CONDITION = re.compile(r"(starved|throttled|lack|off)(?:>(.+?))?(?: +for +([0-9]{1,6}))?")
 # Failed rounds in a row that end the command.
@@ -239,11 +239,11 @@ def line_of(state: State, round_: PlannedRound) -> dict[str, Any]:
 
 
 def rounds_of(read: Callable[[], PlannedRound], times: Times, first: int,
-              warn: Callable[[str], None], sleep: readings.Sleep = time.sleep
+              warn: Callable[[str], None], sleep: Sleep = time.sleep
               ) -> Iterator[PlannedRound]:
     """Rounds from a reading on. One that fails may pass, unless it is the only one."""
     failed = 0
-    for _ in readings.turns(times, sleep=sleep, first=first):
+    for _ in turns(times, sleep=sleep, first=first):
         try:
             found = read()
         except HostFault as fault:
