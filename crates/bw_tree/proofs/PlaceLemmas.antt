@@ -1,16 +1,17 @@
 -- A group at its place: read, written and removed there.
 use Rattle.std.proofs.Common.{◌≡◌, ℕ, zero, suc, ◌<◌, Bool, true, false, cond, List, [], ◌∷◌}
-use Rattle.std.proofs.Common.{length}
+use Rattle.std.proofs.Common.{length, slice_get}
 use Rattle.std.proofs.Common.{get_or, Option, Some, None, position, refl, sym, ap, ◌∙◌, eqb, arith}
 use Rattle.std.proofs.Common.{◌+◌, is_some, ltb, not}
 use Rattle.std.proofs.lemmas.Bool.{lt-ltb, eqb-true}
 use Rattle.std.proofs.lemmas.Bool.Decides.{nat_tests}
 use Rattle.std.specs.List.{position_or_len}
 use Rattle.std.specs.Prelude.{slice_set}
-use Rattle.std.proofs.lemmas.List.{length-map, get_or-map}
+use Rattle.std.proofs.lemmas.List.{length-map, get_or-map, get_or_default}
+use Rattle.std.proofs.lemmas.Option.{get_or_from_slice_get}
 use Rattle.std.proofs.lemmas.List.Quantifiers.{position-Some}
-use Rattle.std.specs.List.{remove}
-use Rattle.std.specs.Map.{keys_of, remove_entry, set_value}
+use Rattle.std.specs.Map.{keys_of, values_of, set_value}
+use Rattle.indexmap.specs.IndexMap.{set_value_at}
 use Rattle.bw_tree.specs.Groups.{GroupFields, group_at, has_group}
 use Rattle.bw_tree.specs.Tree.{changed, changed_at}
 
@@ -73,29 +74,6 @@ some_place gs id =
     some_if (ltb (position_or_len (eqb id) (keys_of gs)) (length (keys_of gs)))
     (position_or_len (eqb id) (keys_of gs)) ∙ placed gs id
 
--- the group that stands there is found by its id
-pub look_at : (gs : List (ℕ × GroupFields)) (id i : ℕ) (x : ℕ × GroupFields) → StandsAt gs id i
-    → x ≡ get_or gs i x → group_at gs id ≡ Some x.1
-look_at [] id i x at is = absurd (omega (arith, at.within))
-look_at (e ∷ es) id zero x at is =
-    ap (λ b. cond b (Some e.1) (group_at es id)) at.here
-    ∙ ap (λ (y : ℕ × GroupFields). Some y.1) (sym is)
-look_at (e ∷ es) id (suc i) x at is =
-    ap (λ b. cond b (Some e.1) (group_at es id)) (at.before 0 (omega arith))
-    ∙ look_at es id i x (stands_later e es id i at) is
-
--- what is removed at the place is removed by its id
-pub removed_there : (gs : List (ℕ × GroupFields)) (id i : ℕ) → StandsAt gs id i
-    → remove gs i ≡ remove_entry (eqb id) gs
-removed_there [] id i at = absurd (omega (arith, at.within))
-removed_there (e ∷ es) id zero at =
-    sym (ap (λ (b : Bool). cond b es (e ∷ remove_entry (eqb id) es)) at.here)
-removed_there (e ∷ es) id (suc i) at =
-    ap (λ (xs : List (ℕ × GroupFields)). e ∷ xs)
-    (removed_there es id i (stands_later e es id i at))
-    ∙ sym (ap (λ (b : Bool). cond b es (e ∷ remove_entry (eqb id) es))
-    (at.before 0 (omega arith)))
-
 -- a change past an entry with another id leaves that entry
 changed_past : (f : GroupFields → GroupFields) (e : ℕ × GroupFields) (es : List (ℕ × GroupFields))
     (id : ℕ) (o : Option GroupFields) → eqb id e.0 ≡ false
@@ -124,3 +102,35 @@ pub written_place : (f : GroupFields → GroupFields) (gs : List (ℕ × GroupFi
     (x : ℕ × GroupFields) → position (eqb id) (keys_of gs) ≡ Some i → x ≡ get_or gs i x
     → slice_set gs i (x.0, f x.1) ≡ changed_at f gs id
 written_place f gs id i x place is = written_there f gs id i x (stands_at gs id i place) is
+
+-- a value that is read at a place: its entry there, and what a write at the place makes of it
+pub record ValueAt (gs : List (ℕ × GroupFields)) (i : ℕ) (g : GroupFields) : Type 0 where
+  pub id : ℕ
+  pub read : (id, g) ≡ get_or gs i (id, g)
+  pub written : (h : GroupFields) → set_value_at gs i h ≡ slice_set gs i (id, h)
+
+value_set : (gs : List (ℕ × GroupFields)) (i : ℕ) (h : GroupFields) (d : ℕ × GroupFields)
+    → set_value_at gs i h ≡ slice_set gs i ((get_or gs i d).0, h)
+value_set [] i h d = refl
+value_set (e ∷ es) zero h d = refl
+value_set (e ∷ es) (suc i) h d = ap (λ (xs : List (ℕ × GroupFields)). e ∷ xs) (value_set es i h d)
+
+pub value_there : (gs : List (ℕ × GroupFields)) (i : ℕ) (g : GroupFields) → i < length gs
+    → slice_get (values_of gs) i ≡ Some g → ValueAt gs i g
+value_there gs i g within at =
+    let x : ℕ × GroupFields = get_or gs i (0, g) in
+    let value : x.1 ≡ g = sym (get_or-map (λ (e : ℕ × GroupFields). e.1) gs i (0, g) g within)
+    ∙ get_or_from_slice_get (values_of gs) i g g at in
+    record {
+      id = x.0;
+      read = sym (ap (λ (h : GroupFields). (x.0, h)) value)
+          ∙ get_or_default gs i (0, g) (x.0, g) within;
+      written = λ h. value_set gs i h (0, g);
+    }
+
+pub written_value : (f : GroupFields → GroupFields) (gs : List (ℕ × GroupFields)) (id i : ℕ)
+    (g : GroupFields) → position (eqb id) (keys_of gs) ≡ Some i
+    → slice_get (values_of gs) i ≡ Some g → set_value_at gs i (f g) ≡ changed_at f gs id
+written_value f gs id i g place at =
+    let there = value_there gs i g (stands_at gs id i place).within at in
+    there.written (f g) ∙ written_place f gs id i (there.id, g) place there.read

@@ -9,8 +9,8 @@ ghost use Rattle.bw_tree.specs.Snapshot.{carried_at, rows_of, IsDrawnWithin};
 ghost use Rattle.bw_tree.specs.Snapshot.{period_limit as limit_of};
 ghost use Rattle.bw_tree.specs.Kept.{AreSound, on_host, limit_set};
 
-use crate::by_id::Groups;
 use crate::group::Group;
+use crate::group_map::{Groups, entry_at};
 use crate::snapshot::Snapshot;
 use bw_model::limits::{MAX_BURST_US, MAX_GROUPS, MAX_PERIOD_US, MAX_QUOTA_US, MIN_PERIOD_US};
 use bw_model::{HostShape, Row};
@@ -102,12 +102,12 @@ pub(crate) fn write_carries(
     shape: HostShape,
     drawn: &[u64],
 )
-    requires step { snapshot.old.instance ≡ on_host groups.old.items shape }
-    requires sound { AreSound groups.old.items }
-    requires drawn { length drawn.now ≡ length groups.old.items }
-    ensures carries { groups.new.items
-        ≡ carried groups.old.items (left_over (rows_of groups.old.items shape) drawn.now) }
-    ensures step { snapshot.new.instance ≡ on_host groups.new.items shape }
+    requires step { snapshot.old.instance ≡ on_host groups.old.entries shape }
+    requires sound { AreSound groups.old.entries }
+    requires drawn { length drawn.now ≡ length groups.old.entries }
+    ensures carries { groups.new.entries
+        ≡ carried groups.old.entries (left_over (rows_of groups.old.entries shape) drawn.now) }
+    ensures step { snapshot.new.instance ≡ on_host groups.new.entries shape }
     ensures ids { snapshot.new.ids ≡ snapshot.old.ids }
     ensures quotas { snapshot.new.quotas ≡ snapshot.old.quotas }
 {
@@ -125,13 +125,13 @@ fn carry_at(
     shape: HostShape,
     drawn: u64,
 )
-    requires within { place < length groups.old.items }
-    requires step { snapshot.old.instance ≡ on_host groups.old.items shape }
-    requires sound { AreSound groups.old.items }
-    ensures groups { groups.new.items ≡ carried_at groups.old.items place
+    requires within { place < length groups.old.entries }
+    requires step { snapshot.old.instance ≡ on_host groups.old.entries shape }
+    requires sound { AreSound groups.old.entries }
+    ensures groups { groups.new.entries ≡ carried_at groups.old.entries place
         (left_of (row_of snapshot.old.instance.rows place).limit drawn) }
-    ensures step { snapshot.new.instance ≡ on_host groups.new.items shape }
-    ensures sound { AreSound groups.new.items }
+    ensures step { snapshot.new.instance ≡ on_host groups.new.entries shape }
+    ensures sound { AreSound groups.new.entries }
     ensures ids { snapshot.new.ids ≡ snapshot.old.ids }
     ensures quotas { snapshot.new.quotas ≡ snapshot.old.quotas }
 {
@@ -140,7 +140,8 @@ fn carry_at(
     if limit.is_none() {
         return;
     }
-    renew_limit(snapshot, place, shape, &groups[place].1);
+    let (_, group) = entry_at(groups, place);
+    renew_limit(snapshot, place, shape, group);
 }
 
 // Gives a row below the root its group's limit of the next period. Without a burst it stays.
@@ -162,9 +163,9 @@ fn renew_limit(snapshot: &mut Snapshot, place: usize, shape: HostShape, group: &
 }
 
 fn write_carry(groups: &mut Groups, place: usize, carry: u64)
-    requires { place < length groups.old.items }
-    ensures { groups.new.items ≡ carried_at groups.old.items place carry }
+    requires { place < length groups.old.entries }
+    ensures { groups.new.entries ≡ carried_at groups.old.entries place carry }
 {
-    let group = &mut groups[place].1;
+    let group = &mut groups[place];
     group.carry = carry;
 }

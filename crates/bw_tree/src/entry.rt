@@ -5,6 +5,7 @@ ghost use Rattle.bw_tree.specs.Groups.{GroupFields, group_at, IsTree};
 ghost use Rattle.bw_tree.specs.Snapshot.{row_above};
 
 use crate::group::GroupId;
+use crate::group_map::entry_at;
 use crate::tree::Tree;
 
 /// Group of a row: what its path is made of.
@@ -37,9 +38,9 @@ impl Tree {
         ensures before { IfSome result.parent (λ p. p < row) }
         ensures valid { IsTree self.now }
     {
-        let (id, group) = &self.groups[row];
+        let (id, group) = entry_at(&self.groups, row);
         Entry {
-            id: *id,
+            id,
             parent: self.parent_row(row),
             name: group.name.as_str(),
         }

@@ -2,12 +2,13 @@
 //! and changes nothing.
 #![tactic(auto)]
 
-mod by_id;
 mod carry;
 mod child_index;
 mod entry;
 mod fault;
 mod group;
+mod group_map;
+mod id_hash;
 mod laws;
 pub mod limits;
 mod name;

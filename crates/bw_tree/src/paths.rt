@@ -8,9 +8,9 @@ ghost use Rattle.bw_tree.specs.Groups.{IsTree, has_group, find_path, walk};
 ghost use Rattle.bw_tree.specs.Tails.{IsWay};
 ghost use Rattle.bw_tree.specs.Tree.{IsRefused, path_refusal};
 
-use crate::by_id::{group_there, place_of};
 use crate::fault::TreeFault;
 use crate::group::GroupId;
+use crate::group_map::{group_there, place_of};
 use crate::names::split_front;
 use crate::path_hash::PathHash;
 use crate::tree::Tree;
@@ -90,7 +90,7 @@ impl Tree {
         ensures way { IfSome result (λ x. IsWay self.now.groups x.1.now x.0 id) }
         ensures valid { IsTree self.now }
     {
-        let place = place_of(&self.groups, &self.places, id)?;
+        let place = place_of(&self.groups, id)?;
         let tail = &self.nodes[place].tail;
         if tail.is_none() {
             let group = group_there(&self.groups, id, place);

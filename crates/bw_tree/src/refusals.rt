@@ -4,9 +4,9 @@ ghost use Rattle.std.specs.Map.{keys_of};
 ghost use Rattle.bw_tree.specs.Groups.{above, child_of, demand_at, has_children, IsTree};
 ghost use Rattle.bw_tree.specs.Tree.{mkdir_refusal, demand_refusal, rmdir_refusal};
 
-use crate::by_id::group_there;
 use crate::fault::TreeFault;
 use crate::group::GroupId;
+use crate::group_map::group_there;
 use crate::names::is_name;
 use crate::tree::Tree;
 use bw_model::limits::{MAX_DEMAND, MAX_DEPTH, MAX_GROUPS};

@@ -13,6 +13,7 @@ ghost use Rattle.bw_tree.specs.Kept.{demand_set, CanSetRow};
 use crate::carry::{period_limit, quota_slices};
 use crate::fault::TreeFault;
 use crate::group::GroupId;
+use crate::group_map::entry_at;
 use crate::tree::Tree;
 use bw_model::{HostShape, Instance, Row};
 use std::alloc::AllocError;
@@ -105,7 +106,8 @@ impl Tree {
         let mut quotas = Vec::with_capacity(alloc, count)?;
         for place in 0..count {
             let (quota, row) = self.row_at(place, shape);
-            ids.push_reserved(self.groups[place].0);
+            let (id, _) = entry_at(&self.groups, place);
+            ids.push_reserved(id);
             rows.push_reserved(row);
             quotas.push_reserved(quota);
         }
@@ -119,7 +121,7 @@ impl Tree {
         ensures quota { result.0 ≡ slice_index_or (base_of self.now.groups shape) place None }
         ensures row { result.1 ≡ row_of (rows_of self.now.groups shape) place }
     {
-        let (_, group) = &self.groups[place];
+        let (_, group) = entry_at(&self.groups, place);
         let quota = quota_slices(group, shape);
         let row = Row {
             parent: self.parent_row(place),
@@ -136,7 +138,8 @@ impl Tree {
         ensures { (d : ℕ × GroupFields) → result
             ≡ row_above self.now.groups (slice_index_or self.now.groups place d).1.parent }
     {
-        match self.groups[place].1.parent {
+        let (_, group) = entry_at(&self.groups, place);
+        match group.parent {
             None => None,
             Some(_) => Some(self.nodes[place].above),
         }

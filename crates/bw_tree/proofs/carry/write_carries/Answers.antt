@@ -12,9 +12,9 @@ use Rattle.bw_tree.proofs.carry.write_carries.Goals as goal
 
 pub carry_at-requires-clause-within : goal.carry_at-requires-clause-within
 carry_at-requires-clause-within c =
-    let gs = c.args.groups.now.items in
+    let gs = c.args.groups.now.entries in
     let cs = left_over (rows_of gs c.args.shape) c.args.drawn.now in
-    let same : length c.loop-place.groups.items
+    let same : length c.loop-place.groups.entries
     ≡ length (carried gs (take c.loop-place.place cs)) = ap length c.loop-place.invariant.carries in
     omega (
       arith,
@@ -26,7 +26,7 @@ carry_at-requires-clause-within c =
 
 pub loop-place-preserved : goal.loop-place-preserved
 loop-place-preserved c =
-    let gs = c.args.groups.now.items in
+    let gs = c.args.groups.now.entries in
     let shape = c.args.shape in
     let drawn = c.args.drawn.now in
     let rows = rows_of gs shape in
@@ -47,7 +47,7 @@ loop-place-preserved c =
     let next : suc i ≡ i + 1 = omega arith in
     record {
       carries = c.carry_at.ensures.groups
-          ∙ ap (carried_at c.loop-place.groups.items i) is
+          ∙ ap (carried_at c.loop-place.groups.entries i) is
           ∙ ap (λ (es : List (ℕ × GroupFields)). carried_at es i (get_or cs i 0))
           invariant.carries
           ∙ carry_next gs cs i within
@@ -61,7 +61,7 @@ loop-place-preserved c =
 
 pub returns-clause-carries : goal.returns-clause-carries
 returns-clause-carries c =
-    let gs = c.args.groups.now.items in
+    let gs = c.args.groups.now.entries in
     let rows = rows_of gs c.args.shape in
     let cs = left_over rows c.args.drawn.now in
     let each : length c.args.drawn.now ≡ length rows =

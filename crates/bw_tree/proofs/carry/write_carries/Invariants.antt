@@ -6,10 +6,10 @@ use Rattle.bw_tree.proofs.carry.write_carries.Given as goal
 
 abbrev pub invariant-loop-place : goal.invariant-loop-place
 invariant-loop-place l = record {
-  carries : l.groups.items ≡ carried l.initial.groups.items
-      (take l.place (left_over (rows_of l.initial.groups.items l.shape) l.drawn));
-  step : l.snapshot.instance ≡ on_host l.groups.items l.shape;
-  sound : AreSound l.groups.items;
+  carries : l.groups.entries ≡ carried l.initial.groups.entries
+      (take l.place (left_over (rows_of l.initial.groups.entries l.shape) l.drawn));
+  step : l.snapshot.instance ≡ on_host l.groups.entries l.shape;
+  sound : AreSound l.groups.entries;
   ids : l.snapshot.ids ≡ l.initial.snapshot.ids;
   quotas : l.snapshot.quotas ≡ l.initial.snapshot.quotas;
 }

@@ -1,7 +1,7 @@
 -- The goals of `index_of` that are answered by hand.
 use Rattle.std.proofs.Common.{◌≡◌, ◌<◌, ◌≤◌, ℕ, suc, ◌+◌, List, ◌∷◌, length, get_or, drop, Some}
 use Rattle.std.proofs.Common.{None}
-use Rattle.std.proofs.Common.{sym, ap, subst, ◌∙◌, arith}
+use Rattle.std.proofs.Common.{sym, ap, subst, ◌∙◌, arith, rules}
 use Rattle.std.proofs.Math.Seq.{drop-cons}
 use Rattle.std.proofs.lemmas.List.{drop_all}
 use Rattle.bw_tree.specs.Groups.{GroupFields}
@@ -15,62 +15,56 @@ use Rattle.bw_tree.proofs.PlaceLemmas.{stands_at}
 use Rattle.bw_tree.proofs.tree.index_of.Goals as goal
 use Rattle.bw_tree.proofs.tree.index_of.Goals.{in-Some+in_ok-insert, in_default}
 
-pub loop-id-init : goal.loop-id-init
-loop-id-init c = record {
+pub loop-place-init : goal.loop-place-init
+loop-place-init c = record {
   left = c.requires.named;
-  part = λ fronts _. part_start c.args.groups.now.items (child_key c.args.seed fronts)
+  part = λ fronts _. part_start c.args.groups.now.entries (child_key c.args.seed fronts)
       c.new-children.result c.new-children.ensures.first c.new-children.ensures.others
       c.new-children.ensures.none_empty;
 }
 
 pub unwrap-above-requires : goal.unwrap-above-requires
 unwrap-above-requires c =
-    let gs = c.args.groups.now.items in
-    let i = c.loop-id.id-index in
-    let x = c.loop-id-item.result in
+    let gs = c.args.groups.now.entries in
+    let i = c.loop-place.place in
+    let x : ℕ × GroupFields = (c.entry_at-id.result.0, c.entry_at-id.result.1.now) in
     let rest : List (ℕ × GroupFields) = drop (suc i) gs in
-    let lt : i < length gs =
-    subst (λ (s : List (ℕ × GroupFields)). i < length s) c.deref-id-items.ensures.value
-    c.loop-id-test.true in
-    let is : x ≡ get_or gs i x = c.loop-id-item.is
-    ∙ ap (λ (s : List (ℕ × GroupFields)). get_or s i x) c.deref-id-items.ensures.value in
+    let lt : i < length gs = search rules in
+    let is : x ≡ get_or gs i x = c.entry_at-id.ensures in
     let named = subst (λ (es : List (ℕ × GroupFields)). AreNamed gs es)
     (drop-cons gs i x lt ∙ ap (λ (y : ℕ × GroupFields). y ∷ rest) (sym is))
-    c.loop-id.invariant.left in
+    c.loop-place.invariant.left in
     let up : x.1.parent ≡ Some c.in-Some.parent =
     sym (ap (λ (g : GroupFields). g.parent) c.group.view_is) ∙ c.in-Some.is in
     c.place_of.ensures.found ∙ (named.0 c.in-Some.parent up).there
 
 pub path_below-path-requires : goal.path_below-path-requires
 path_below-path-requires c =
-    let stands = stands_at c.args.groups.now.items c.in-Some.parent c.unwrap-above.result
+    let stands = stands_at c.args.groups.now.entries c.in-Some.parent c.unwrap-above.result
     (sym c.place_of.ensures.place ∙ c.unwrap-above.ensures) in
     omega (arith, stands.within, c.requires.long)
 
-pub loop-id-preserved : goal.loop-id-preserved
-loop-id-preserved c =
-    let gs = c.args.groups.now.items in
+pub loop-place-preserved : goal.loop-place-preserved
+loop-place-preserved c =
+    let gs = c.args.groups.now.entries in
     let seed = c.args.seed in
-    let i = c.loop-id.id-index in
-    let x = c.loop-id-item.result in
+    let i = c.loop-place.place in
+    let x : ℕ × GroupFields = (c.entry_at-id.result.0, c.entry_at-id.result.1.now) in
     let rest : List (ℕ × GroupFields) = drop (suc i) gs in
-    let lt : i < length gs =
-    subst (λ (s : List (ℕ × GroupFields)). i < length s) c.deref-id-items.ensures.value
-    c.loop-id-test.true in
-    let is : x ≡ get_or gs i x = c.loop-id-item.is
-    ∙ ap (λ (s : List (ℕ × GroupFields)). get_or s i x) c.deref-id-items.ensures.value in
+    let lt : i < length gs = search rules in
+    let is : x ≡ get_or gs i x = c.entry_at-id.ensures in
     let first : drop i gs ≡ x ∷ rest =
     drop-cons gs i x lt ∙ ap (λ (y : ℕ × GroupFields). y ∷ rest) (sym is) in
     let named = subst (λ (es : List (ℕ × GroupFields)). AreNamed gs es) first
-    c.loop-id.invariant.left in
+    c.loop-place.invariant.left in
     let next : suc i ≡ i + 1 = omega arith in
     record {
       left = subst (λ (n : ℕ). AreNamed gs (drop n gs)) next named.1;
       part =
           λ fronts nodes. let was : IsPartIndex gs (x ∷ rest) (child_key seed fronts)
-          c.loop-id.children =
+          c.loop-place.children =
           subst (λ (es : List (ℕ × GroupFields)). IsPartIndex gs es (child_key seed fronts)
-          c.loop-id.children) first (c.loop-id.invariant.part fronts nodes) in
+          c.loop-place.children) first (c.loop-place.invariant.part fronts nodes) in
           subst (λ (n : ℕ). IsPartIndex gs (drop n gs) (child_key seed fronts)
           c.match-group.children) next
           (elim c.match-group.branch [
@@ -89,31 +83,29 @@ loop-id-preserved c =
                 ∙ ap (λ (h : PathHash). with_bytes seed h w.as_str-name.result.now) own.front)
                 ∙ ap (child_key seed fronts parent) name in
                 let added = subst
-                (λ (n : List ℕ). IsAdded c.loop-id.children w.insert.new.self w.number.result parent
+                (λ (n : List ℕ). IsAdded c.loop-place.children w.insert.new.self w.number.result parent
                 n x.0) name w.in_ok-insert.ensures.added in
                 subst (IsPartIndex gs rest (child_key seed fronts)) (sym w.children-is)
-                (part_step gs (child_key seed fronts) x rest parent c.loop-id.children
+                (part_step gs (child_key seed fronts) x rest parent c.loop-place.children
                 w.insert.new.self up (named.0 parent up) was
-                (subst (λ (k : ℕ). IsAdded c.loop-id.children w.insert.new.self k parent x.1.name
+                (subst (λ (k : ℕ). IsAdded c.loop-place.children w.insert.new.self k parent x.1.name
                 x.0) is_key added))
             | in_default w ↦
                 let top : x.1.parent ≡ None =
                 sym (ap (λ (g : GroupFields). g.parent) c.group.view_is) ∙ w.in_default.is in
                 subst (IsPartIndex gs rest (child_key seed fronts)) (sym w.children-is)
-                (part_skip gs (child_key seed fronts) x rest c.loop-id.children top was)
+                (part_skip gs (child_key seed fronts) x rest c.loop-place.children top was)
           ]);
     }
 
 pub returns : goal.returns
 returns c =
-    let gs = c.args.groups.now.items in
-    let past : length gs ≤ c.loop-id.id-index =
-    subst (λ (s : List (ℕ × GroupFields)). length s ≤ c.loop-id.id-index)
-    c.deref-id-items.ensures.value c.loop-id-test.false in
+    let gs = c.args.groups.now.entries in
+    let past : length gs ≤ c.loop-place.place = search rules in
     record {
       index =
-          λ fronts nodes. part_end gs (child_key c.args.seed fronts) c.loop-id.children
+          λ fronts nodes. part_end gs (child_key c.args.seed fronts) c.loop-place.children
           (subst (λ (es : List (ℕ × GroupFields)). IsPartIndex gs es (child_key c.args.seed fronts)
-          c.loop-id.children)
-          (drop_all c.loop-id.id-index gs past) (c.loop-id.invariant.part fronts nodes));
+          c.loop-place.children)
+          (drop_all c.loop-place.place gs past) (c.loop-place.invariant.part fronts nodes));
     }

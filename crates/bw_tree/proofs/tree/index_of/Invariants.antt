@@ -7,10 +7,10 @@ use Rattle.bw_tree.specs.declared.path_hash.PathHash.{PathHash}
 use Rattle.bw_tree.proofs.IndexLemmas.{IsPartIndex}
 use Rattle.bw_tree.proofs.tree.index_of.Given as goal
 
-abbrev pub invariant-loop-id : goal.invariant-loop-id
-invariant-loop-id l = record {
-  left : AreNamed l.groups.items (drop l.id-index l.groups.items);
-  part : (fronts : ℕ → PathHash) → AreNodesOf l.groups.items fronts l.nodes.items
-      → IsPartIndex l.groups.items (drop l.id-index l.groups.items) (child_key l.seed fronts)
+abbrev pub invariant-loop-place : goal.invariant-loop-place
+invariant-loop-place l = record {
+  left : AreNamed l.groups.entries (drop l.place l.groups.entries);
+  part : (fronts : ℕ → PathHash) → AreNodesOf l.groups.entries fronts l.nodes.items
+      → IsPartIndex l.groups.entries (drop l.place l.groups.entries) (child_key l.seed fronts)
       l.children;
 }

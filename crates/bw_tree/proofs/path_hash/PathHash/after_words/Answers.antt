@@ -1,8 +1,7 @@
 -- The goal of `PathHash::after_words`, answered by the words of the text.
-use Rattle.std.proofs.Common.{◌≡◌, ℕ, ◌*◌, ◌/◌, ◌≤◌, List, length, drop, sym, ap, ◌∙◌, arith}
+use Rattle.std.proofs.Common.{◌≡◌, ℕ, ◌*◌, ◌/◌, ◌≤◌, List, length, sym, ap, ◌∙◌, arith}
 use Rattle.std.proofs.Math.Facts.{Fits-lt-pow}
 use Rattle.std.specs.Simd.{first_chunks}
-use Rattle.bw_tree.specs.declared.path_hash.PathHash.{PathHash}
 use Rattle.bw_tree.specs.Keys.{with_bytes, with_words}
 use Rattle.bw_tree.proofs.HashLemmas.{by_words}
 use Rattle.bw_tree.proofs.path_hash.PathHash.after_words.Goals as goal

@@ -18,7 +18,7 @@ write_carries-requires-clause-step c =
 
 pub write_carries-requires-clause-sound : goal.write_carries-requires-clause-sound
 write_carries-requires-clause-sound c =
-    tree_sound (record { groups = c.self.inside.groups.items; next = c.self.inside.next_id })
+    tree_sound (record { groups = c.self.inside.groups.entries; next = c.self.inside.next_id })
     c.self.invariant.tree
 
 pub write_carries-requires-clause-drawn : goal.write_carries-requires-clause-drawn
@@ -30,7 +30,7 @@ write_carries-requires-clause-drawn c =
 pub invariant_of-self : goal.invariant_of-self
 invariant_of-self c =
     let t : TreeState =
-    record { groups = c.self.inside.groups.items; next = c.self.inside.next_id } in
+    record { groups = c.self.inside.groups.entries; next = c.self.inside.next_id } in
     subst (λ es. IsIndexedTree (record { groups = es; next = c.self.inside.next_id })
     c.self.inside.index.seed c.self.inside.index.children c.self.inside.nodes.items)
     (sym c.write_carries.ensures.carries)
@@ -46,7 +46,7 @@ invariant_of-self c =
 pub returns-clause-snapshot : goal.returns-clause-snapshot
 returns-clause-snapshot c =
     let next = c.self.inside.next_id in
-    let t : TreeState = record { groups = c.self.inside.groups.items; next = next } in
+    let t : TreeState = record { groups = c.self.inside.groups.entries; next = next } in
     let shape = c.args.shape in
     let old = c.args.snapshot.now in
     let new = c.write_carries.new.snapshot in
@@ -54,7 +54,7 @@ returns-clause-snapshot c =
     let is : IsSnapshotOf old t shape =
     subst (λ (s : TreeState). IsSnapshotOf old s shape) (sym c.self.view_is)
     c.requires.snapshot in
-    let written : c.write_carries.new.groups.items
+    let written : c.write_carries.new.groups.entries
     ≡ carried t.groups (left_over old.instance.rows drawn) =
     c.write_carries.ensures.carries
     ∙ ap (λ (g : Groups). carried t.groups (left_over g.rows drawn)) (sym is.rows) in

@@ -11,14 +11,14 @@ use Rattle.bw_tree.proofs.tree.Tree.child_of.Goals as goal
 
 pub path_below-path-requires : goal.path_below-path-requires
 path_below-path-requires c =
-    node_within c.self.inside.groups.items c.self.invariant.fronts c.self.inside.nodes.items
+    node_within c.self.inside.groups.entries c.self.invariant.fronts c.self.inside.nodes.items
     c.args.parent c.in-Some.above c.self.invariant.nodes
     (sym c.place_of.ensures.place ∙ c.in-Some.is)
 
 pub returns-in_default : goal.returns-in_default
 returns-in_default c =
     let t : TreeState =
-    record { groups = c.self.inside.groups.items; next = c.self.inside.next_id } in
+    record { groups = c.self.inside.groups.entries; next = c.self.inside.next_id } in
     let none : has_group t.groups c.args.parent ≡ false =
     sym c.place_of.ensures.found ∙ ap is_some c.in_default.is in
     sym (no_child t.groups c.args.parent c.args.name.now
@@ -27,7 +27,7 @@ returns-in_default c =
 
 pub returns : goal.returns
 returns c =
-    let gs = c.self.inside.groups.items in
+    let gs = c.self.inside.groups.entries in
     let seed = c.self.inside.index.seed in
     let own = node_read (IsNodeOf gs c.self.invariant.fronts) gs c.self.inside.nodes.items
     c.args.parent c.in-Some.above

@@ -16,9 +16,9 @@ loop-place-preserved c =
     let shape = c.args.shape in
     let i = c.loop-place.place in
     let was = c.loop-place.invariant in
-    let x = c.index.result.now in
+    let x : ℕ × GroupFields = (c.entry_at-id.result.0, c.entry_at-id.result.1.now) in
     let lt : i < length gs = search rules in
-    let is : x ≡ get_or gs i x = c.index.ensures
+    let is : x ≡ get_or gs i x = c.entry_at-id.ensures
     ∙ ap (λ (t : TreeState). get_or t.groups i x) c.self.view_is in
     let id : x.0 ≡ get_or (keys_of gs) i 0 = ap (λ (y : ℕ × GroupFields). y.0) is
     ∙ sym (get_or-map (λ (e : ℕ × GroupFields). e.0) gs i x 0 lt) in

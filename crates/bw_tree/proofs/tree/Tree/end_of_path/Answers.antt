@@ -10,7 +10,7 @@ pub index-requires : goal.index-requires
 index-requires c =
     omega (
       arith,
-      node_within c.self.inside.groups.items c.self.invariant.fronts c.self.inside.nodes.items
+      node_within c.self.inside.groups.entries c.self.invariant.fronts c.self.inside.nodes.items
           c.args.id c.in_ok-place.place c.self.invariant.nodes
           (sym c.place_of.ensures.place ∙ c.in_ok-place.was),
     )
@@ -18,7 +18,7 @@ index-requires c =
 -- its own name
 pub returns-then-is_none-clause-way : goal.returns-then-is_none-clause-way
 returns-then-is_none-clause-way c =
-    let gs = c.self.inside.groups.items in
+    let gs = c.self.inside.groups.entries in
     let group = c.group_there-group.result.now in
     let parent = c.in_ok-parent.parent in
     let up : group.parent ≡ Some parent =
@@ -34,7 +34,7 @@ returns-then-is_none-clause-way c =
 -- the names of its tail
 pub returns-clause-way : goal.returns-clause-way
 returns-clause-way c =
-    let gs = c.self.inside.groups.items in
+    let gs = c.self.inside.groups.entries in
     let tail = c.index.result.now.tail in
     let some : 0 < length tail.text.bytes = search rules in
     let own = node_found gs c.self.invariant.fronts c.self.inside.nodes.items c.args.id

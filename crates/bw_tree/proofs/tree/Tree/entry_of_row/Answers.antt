@@ -43,20 +43,20 @@ module _ {t same : TreeState} (equal : same ≡ t) (tree : IsTree same) (i : ℕ
 pub returns-clause-group : goal.returns-clause-group
 returns-clause-group c =
     let gs = c.args.self.now.groups in
-    let x = c.index.result.now in (
+    let x : ℕ × GroupFields = (c.entry_at-id.result.0, c.entry_at-id.result.1.now) in (
       x.1,
-      row_group c.self.view_is c.self.invariant.tree c.args.row x c.index.ensures c.requires,
+      row_group c.self.view_is c.self.invariant.tree c.args.row x c.entry_at-id.ensures c.requires,
       c.parent_row.ensures x ∙ ap (λ (y : ℕ × GroupFields). row_above gs y.1.parent)
-          (sym (is c.self.view_is c.self.invariant.tree c.args.row x c.index.ensures c.requires)),
+          (sym (is c.self.view_is c.self.invariant.tree c.args.row x c.entry_at-id.ensures c.requires)),
       search rules,
     )
 
 pub returns-clause-before : goal.returns-clause-before
 returns-clause-before c =
     let t = c.args.self.now in
-    let x = c.index.result.now in
+    let x : ℕ × GroupFields = (c.entry_at-id.result.0, c.entry_at-id.result.1.now) in
     let above : c.parent_row.result ≡ row_above t.groups x.1.parent =
     c.parent_row.ensures x ∙ ap (λ (y : ℕ × GroupFields). row_above t.groups y.1.parent)
-    (sym (is c.self.view_is c.self.invariant.tree c.args.row x c.index.ensures c.requires)) in
+    (sym (is c.self.view_is c.self.invariant.tree c.args.row x c.entry_at-id.ensures c.requires)) in
     subst (λ o. IfSome o (λ p. p < c.args.row)) (sym above)
-    (row_before c.self.view_is c.self.invariant.tree c.args.row x c.index.ensures c.requires)
+    (row_before c.self.view_is c.self.invariant.tree c.args.row x c.entry_at-id.ensures c.requires)

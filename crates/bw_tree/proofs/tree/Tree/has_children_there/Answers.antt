@@ -8,7 +8,7 @@ use Rattle.bw_tree.proofs.tree.Tree.has_children_there.Goals as goal
 
 pub index-requires : goal.index-requires
 index-requires c =
-    let gs = c.self.inside.groups.items in
+    let gs = c.self.inside.groups.entries in
     let place : position (eqb c.args.id) (keys_of gs) ≡ Some c.args.place =
     subst (λ (t : TreeState). position (eqb c.args.id) (keys_of t.groups) ≡ Some c.args.place)
     (sym c.self.view_is) c.requires in
@@ -20,7 +20,7 @@ index-requires c =
 
 pub returns : goal.returns
 returns c =
-    let gs = c.self.inside.groups.items in
+    let gs = c.self.inside.groups.entries in
     let place : position (eqb c.args.id) (keys_of gs) ≡ Some c.args.place =
     subst (λ (t : TreeState). position (eqb c.args.id) (keys_of t.groups) ≡ Some c.args.place)
     (sym c.self.view_is) c.requires in

@@ -43,33 +43,33 @@ module _ {t same : TreeState} (equal : same ≡ t) (tree : IsTree same) (i : ℕ
       ∙ ap (row_above same.groups) (sym (up ∙ some))
       ∙ ap (λ (s : TreeState). row_above s.groups x.1.parent) equal
 
-pub index-requires : goal.index-requires
-index-requires c = omega (arith, ap (λ (s : TreeState). length s.groups) c.self.view_is)
+pub entry_at-requires : goal.entry_at-requires
+entry_at-requires c = omega (arith, ap (λ (s : TreeState). length s.groups) c.self.view_is)
 
-pub index-requires-in-Some : goal.index-requires-in-Some
-index-requires-in-Some c =
+pub index-requires : goal.index-requires
+index-requires c =
     omega (
       arith,
       ap (λ (s : TreeState). length s.groups) c.self.view_is,
-      as_many c.self.inside.groups.items c.self.invariant.fronts c.self.inside.nodes.items
+      as_many c.self.inside.groups.entries c.self.invariant.fronts c.self.inside.nodes.items
           c.self.invariant.nodes,
     )
 
 pub returns-in-Some : goal.returns-in-Some
 returns-in-Some c d =
-    let x = c.index.result.now in
-    let up = sym (ap (λ (y : ℕ × GroupFields). y.1.parent) c.behind-self.view_is) in
-    row c.self.view_is c.self.invariant.tree c.args.place x c.index.ensures c.requires
-    c.self.invariant.fronts c.self.inside.nodes.items c.index-in-Some.result.now
-    c.behind-self.inside.0.1.0.parent c.in-Some.field-0 c.self.invariant.nodes
-    c.index-in-Some.ensures up c.in-Some.is
+    let x : ℕ × GroupFields = (c.entry_at.result.0, c.entry_at.result.1.now) in
+    let up = sym (ap (λ (g : GroupFields). g.parent) c.group.view_is) in
+    row c.self.view_is c.self.invariant.tree c.args.place x c.entry_at.ensures c.requires
+    c.self.invariant.fronts c.self.inside.nodes.items c.index.result.now
+    c.group.inside.parent c.in-Some.field-0 c.self.invariant.nodes
+    c.index.ensures up c.in-Some.is
     ∙ ap (λ (y : ℕ × GroupFields). row_above c.args.self.now.groups y.1.parent)
-    (is c.self.view_is c.self.invariant.tree c.args.place x c.index.ensures c.requires d)
+    (is c.self.view_is c.self.invariant.tree c.args.place x c.entry_at.ensures c.requires d)
 
 pub returns-in-None : goal.returns-in-None
 returns-in-None c d =
-    let x = c.index.result.now in
-    let up = sym (ap (λ (y : ℕ × GroupFields). y.1.parent) c.behind-self.view_is) in
+    let x : ℕ × GroupFields = (c.entry_at.result.0, c.entry_at.result.1.now) in
+    let up = sym (ap (λ (g : GroupFields). g.parent) c.group.view_is) in
     sym (ap (row_above c.args.self.now.groups) (up ∙ c.in-None.is))
     ∙ ap (λ (y : ℕ × GroupFields). row_above c.args.self.now.groups y.1.parent)
-    (is c.self.view_is c.self.invariant.tree c.args.place x c.index.ensures c.requires d)
+    (is c.self.view_is c.self.invariant.tree c.args.place x c.entry_at.ensures c.requires d)

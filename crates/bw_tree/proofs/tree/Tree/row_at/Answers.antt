@@ -22,34 +22,34 @@ module _ {t same : TreeState} (equal : same ≡ t) (tree : IsTree same) (i : ℕ
 
 pub quota_slices-quota-requires : goal.quota_slices-quota-requires
 quota_slices-quota-requires c =
-    sound c.self.view_is c.self.invariant.tree c.args.place c.index.result.now c.index.ensures
+    sound c.self.view_is c.self.invariant.tree c.args.place (c.entry_at.result.0, c.entry_at.result.1.now) c.entry_at.ensures
     c.requires
 
 pub period_limit-requires-clause-period : goal.period_limit-requires-clause-period
 period_limit-requires-clause-period c =
     let group = subst IsSound (sym c.group.view_is)
-    (sound c.self.view_is c.self.invariant.tree c.args.place c.index.result.now c.index.ensures
+    (sound c.self.view_is c.self.invariant.tree c.args.place (c.entry_at.result.0, c.entry_at.result.1.now) c.entry_at.ensures
     c.requires) in
     (group.long_period, group.short_period)
 
 pub period_limit-requires-clause-burst : goal.period_limit-requires-clause-burst
 period_limit-requires-clause-burst c =
     (subst IsSound (sym c.group.view_is)
-    (sound c.self.view_is c.self.invariant.tree c.args.place c.index.result.now c.index.ensures
+    (sound c.self.view_is c.self.invariant.tree c.args.place (c.entry_at.result.0, c.entry_at.result.1.now) c.entry_at.ensures
     c.requires)).burst
 
 pub returns-clause-quota : goal.returns-clause-quota
 returns-clause-quota c =
     c.quota_slices-quota.ensures.value
-    ∙ value_at (quota_slices c.args.shape) c.args.self.now.groups c.args.place c.index.result.now
+    ∙ value_at (quota_slices c.args.shape) c.args.self.now.groups c.args.place (c.entry_at.result.0, c.entry_at.result.1.now)
     None c.requires
-    (is c.self.view_is c.self.invariant.tree c.args.place c.index.result.now c.index.ensures
+    (is c.self.view_is c.self.invariant.tree c.args.place (c.entry_at.result.0, c.entry_at.result.1.now) c.entry_at.ensures
     c.requires)
 
 pub returns-clause-row : goal.returns-clause-row
 returns-clause-row c =
     let gs = c.args.self.now.groups in
-    let x = c.index.result.now in
+    let x : ℕ × GroupFields = (c.entry_at.result.0, c.entry_at.result.1.now) in
     let row : Row = record {
       parent = c.parent_row.result;
       weight = c.group.inside.weight;
@@ -58,8 +58,8 @@ returns-clause-row c =
     } in
     let above : c.parent_row.result ≡ row_above gs x.1.parent =
     c.parent_row.ensures x ∙ ap (λ (y : ℕ × GroupFields). row_above gs y.1.parent)
-    (sym (is c.self.view_is c.self.invariant.tree c.args.place x c.index.ensures c.requires)) in
+    (sym (is c.self.view_is c.self.invariant.tree c.args.place x c.entry_at.ensures c.requires)) in
     let made : row ≡ row_of gs c.args.shape x.1 = search rules in
     made
     ∙ value_at (row_of gs c.args.shape) gs c.args.place x no_row c.requires
-    (is c.self.view_is c.self.invariant.tree c.args.place x c.index.ensures c.requires)
+    (is c.self.view_is c.self.invariant.tree c.args.place x c.entry_at.ensures c.requires)

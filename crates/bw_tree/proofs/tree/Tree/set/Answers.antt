@@ -12,7 +12,7 @@ use Rattle.bw_tree.proofs.tree.Tree.set.Goals as goal
 pub invariant_of-self : goal.invariant_of-self
 invariant_of-self c =
     let t : TreeState =
-    record { groups = c.self.inside.groups.items; next = c.self.inside.next_id } in
+    record { groups = c.self.inside.groups.entries; next = c.self.inside.next_id } in
     let s = c.args.setting in
     let can : CanSet t c.args.id = record {
       there = sym c.place_of.ensures.found ∙ ap is_some c.in-Some.is;

@@ -23,7 +23,7 @@ returns-in_err-instance-clause-valid c =
 
 pub returns-clause-distinct : goal.returns-clause-distinct
 returns-clause-distinct c =
-    let keys : keys_of c.self.inside.groups.items ≡ c.in_ok-ids.field-0.ids.items =
+    let keys : keys_of c.self.inside.groups.entries ≡ c.in_ok-ids.field-0.ids.items =
     ap (λ (t : TreeState). keys_of t.groups) c.self.view_is ∙ sym c.in_ok-ids.ensures.ids in
     subst (λ (ids : List ℕ). IsDistinct eqb ids) keys
-    (rising_distinct c.self.inside.groups.items c.self.invariant.tree.rising)
+    (rising_distinct c.self.inside.groups.entries c.self.invariant.tree.rising)
