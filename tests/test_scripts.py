@@ -659,7 +659,7 @@ def test_help_of_build(copy):
     places = re.findall(r"^  ((?:bin|lib|include|share)/\S+)$", out, re.M)
     pages = [place for place in places if place.startswith("share/man/") and "arbiterctl" in place]
     same(len(pages), len(list((ROOT / "share/man").iterdir())), "man pages of arbiterctl in help")
-    same(len(places) - len(pages), 20, "other places in help")
+    same(len(places) - len(pages), 21, "other places in help")
     no_folder = [(words, "needs a folder") for words in (["--install"], ["--install", ""])]
     for words, part in ((["--frob"], "'--frob'"), (["dir"], "'dir'"), *no_folder):
         status, out, err = copy.call(["./build", *words])
