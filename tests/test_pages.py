@@ -299,6 +299,24 @@ CALLS_OF_THE_LOCK = {
     r"\.load::<Front>": ("lock.rt", ["front"]),
 }
 
+# What may stand in the sources of lent seats, with each function that has it, once.
+CALLS_OF_LENT_SEATS = {
+    r"\.park\w*\(": [("sleeping.rt", "sleep")],
+    r"\.wake_\w+\(": [("waking.rt", "rouse")],
+    r"\bspin_loop\(": [("lending.rt", "is_served_soon")],
+    r"\byield_now\(": [],
+    r"\bCount::none\(": [("sleeping.rt", "of")],
+    # the loads that are no steps of a table
+    r"\.peek\(": [("sleeping.rt", "read"), ("steps.rt", "hinted")],
+    r"\.served\(": [("lending.rt", "is_served_soon"), ("sleeping.rt", "look")],
+    r"\(Sighting \{": [("sleeping.rt", "look")],
+    # a wake is owed for each place that is given back, and the words of the table get it
+    r"\bOwed::to\(": [("steps.rt", "give_back")],
+    r"\.rouse\(": [("waking.rt", "wake_first"), ("waking.rt", "wake_all")],
+    r"\bTableBells::of\(": [("helping.rt", "help_one"), ("helping.rt", "help")],
+    r"\bTableWord::of\(": [("lending.rt", "wait_for_place")],
+}
+
 # The loops in the lock's sources. The number of turns of each is in its function's contract, but
 # for a wait, which ends with its turn.
 LOOPS_OF_THE_LOCK = {
@@ -326,10 +344,15 @@ def functions_in(text: str) -> list:
     return [*zip(parts[1::2], parts[2::2])]
 
 
+def code_of(crate: str) -> dict:
+    """The code of each file of a crate, without comments and imports."""
+    return {name: re.sub(r"^ *(?:ghost )?use .*", "", text, flags=re.M)
+            for name, text in sources_of(crate).items()}
+
+
 def sources_of_the_lock() -> dict:
     """The code of each file of bw_ticket, without comments and imports."""
-    return {name: re.sub(r"^ *(?:ghost )?use .*", "", text, flags=re.M)
-            for name, text in sources_of("bw_ticket").items()}
+    return code_of("bw_ticket")
 
 
 def misplaced(calls: dict, sources: dict) -> list:
@@ -342,16 +365,22 @@ def misplaced(calls: dict, sources: dict) -> list:
     return found
 
 
-def calls_of_the_lock(sources: dict) -> list:
-    """The calls of the lock that stand in other functions than they should, or more than once."""
+def calls_elsewhere(calls: dict, sources: dict) -> list:
+    """The calls that stand in other functions than they should, or more than once."""
     found = []
-    for call, (name, functions) in CALLS_OF_THE_LOCK.items():
+    for call, there in calls.items():
         where = [(file, function) for file, text in sources.items()
                  for function, code in functions_in(text) for _ in re.findall(call, code)]
         count = sum(len(re.findall(call, text)) for text in sources.values())
-        if where != [(name, each) for each in functions] or count != len(functions):
+        if where != there or count != len(there):
             found.append(call)
     return found
+
+
+def calls_of_the_lock(sources: dict) -> list:
+    """The calls of the lock that stand in other functions than they should, or more than once."""
+    return calls_elsewhere({call: [(name, each) for each in functions]
+                            for call, (name, functions) in CALLS_OF_THE_LOCK.items()}, sources)
 
 
 def loops_in(text: str) -> list:
@@ -395,6 +424,22 @@ def test_another_call_is_found(call):
     sources = sources_of_the_lock()
     for name in ("steps.rt", "sleeping.rt", "patience.rt"):
         assert len(calls_of_the_lock({**sources, name: sources[name] + call})) == 1
+
+
+def test_calls_of_lent_seats():
+    """PROVED: one function each sleeps, wakes, reads and looks for a lent seat."""
+    same(calls_elsewhere(CALLS_OF_LENT_SEATS, code_of("bw_lend")), [], "calls of lent seats")
+
+
+@pytest.mark.parametrize("call", ["table.park(rt, 2, 1)", "table.wake_all(2)", "yield_now()",
+                                  "table.peek(2)", "lock.served()", "Owed::to(place)",
+                                  "bells.rouse(place)", "TableBells::of(table)"])
+def test_another_call_of_lent_seats_is_found(call):
+    """One call more in any file is found."""
+    sources = code_of("bw_lend")
+    for name in ("helping.rt", "sleeping.rt", "seat.rt"):
+        more = {**sources, name: sources[name] + call}
+        assert len(calls_elsewhere(CALLS_OF_LENT_SEATS, more)) == 1
 
 
 # Where the planner begins a count of its work, splits, and adds counts up.

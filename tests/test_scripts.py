@@ -878,17 +878,17 @@ def test_test_shows_failures(copy):
     same("bw_text proved" in out, False, "what passed")
 
 
-@pytest.mark.parametrize("counted, last", [("may-wait=7 ", "16 passed, 0 failed"),
+@pytest.mark.parametrize("counted, last", [("may-wait=8 ", "16 passed, 0 failed"),
                                            ("may-wait=6 ", "16 passed, 1 failed"),
                                            ("", "16 passed, 1 failed")])
 def test_test_compares_counts(copy, counted, last):
     """crates.txt has as many functions that may wait as the gate counted."""
-    holds("\nbw_ticket may_wait=7:", copy.read("crates.txt"), "crates.txt")
+    holds("\nbw_ticket may_wait=8:", copy.read("crates.txt"), "crates.txt")
     with_gate(copy, "5 passed, 0 failed", "cat; printf '"
               f"logic=proved functions=82 {counted}sum=0\nrt: bw_ticket proved\n'")
     status, out, err = copy.call(["./test"])
     same((status, out.split("\n")[-2]), (int(" 1 " in last), last), f"{out}{err}")
-    same("gate: crates.txt: bw_ticket: may_wait=7, and the gate counted" in out, " 1 " in last)
+    same("gate: crates.txt: bw_ticket: may_wait=8, and the gate counted" in out, " 1 " in last)
 
 
 # The scripts themselves

@@ -1,8 +1,8 @@
 -- What each step on the table of places requires: whatever the table is, the step keeps the rule,
 -- and tells what its play says.
-use Rattle.std.proofs.Common.{◌≡◌, ◌≢◌, ℕ, zero, suc, ◌+◌, ◌%◌, ◌<◌, ◌≤◌, ◌==◌, List, [], ◌∷◌}
+use Rattle.std.proofs.Common.{◌≡◌, ◌≢◌, ℕ, zero, suc, ◌+◌, ◌/◌, ◌%◌, ◌<◌, ◌≤◌, ◌==◌, List, [], ◌∷◌}
 use Rattle.std.proofs.Common.{◌++◌, length, set, slice_index, refl, sym, ap, ◌∙◌, subst, arith}
-use Rattle.std.proofs.Common.{IsSome, None, replicate, if◌then◌else◌, eq-eqb, ne_eqb, ⊎_elim}
+use Rattle.std.proofs.Common.{Bool, true, false, MatchBool, IsSome, None, replicate, if◌then◌else◌, eq-eqb, ne_eqb, ⊎_elim}
 use Rattle.std.proofs.lemmas.List.{length-set, length-replicate}
 use mathlib.Core.Option.{none, some, some-ne-none}
 use lib.ListN.{get_elem?}
@@ -16,17 +16,22 @@ use Rattle.bw_wake.specs.Progress.{one_if}
 use Rattle.bw_machine.proofs.CallerLemmas.{equal_or_not}
 use Rattle.bw_wake.proofs.CallerLemmas.{index_here, index_else}
 use Rattle.bw_lend.specs.declared.stake.Part.{Part}
-use Rattle.bw_lend.specs.declared.stake.Part.TheVariants.{Fresh, Owns, Lends, Helps}
+use Rattle.bw_lend.specs.declared.stake.Part.TheVariants.{Fresh, Owns, Hints, Lends, Helps}
 use Rattle.bw_lend.specs.declared.stake.Stake.{Stake}
 use Rattle.bw_lend.specs.declared.table.Place.TheVariants.{Lent}
-use Rattle.bw_lend.specs.Lent.{Brings, Content}
+use Rattle.bw_lend.specs.Lent.{BringsOf, Content, HasTicket}
 use Rattle.bw_lend.specs.Rule.{weigh, weigh_all, Each, EachIn, stake, stakes_from}
-use Rattle.bw_lend.specs.Rule.{helper_at, owns, helps, Suits, Fits, Ruled}
+use Rattle.bw_lend.specs.Rule.{helper_at, owns, helps, Suits, Fits, Ruled, hint_word, hint_for}
 use Rattle.bw_lend.specs.Plays.{Mine, opened, posted, taken_back, claimed, given_back, hinted}
 use Rattle.bw_lend.specs.Plays.{others, first_one}
 use Rattle.bw_lend.proofs.Lists.{same_one, here_or_else, weigh_set, weigh_snoc, weigh_at, alone}
 use Rattle.bw_lend.proofs.Lists.{each_anything, each_zero, each_with, each_set, each_snoc}
 use Rattle.bw_lend.proofs.Moved.{no_owner, lent_stays, no_helper, fits_now, moved}
+
+-- a place that a helper gives back is at home
+pub is_home : (made : Bool) (n : ℕ) → MatchBool made (n % 8 ≡ 4) (n % 8 ≡ 5) → 3 ≤ n % 8
+is_home true n h = omega arith
+is_home false n h = omega arith
 
 -- a word that is read stays
 same_words : (ws : List ℕ) (i : ℕ) → set ws i (slice_index ws i) ≡ ws
@@ -45,6 +50,7 @@ module _ {S : Type 0} where
       → (place ≡ k → Suits n a part) → helper_at k place part ≡ 0
   no_help k n a home place Fresh suits = refl
   no_help k n a home place Owns suits = refl
+  no_help k n a home place (Hints seat) suits = refl
   no_help k n a home place (Lends seat) suits = refl
   no_help k n a home place (Helps seat) suits =
       ⊎_elim (λ (t : (place ≡ k) × (one_if (place == k) ≡ 1)). let two = (suits t.0).0 in absurd (omega arith))
@@ -107,7 +113,7 @@ module _ (S : Type 0) (lock : TableId) where
 
 module _ {C R : Type 0} (lock : TableId) where
   abbrev Rule : State (Content C R) (List (Stake TableId (Holder C R))) → Type 0
-  Rule s = Ruled Brings lock s
+  Rule s = Ruled BringsOf lock s
 
   -- a step that changes nothing
   unmoved : (s : State (Content C R) (List (Stake TableId (Holder C R)))) (id i : ℕ) (v : List (Stake TableId (Holder C R))) → get_elem? s.views id ≡ some v → Rule s
@@ -138,7 +144,7 @@ module _ {C R : Type 0} (lock : TableId) where
         w,
         takes k got.0,
         got.1,
-        moved Brings lock s r id k n v w r.lent (set s.homes k none) (λ p. owns k p ≡ 0) at lt (λ j ne. refl)
+        moved BringsOf lock s r id k n v w r.lent (set s.homes k none) (λ p. owns k p ≡ 0) at lt (λ j ne. refl)
             (λ j ne. set_else s.homes k j none ne)
             (alone (owns k) s.views id v at (let h = same_one k k refl in omega arith) (r.owners k))
             (λ p free e h. no_owner k (slice_index s.words k) n (r.lent k) (r.lent k)
@@ -152,27 +158,28 @@ module _ {C R : Type 0} (lock : TableId) where
       )
 
   -- what is brought back of one seat and lock is so of the same ones
-  same_brings : (a b : TableId) (g h : Holder C R) (y : Content C R) → a ≡ b → g ≡ h → Brings b h y → Brings a g y
-  same_brings a b g h y e f brings =
-      subst (λ x. Brings x g y) (sym e) (subst (λ x. Brings b x y) (sym f) brings)
+  same_brings : (a b : TableId) (t u : ℕ) (g h : Holder C R) (y : Content C R) → a ≡ b → t ≡ u → g ≡ h
+      → BringsOf b u h y → BringsOf a t g y
+  same_brings a b t u g h y e i f brings = subst (λ x. BringsOf x t g y) (sym e)
+      (subst (λ x. BringsOf b x g y) (sym i) (subst (λ x. BringsOf b u x y) (sym f) brings))
 
   -- step post
   post_at : (slots id : ℕ) (of : TableId) (k n : ℕ) (h : Holder C R) → k < 64 → k < slots → n % 8 ≡ 3
-      → h.lock_id ≡ of → IsSome h.pending
+      → h.lock_id ≡ of → IsSome h.pending → HasTicket h (n / 8)
       → Allows Rule slots id (stake of k Owns ∷ [], (k, Lent h) ∷ []) k (λ _. n)
       (λ _. posted (step slots k n 0 none) (stake of k Owns ∷ [], (k, Lent h) ∷ []) n)
-  post_at slots id of k n h lt in_slots three belongs pending s r sized at small =
+  post_at slots id of k n h lt in_slots three belongs pending has s r sized at small =
       let fit = (r.each id _ at).0 in
       let one : slice_index s.words k % 8 ≡ 1 = fit.suits in
       let v = stake of k Owns ∷ [] in
-      let w = stake of k (Lends h) ∷ [] in
+      let w = stake of k (Hints h) ∷ [] in
       let lent : ℕ → Holder C R = λ j. if j == k then h else r.lent j in
       let here : lent k ≡ h = ap (λ b. if b then h else r.lent k) (eq-eqb k k refl) in
       let there : k < length s.words = omega (arith, r.sized) in (
         w,
         gives,
         tt,
-        moved Brings lock s r id k n v w lent (set s.homes k (some (Lent h))) (λ p. owns k p ≡ 0)
+        moved BringsOf lock s r id k n v w lent (set s.homes k (some (Lent h))) (λ p. owns k p ≡ 0)
             at lt (λ j ne. ap (λ b. if b then h else r.lent j) (ne_eqb j k ne))
             (λ j ne. set_else s.homes k j (some (Lent h)) ne)
             (alone (owns k) s.views id v at (let e = same_one k k refl in omega arith) (r.owners k))
@@ -194,7 +201,8 @@ module _ {C R : Type 0} (lock : TableId) where
             (λ _. (
               Lent h,
               set_here s.homes k (some (Lent h)) (omega (arith, sized)),
-              same_brings lock of (lent k) h (Lent h) (sym fit.serves) here (belongs, pending, refl),
+              same_brings lock of (n / 8) (n / 8) (lent k) h (Lent h) (sym fit.serves) refl here
+                  ((belongs, pending, refl), has),
             )),
         refl,
       )
@@ -218,7 +226,7 @@ module _ {C R : Type 0} (lock : TableId) where
         w,
         takes k got.0,
         got.1,
-        moved Brings lock s r id k n v w r.lent (set s.homes k none) (λ p. owns k p ≡ 0) at lt
+        moved BringsOf lock s r id k n v w r.lent (set s.homes k none) (λ p. owns k p ≡ 0) at lt
             (λ j ne. refl) (λ j ne. set_else s.homes k j none ne)
             (alone (owns k) s.views id v at (let i = same_one k k refl in omega arith) (r.owners k))
             (λ p free i was. no_owner k found n (r.lent k) (r.lent k) (λ two. omega arith) p.place
@@ -235,7 +243,15 @@ module _ {C R : Type 0} (lock : TableId) where
             (λ z. let i : n % 8 ≡ 0 = ap (λ (x : ℕ). x % 8) z in absurd (omega arith))
             (λ three. absurd (omega arith)),
         (
-          (λ _. (got.0, refl, (same_brings of lock h (r.lent k) got.0 fit.serves fit.suits.1 got.2, tt))),
+          (λ _. (
+            got.0,
+            refl,
+            (
+              same_brings of lock (old / 8) (found / 8) h (r.lent k) got.0 fit.serves
+                  (ap (λ (x : ℕ). x / 8) (sym e)) fit.suits.1 got.2,
+              tt,
+            ),
+          )),
           (λ ne. absurd (ne e)),
         ),
       ))
@@ -261,7 +277,7 @@ module _ {C R : Type 0} (lock : TableId) where
         w,
         takes k got.0,
         got.1,
-        moved Brings lock s r id k n v w r.lent (set s.homes k none) (λ p. Unit {0}) at lt
+        moved BringsOf lock s r id k n v w r.lent (set s.homes k none) (λ p. Unit {0}) at lt
             (λ j ne. refl) (λ j ne. set_else s.homes k j none ne)
             (λ j u ne i. each_anything u)
             (λ p free i was. lent_stays found n (r.lent k) three two p.part was) (
@@ -271,7 +287,7 @@ module _ {C R : Type 0} (lock : TableId) where
                 suits = (subst (λ (x : ℕ). x % 8 ≡ 2) (sym (index_here s.words k n there)) two, refl);
               },
               (
-                fits_now Brings lock s.words k n r.lent r.lent (stake of mine Owns) there (λ j ne. refl)
+                fits_now BringsOf lock s.words k n r.lent r.lent (stake of mine Owns) there (λ j ne. refl)
                     (λ i was. lent_stays found n (r.lent k) three two Owns was) fit,
                 tt,
               ),
@@ -289,7 +305,8 @@ module _ {C R : Type 0} (lock : TableId) where
             r.lent k,
             got.0,
             refl,
-            same_brings of lock (r.lent k) (r.lent k) got.0 fit.serves refl got.2,
+            same_brings of lock (old / 8) (found / 8) (r.lent k) (r.lent k) got.0 fit.serves
+                (ap (λ (x : ℕ). x / 8) (sym e)) refl got.2,
             (refl, tt),
           )),
           (λ ne. absurd (ne e)),
@@ -299,7 +316,7 @@ module _ {C R : Type 0} (lock : TableId) where
 
   -- step give back
   give_back_at : (slots id : ℕ) (of : TableId) (k n : ℕ) (h : Holder C R) (z : Content C R) (ps : List (Stake TableId (Holder C R)))
-      (c : List (ℕ × Content C R)) → k < 64 → k < slots → 3 ≤ n % 8 → Brings of h z
+      (c : List (ℕ × Content C R)) → k < 64 → k < slots → 3 ≤ n % 8 → BringsOf of (n / 8) h z
       → Allows Rule slots id (stake of k (Helps h) ∷ ps, (k, z) ∷ c) k (λ _. n)
       (λ _. given_back (step slots k n 0 none) (stake of k (Helps h) ∷ ps, (k, z) ∷ c) n)
   give_back_at slots id of k n h z ps c lt in_slots three brings s r sized at small =
@@ -315,13 +332,13 @@ module _ {C R : Type 0} (lock : TableId) where
         ps,
         gives,
         tt,
-        moved Brings lock s r id k n v ps r.lent (set s.homes k (some z)) (λ p. helps k p ≡ 0) at lt
+        moved BringsOf lock s r id k n v ps r.lent (set s.homes k (some z)) (λ p. helps k p ≡ 0) at lt
             (λ j ne. refl) (λ j ne. set_else s.homes k j (some z) ne)
             (alone (helps k) s.views id v at (omega arith) only)
             (λ p free e was. no_helper k found n (r.lent k) two three p.place p.part e free was)
             (each_with (λ p. helps k p ≡ 0) (Fits lock s.words r.lent)
             (Fits lock (set s.words k n) r.lent) ps
-            (λ p free fit. fits_now Brings lock s.words k n r.lent r.lent p there (λ j ne. refl)
+            (λ p free fit. fits_now BringsOf lock s.words k n r.lent r.lent p there (λ j ne. refl)
             (λ e was. no_helper k found n (r.lent k) two three p.place p.part e free was) fit)
             apart fits.1)
             (λ j. omega arith)
@@ -330,38 +347,57 @@ module _ {C R : Type 0} (lock : TableId) where
             (λ _. (
               z,
               set_here s.homes k (some z) (omega (arith, sized)),
-              same_brings lock of (r.lent k) h z (sym fits.0.serves) (sym fits.0.suits.1) brings,
+              same_brings lock of (n / 8) (n / 8) (r.lent k) h z (sym fits.0.serves) refl
+                  (sym fits.0.suits.1) brings,
             )),
         refl,
       )
 
   -- step hint
-  hint_at : (slots id i n : ℕ) (v : List (Stake TableId (Holder C R))) (c : List (ℕ × Content C R)) → 64 ≤ i
-      → Allows Rule slots id (v, c) i (λ _. n) (λ _. hinted (step slots i n 0 none) (v, c) n)
-  hint_at slots id i n v c hint s r sized at small =
+  hint_at : (slots id : ℕ) (of : TableId) (k t i n : ℕ) (h : Holder C R) → HasTicket h t
+      → i ≡ hint_word t → n ≡ hint_for t k
+      → Allows Rule slots id (stake of k (Hints h) ∷ [], []) i (λ _. n)
+      (λ _. hinted (step slots i n 0 none) (stake of k (Hints h) ∷ [], []) n)
+  hint_at slots id of k t i n h has word value s r sized at small =
+      let v = stake of k (Hints h) ∷ [] in
+      let w = stake of k (Lends h) ∷ [] in
+      let far : 64 ≤ i = omega (arith, word) in
       let apart : (j : ℕ) → j < 64 → slice_index (set s.words i n) j ≡ slice_index s.words j =
       λ j lt. index_else s.words i j n (λ e. omega arith) in
-      let now : Rule record { words = set s.words i n; homes = s.homes; views = s.views } = record {
-        sized = length-set s.words i n ∙ r.sized;
-        lent = r.lent;
-        owners = r.owners;
-        helpers = r.helpers;
-        each = λ j u e. each_with (λ p. Unit {0}) (Fits lock s.words r.lent)
-            (Fits lock (set s.words i n) r.lent) u
-            (λ p t fit. record {
-              serves = fit.serves;
-              within = fit.within;
-              suits = subst (λ x. Suits x (r.lent p.place) p.part) (sym (apart p.place fit.within)) fit.suits;
-            }) (each_anything u) (r.each j u e);
-        unused = λ j lt e. r.unused j lt (sym (apart j lt) ∙ e);
-        home = λ j lt h. r.home j lt (subst (λ (x : ℕ). 3 ≤ x % 8) (apart j lt) h);
-      } in (
-        v,
+      let F = Fits lock s.words r.lent in
+      let G = Fits lock (set s.words i n) r.lent in
+      let fit = (r.each id v at).0 in (
+        w,
         keeps,
         tt,
-        subst (λ vs. Rule record { words = set s.words i n; homes = s.homes; views = vs })
-            (sym (set_again s.views id v at)) now,
-        refl,
+        record {
+          sized = length-set s.words i n ∙ r.sized;
+          lent = r.lent;
+          owners = λ j. let a = weigh_set (owns j) s.views id v w at in let b = r.owners j in
+              omega arith;
+          helpers = λ j. let a = weigh_set (helps j) s.views id v w at in let b = r.helpers j in
+              omega arith;
+          each = each_set F G s.views id w r.each
+              (λ j u ne e all. each_with (λ p. Unit {0}) F G u
+              (λ p _ fits. record {
+                serves = fits.serves;
+                within = fits.within;
+                suits = subst (λ x. Suits x (r.lent p.place) p.part) (sym (apart p.place fits.within))
+                    fits.suits;
+              }) (each_anything u) all) (
+                record {
+                  serves = fit.serves;
+                  within = fit.within;
+                  suits = subst (λ x. Suits x (r.lent k) (Lends h)) (sym (apart k fit.within)) fit.suits;
+                },
+                tt,
+              );
+          unused = λ j lt e. r.unused j lt (sym (apart j lt) ∙ e);
+          home = λ j lt three. let g = r.home j lt
+              (subst (λ (x : ℕ). 3 ≤ x % 8) (apart j lt) three) in
+              (g.0, g.1, subst (λ (x : ℕ). BringsOf lock (x / 8) (r.lent j) g.0) (sym (apart j lt)) g.2);
+        },
+        (refl, ((t, has, word, value), tt)),
       )
 
   -- step split
@@ -411,11 +447,11 @@ module _ {C R : Type 0} (lock : TableId) where
 
   pub may_post : (slots id : ℕ) (of : TableId) (k n : ℕ) (h : Holder C R) (me : Mine C R)
       → me ≡ (stake of k Owns ∷ [], (k, Lent h) ∷ []) → k < 64 → k < slots → n % 8 ≡ 3
-      → h.lock_id ≡ of → IsSome h.pending
+      → h.lock_id ≡ of → IsSome h.pending → HasTicket h (n / 8)
       → Allows Rule slots id me k (λ _. n) (λ _. posted (step slots k n 0 none) me n)
-  may_post slots id of k n h me e lt in_slots three belongs pending =
+  may_post slots id of k n h me e lt in_slots three belongs pending has =
       subst (λ m. Allows Rule slots id m k (λ _. n) (λ _. posted (step slots k n 0 none) m n))
-      (sym e) (post_at slots id of k n h lt in_slots three belongs pending)
+      (sym e) (post_at slots id of k n h lt in_slots three belongs pending has)
 
   pub may_take_back : (slots id : ℕ) (of : TableId) (k old n : ℕ) (h : Holder C R) (me : Mine C R)
       → me ≡ (stake of k (Lends h) ∷ [], []) → k < 64 → 3 ≤ old % 8 → n % 8 ≡ 1
@@ -438,12 +474,15 @@ module _ {C R : Type 0} (lock : TableId) where
   pub may_give_back : (slots id : ℕ) (of : TableId) (k n : ℕ) (h : Holder C R) (z : Content C R)
       (ps : List (Stake TableId (Holder C R))) (c : List (ℕ × Content C R)) (me : Mine C R)
       → me ≡ (stake of k (Helps h) ∷ ps, (k, z) ∷ c) → k < 64 → k < slots → 3 ≤ n % 8
-      → Brings of h z
+      → BringsOf of (n / 8) h z
       → Allows Rule slots id me k (λ _. n) (λ _. given_back (step slots k n 0 none) me n)
   may_give_back slots id of k n h z ps c me e lt in_slots three brings =
       subst (λ m. Allows Rule slots id m k (λ _. n) (λ _. given_back (step slots k n 0 none) m n))
       (sym e) (give_back_at slots id of k n h z ps c lt in_slots three brings)
 
-  pub may_hint : (slots id i n : ℕ) (me : Mine C R) → 64 ≤ i
+  pub may_hint : (slots id : ℕ) (of : TableId) (k t i n : ℕ) (h : Holder C R) (me : Mine C R)
+      → me ≡ (stake of k (Hints h) ∷ [], []) → HasTicket h t → i ≡ hint_word t → n ≡ hint_for t k
       → Allows Rule slots id me i (λ _. n) (λ _. hinted (step slots i n 0 none) me n)
-  may_hint slots id i n me hint = hint_at slots id i n me.0 me.1 hint
+  may_hint slots id of k t i n h me e has word value =
+      subst (λ m. Allows Rule slots id m i (λ _. n) (λ _. hinted (step slots i n 0 none) m n))
+      (sym e) (hint_at slots id of k t i n h has word value)

@@ -1,5 +1,5 @@
 -- A step on the state of one place keeps the rule.
-use Rattle.std.proofs.Common.{◌≡◌, ◌≢◌, ℕ, ◌%◌, ◌<◌, ◌≤◌, List, length, set}
+use Rattle.std.proofs.Common.{◌≡◌, ◌≢◌, ℕ, ◌/◌, ◌%◌, ◌<◌, ◌≤◌, List, length, set}
 use Rattle.std.proofs.Common.{slice_index, refl, sym, ap, ◌∙◌, subst, arith}
 use Rattle.std.proofs.lemmas.List.{length-set}
 use mathlib.Core.Option.{Option, some}
@@ -8,7 +8,7 @@ use Rattle.atomic_table.specs.Seated.{TableId}
 use Rattle.atomic_table.specs.Table.{State}
 use Rattle.bw_wake.proofs.CallerLemmas.{index_here, index_else}
 use Rattle.bw_lend.specs.declared.stake.Part.{Part}
-use Rattle.bw_lend.specs.declared.stake.Part.TheVariants.{Fresh, Owns, Lends, Helps}
+use Rattle.bw_lend.specs.declared.stake.Part.TheVariants.{Fresh, Owns, Hints, Lends, Helps}
 use Rattle.bw_lend.specs.declared.stake.Stake.{Stake}
 use Rattle.bw_lend.specs.Rule.{weigh, weigh_all, Each, owner_at, helper_at, owns, helps, Suits}
 use Rattle.bw_lend.specs.Rule.{Fits, Ruled}
@@ -22,6 +22,8 @@ module _ {S : Type 0} where
       let one = same_one place k e in absurd (omega arith)
   no_owner k old n a b free place Owns e none h =
       let one = same_one place k e in absurd (omega arith)
+  no_owner k old n a b free place (Hints seat) e none h =
+      let one = same_one place k e in absurd (omega arith)
   no_owner k old n a b free place (Lends seat) e none h =
       let one = same_one place k e in absurd (omega arith)
   no_owner k old n a b free place (Helps seat) e none h = absurd (free h.0)
@@ -32,6 +34,7 @@ module _ {S : Type 0} where
   lent_stays old n a home two Fresh h =
       let z : old % 8 ≡ 0 = ap (λ (x : ℕ). x % 8) h in absurd (omega arith)
   lent_stays old n a home two Owns h = absurd (omega arith)
+  lent_stays old n a home two (Hints seat) h = (omega arith, h.1)
   lent_stays old n a home two (Lends seat) h = (omega arith, h.1)
   lent_stays old n a home two (Helps seat) h = let z = h.0 in absurd (omega arith)
 
@@ -41,11 +44,12 @@ module _ {S : Type 0} where
   no_helper k old n a two home place Fresh e none h =
       let z : old % 8 ≡ 0 = ap (λ (x : ℕ). x % 8) h in absurd (omega arith)
   no_helper k old n a two home place Owns e none h = absurd (omega arith)
+  no_helper k old n a two home place (Hints seat) e none h = (omega arith, h.1)
   no_helper k old n a two home place (Lends seat) e none h = (omega arith, h.1)
   no_helper k old n a two home place (Helps seat) e none h =
       let one = same_one place k e in absurd (omega arith)
 
-module _ {S Y : Type 0} (Brings : TableId → S → Y → Type 0) (lock : TableId) where
+module _ {S Y : Type 0} (Brings : TableId → ℕ → S → Y → Type 0) (lock : TableId) where
   -- a stake fits after the state of place k became n, if its part suits that
   pub fits_now : (ws : List ℕ) (k n : ℕ) (lent new : ℕ → S) (p : Stake TableId S) → k < length ws
       → ((j : ℕ) → j ≢ k → new j ≡ lent j)
@@ -76,7 +80,8 @@ module _ {S Y : Type 0} (Brings : TableId → S → Y → Type 0) (lock : TableI
       → ((j : ℕ) → weigh (owns j) w ≡ weigh (owns j) v)
       → ((j : ℕ) → weigh_all (helps j) (set s.views id w) ≤ 1)
       → (n ≡ 0 → (y : Y) × (get_elem? homes k ≡ some (some y)))
-      → (3 ≤ n % 8 → (y : Y) × (get_elem? homes k ≡ some (some y)) × Brings lock (lent k) y)
+      → (3 ≤ n % 8 → (y : Y) × (get_elem? homes k ≡ some (some y))
+      × Brings lock (n / 8) (lent k) y)
       → Ruled Brings lock record {
         words = set s.words k n;
         homes = homes;
@@ -102,9 +107,16 @@ module _ {S Y : Type 0} (Brings : TableId → S → Y → Type 0) (lock : TableI
             (λ j ne lt e. let g = r.unused j lt (sym (index_else s.words k j n ne) ∙ e) in
             (g.0, still j ne ∙ g.1));
         home = here_or_else (λ j. j < 64 → 3 ≤ slice_index (set s.words k n) j % 8
-            → (y : Y) × (get_elem? homes j ≡ some (some y)) × Brings lock (lent j) y) k
-            (λ lt h. full (subst (λ (x : ℕ). 3 ≤ x % 8) (index_here s.words k n there) h))
-            (λ j ne lt h. let g = r.home j lt
-            (subst (λ (x : ℕ). 3 ≤ x % 8) (index_else s.words k j n ne) h) in
-            (g.0, still j ne ∙ g.1, subst (λ x. Brings lock x g.0) (sym (same j ne)) g.2));
+            → (y : Y) × (get_elem? homes j ≡ some (some y))
+            × Brings lock (slice_index (set s.words k n) j / 8) (lent j) y) k
+            (λ lt h. let here = index_here s.words k n there in
+            let g = full (subst (λ (x : ℕ). 3 ≤ x % 8) here h) in
+            (g.0, g.1, subst (λ (x : ℕ). Brings lock (x / 8) (lent k) g.0) (sym here) g.2))
+            (λ j ne lt h. let apart = index_else s.words k j n ne in
+            let g = r.home j lt (subst (λ (x : ℕ). 3 ≤ x % 8) apart h) in (
+              g.0,
+              still j ne ∙ g.1,
+              subst (λ x. Brings lock (slice_index (set s.words k n) j / 8) x g.0) (sym (same j ne))
+                  (subst (λ (x : ℕ). Brings lock (x / 8) (r.lent j) g.0) (sym apart) g.2),
+            ));
       }

@@ -1,8 +1,8 @@
 -- A seat that was lent, and what comes back.
-use Rattle.std.specs.Prelude.{◌≡◌, ◌+◌, ◌≤◌, [], ◌∷◌, ◌++◌, None, IsSome, MatchOption}
+use Rattle.std.specs.Prelude.{◌≡◌, ℕ, ◌+◌, ◌≤◌, [], ◌∷◌, ◌++◌, None, Some, IsSome, MatchOption}
 use Rattle.atomic_table.specs.Seated.{TableId}
 use Rattle.bw_machine.specs.History.{made}
-use Rattle.bw_ticket.specs.Holder.{Holder}
+use Rattle.bw_ticket.specs.Holder.{Holder, ticket_pending}
 use Rattle.bw_ticket.specs.declared.lock.Answer.{Answer}
 use Rattle.bw_lend.specs.declared.table.Place.{Place}
 use Rattle.bw_lend.specs.declared.table.Place.TheVariants.{Empty, Lent, Made}
@@ -32,3 +32,11 @@ module _ {C R : Type 0} where
   abbrev pub Brings : TableId → Holder C R → Content C R → Type 0
   Brings lock lent content =
       (lent.lock_id ≡ lock) × IsSome lent.pending × Returns lent content
+
+  -- the seat has a pending call with this ticket
+  abbrev pub HasTicket : Holder C R → ℕ → Type 0
+  HasTicket seat ticket = ticket_pending seat.pending ≡ Some ticket
+
+  -- the content returns what was lent with this ticket
+  abbrev pub BringsOf : TableId → ℕ → Holder C R → Content C R → Type 0
+  BringsOf lock ticket lent content = Brings lock lent content × HasTicket lent ticket

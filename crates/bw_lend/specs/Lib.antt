@@ -4,6 +4,7 @@ pub mod Rule
 pub mod Plays
 pub mod Parts
 pub mod Bells
+pub mod Waits
 pub mod Crowd
 pub mod CrowdLaws
 pub mod CrowdRounds

@@ -1,13 +1,13 @@
 -- The news that each kind of step on the table of places brings to the seat that makes it.
-use Rattle.std.specs.Prelude.{◌≡◌, ◌≢◌, ℕ, List, [], ◌∷◌, map, drop, take}
+use Rattle.std.specs.Prelude.{◌≡◌, ◌≢◌, ℕ, ◌/◌, List, [], ◌∷◌, map, drop, take}
 use Rattle.atomic_table.specs.Seated.{TableId}
 use Rattle.atomic_table.specs.Table.{Me, Step}
 use Rattle.bw_lend.specs.declared.stake.Part.{Part}
-use Rattle.bw_lend.specs.declared.stake.Part.TheVariants.{Fresh, Owns, Lends, Helps}
+use Rattle.bw_lend.specs.declared.stake.Part.TheVariants.{Fresh, Owns, Hints, Lends, Helps}
 use Rattle.bw_lend.specs.declared.stake.Stake.{Stake}
 use Rattle.bw_lend.specs.declared.table.Place.TheVariants.{Empty, Lent, Made}
-use Rattle.bw_lend.specs.Rule.{Each, stake}
-use Rattle.bw_lend.specs.Lent.{Brings, Content}
+use Rattle.bw_lend.specs.Rule.{Each, stake, hint_word, hint_for}
+use Rattle.bw_lend.specs.Lent.{BringsOf, Content, HasTicket}
 use Rattle.bw_ticket.specs.Holder.{Holder}
 
 module _ {S : Type 0} where
@@ -28,7 +28,7 @@ module _ {C R : Type 0} where
   -- the owner of a place lends the content
   abbrev pub lends : Content C R → Stake TableId (Holder C R) → Stake TableId (Holder C R)
   lends Empty p = p
-  lends (Lent seat) p = with_part (Lends seat) p
+  lends (Lent seat) p = with_part (Hints seat) p
   lends (Made seat answer) p = p
 
   abbrev pub lent_by : List (ℕ × Content C R) → Stake TableId (Holder C R)
@@ -40,35 +40,46 @@ module _ {C R : Type 0} where
   abbrev pub posted : Step (Content C R) → Mine C R → ℕ → Mine C R → Type 0
   posted st m n m' = m' ≡ (map (lent_by m.1) m.0, drop 1 m.1)
 
-  -- the content brings back what a stake of this lock with this part has lent
-  abbrev pub BringsBack : Content C R → TableId → Part (Holder C R) → Type 0
-  BringsBack y lock Fresh = ⊥
-  BringsBack y lock Owns = ⊥
-  BringsBack y lock (Lends lent) = Brings lock lent y
-  BringsBack y lock (Helps lent) = ⊥
+  -- the content brings back what a stake of this lock with this part has lent with this ticket
+  abbrev pub BringsBack : Content C R → TableId → ℕ → Part (Holder C R) → Type 0
+  BringsBack y lock ticket (Lends lent) = BringsOf lock ticket lent y
+  BringsBack y lock ticket _ = ⊥
 
   -- step take back: the owner has its place again, if its state is what was expected
   abbrev pub taken_back : Step (Content C R) → Mine C R → ℕ → Mine C R → Type 0
   taken_back st m n m' = (n ≡ st.first → (y : Content C R)
       × (m' ≡ (map (with_part Owns) m.0, (st.word, y) ∷ m.1))
-      × Each (λ p. BringsBack y p.lock_id p.part) m.0)
+      × Each (λ p. BringsBack y p.lock_id (st.first / 8) p.part) m.0)
       × (n ≢ st.first → m' ≡ m)
 
-  -- step claim: a helper has the place of another seat, if its state is what was expected
+  -- step claim: a helper has the place of another seat, if its state is what was expected. That seat
+  -- has the ticket of the state
   abbrev pub claimed : Step (Content C R) → Mine C R → ℕ → Mine C R → Type 0
   claimed st m n m' = (n ≡ st.first → (lock : TableId) × (lent : Holder C R)
       × (y : Content C R)
       × (m' ≡ (stake lock st.word (Helps lent) ∷ m.0, (st.word, y) ∷ m.1))
-      × Brings lock lent y × Each (λ q. q.lock_id ≡ lock) m.0)
+      × BringsOf lock (st.first / 8) lent y × Each (λ q. q.lock_id ≡ lock) m.0)
       × (n ≢ st.first → m' ≡ m)
 
   -- step give back: the place of another seat goes home
   abbrev pub given_back : Step (Content C R) → Mine C R → ℕ → Mine C R → Type 0
   given_back st m n m' = m' ≡ (drop 1 m.0, drop 1 m.1)
 
-  -- a step on a hint changes nothing
+  -- the owner of a place has stored the hint of the seat that it lent
+  abbrev pub hints : Part (Holder C R) → Part (Holder C R)
+  hints (Hints seat) = Lends seat
+  hints p = p
+
+  -- the store is of the hint of the ticket with which the seat was lent, and names its place
+  abbrev pub IsHinted : Step (Content C R) → ℕ → Part (Holder C R) → Type 0
+  IsHinted st place (Hints seat) = (ticket : ℕ) × HasTicket seat ticket
+      × (st.word ≡ hint_word ticket) × (st.first ≡ hint_for ticket place)
+  IsHinted st place _ = ⊥
+
+  -- step hint, a store of a hint
   abbrev pub hinted : Step (Content C R) → Mine C R → ℕ → Mine C R → Type 0
-  hinted st m n m' = m' ≡ m
+  hinted st m n m' = (m' ≡ (map (λ p. with_part (hints p.part) p) m.0, m.1))
+      × Each (λ p. IsHinted st p.place p.part) m.0
 
 module _ {S : Type 0} where
   -- step split: the first stake goes to the new seat

@@ -1,15 +1,23 @@
 -- The rule of the table of places: what each state says of its place, and which parts seats have in
--- it. The states alone are under it: hints may have any value.
-use Rattle.std.specs.Prelude.{◌≡◌, ℕ, zero, suc, ◌+◌, ◌%◌, ◌<◌, ◌≤◌, ◌==◌, List, [], ◌∷◌, length}
-use Rattle.std.specs.Prelude.{slice_index}
+-- it. A state is a ticket times 8 and a code. The states alone are under the rule: hints may have any
+-- value.
+use Rattle.std.specs.Prelude.{◌≡◌, ℕ, zero, suc, ◌+◌, ◌*◌, ◌/◌, ◌%◌, ◌<◌, ◌≤◌, ◌==◌, List, []}
+use Rattle.std.specs.Prelude.{◌∷◌, length, slice_index}
 use mathlib.Core.Option.{some}
 use lib.ListN.{get_elem?}
 use Rattle.atomic_table.specs.Seated.{TableId}
 use Rattle.atomic_table.specs.Table.{State}
 use Rattle.bw_wake.specs.Progress.{one_if}
 use Rattle.bw_lend.specs.declared.stake.Part.{Part}
-use Rattle.bw_lend.specs.declared.stake.Part.TheVariants.{Fresh, Owns, Lends, Helps}
+use Rattle.bw_lend.specs.declared.stake.Part.TheVariants.{Fresh, Owns, Hints, Lends, Helps}
 use Rattle.bw_lend.specs.declared.stake.Stake.{Stake}
+
+-- the word with the hint of a ticket, and the hint, which names the place of the ticket's seat
+abbrev pub hint_word : ℕ → ℕ
+hint_word ticket = 64 + ticket % 64
+
+abbrev pub hint_for : ℕ → ℕ → ℕ
+hint_for ticket place = ticket * 64 + place
 
 module _ {X : Type 0} where
   -- sums over the members of one list, and of all lists
@@ -38,12 +46,14 @@ module _ {S : Type 0} where
   abbrev pub owner_at : ℕ → ℕ → Part S → ℕ
   owner_at k place Fresh = one_if (place == k)
   owner_at k place Owns = one_if (place == k)
+  owner_at k place (Hints seat) = one_if (place == k)
   owner_at k place (Lends seat) = one_if (place == k)
   owner_at k place (Helps seat) = 0
 
   abbrev pub helper_at : ℕ → ℕ → Part S → ℕ
   helper_at k place Fresh = 0
   helper_at k place Owns = 0
+  helper_at k place (Hints seat) = 0
   helper_at k place (Lends seat) = 0
   helper_at k place (Helps seat) = one_if (place == k)
 
@@ -57,6 +67,7 @@ module _ {S : Type 0} where
   abbrev pub Suits : ℕ → S → Part S → Type 0
   Suits state lent Fresh = state ≡ 0
   Suits state lent Owns = state % 8 ≡ 1
+  Suits state lent (Hints seat) = (2 ≤ state % 8) × (seat ≡ lent)
   Suits state lent (Lends seat) = (2 ≤ state % 8) × (seat ≡ lent)
   Suits state lent (Helps seat) = (state % 8 ≡ 2) × (seat ≡ lent)
 
@@ -73,8 +84,9 @@ pub record Fits {S : Type 0} (lock : TableId) (words : List ℕ) (lent : ℕ →
     pub within : p.place < 64
     pub suits : Suits (slice_index words p.place) (lent p.place) p.part
 
--- The rule. `Brings lock seat content`: the content of a place brings back the seat that was lent.
-pub record Ruled {S Y : Type 0} (Brings : TableId → S → Y → Type 0) (lock : TableId)
+-- The rule. `Brings lock ticket seat content`: the content of a place brings back the seat that was
+-- lent with this ticket.
+pub record Ruled {S Y : Type 0} (Brings : TableId → ℕ → S → Y → Type 0) (lock : TableId)
     (s : State Y (List (Stake TableId S))) : Type 0 where
   pub sized : length s.words ≡ 128
   -- the seat that was lent last through each place
@@ -86,6 +98,8 @@ pub record Ruled {S Y : Type 0} (Brings : TableId → S → Y → Type 0) (lock 
   -- an unused place has its content
   pub unused : (k : ℕ) → k < 64 → slice_index s.words k ≡ 0
       → (y : Y) × (get_elem? s.homes k ≡ some (some y))
-  -- from the code `POSTED` on a place has its content, which brings back what was lent
+  -- from the code `POSTED` on a place has its content, which brings back what was lent with the
+  -- ticket of the state
   pub home : (k : ℕ) → k < 64 → 3 ≤ slice_index s.words k % 8
-      → (y : Y) × (get_elem? s.homes k ≡ some (some y)) × Brings lock (lent k) y
+      → (y : Y) × (get_elem? s.homes k ≡ some (some y))
+      × Brings lock (slice_index s.words k / 8) (lent k) y

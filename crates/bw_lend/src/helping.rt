@@ -2,6 +2,8 @@
 ghost use Rattle.std.specs.Prelude.{◌≡◌, ℕ, ◌<◌, IfSome};
 ghost use Rattle.bw_lend.specs.Lent.{Brings};
 ghost use Rattle.bw_lend.specs.Parts.{IsTable, IsOwner, IsHelper};
+ghost use Rattle.bw_lend.specs.declared.table.TheConstants.{TICKETS};
+ghost use Rattle.bw_ticket.specs.declared.limits.TheConstants.{MAX_TICKETS};
 
 use crate::steps::{claim, give_back, hinted};
 use crate::table::{Content, Place, Shared, Token};
@@ -44,10 +46,12 @@ fn make_at<M: Machine, R: Wait + Clock>(
     makes: bool,
 ) -> bool
     requires table { token.old.table_id ≡ table.now.table_id }
-    requires helper { (before : _) × IsHelper lock.now.lock_id place before token.old.me }
+    requires helper { (ticket : _) × (before : _) ×
+        IsHelper lock.now.lock_id place ticket before token.old.me }
     ensures table { token.new.table_id ≡ token.old.table_id }
-    ensures helper { (before : _) → IsHelper lock.now.lock_id place before token.old.me →
-        IsHelper lock.now.lock_id place before token.new.me }
+    ensures helper { (ticket : _) → (before : _) →
+        IsHelper lock.now.lock_id place ticket before token.old.me →
+        IsHelper lock.now.lock_id place ticket before token.new.me }
 {
     if !makes {
         return false;
@@ -70,6 +74,7 @@ fn help_one<M: Machine, R: Wait + Clock>(
 ) -> Option<Owed>
     requires table { (token.old.table_id ≡ table.now.table_id) × IsTable table.now.table_id }
     requires owner { (mine : _) × IsOwner lock.now.lock_id mine token.old.me }
+    requires small { ticket < TICKETS }
     ensures table { token.new.table_id ≡ token.old.table_id }
     ensures same { token.new.me ≡ token.old.me }
     ensures place { IfSome result (λ owed. owed.place < 64) }
@@ -81,7 +86,7 @@ fn help_one<M: Machine, R: Wait + Clock>(
     let made = make_at(rt, lock, table, token, place, makes);
     let owed = give_back(table, token, place, ticket, made);
     if !made {
-        wake_first(&mut TableBells::of(table), &owed);
+        wake_first(&mut TableBells::of(table), token, place);
     }
     Some(owed)
 }
@@ -96,12 +101,13 @@ fn help_next<M: Machine, R: Wait + Clock>(
 ) -> Owners
     requires table { (token.old.table_id ≡ table.now.table_id) × IsTable table.now.table_id }
     requires owner { (mine : _) × IsOwner lock.now.lock_id mine token.old.me }
+    requires small { served < MAX_TICKETS }
     ensures table { token.new.table_id ≡ token.old.table_id }
     ensures same { token.new.me ≡ token.old.me }
 {
     let mut owners = Owners::none();
     for nth in 0..=MOST_HELPED {
-        let ticket = served.wrapping_add(nth).wrapping_add(1);
+        let ticket = served + nth + 1;
         let makes = nth < MOST_HELPED;
         let Some(owed) = help_one(rt, lock, table, token, ticket, makes) else {
             return owners;
@@ -123,9 +129,10 @@ pub(crate) fn help<M: Machine, R: Wait + Clock>(
 )
     requires table { (token.old.table_id ≡ table.now.table_id) × IsTable table.now.table_id }
     requires owner { (mine : _) × IsOwner lock.now.lock_id mine token.old.me }
+    requires small { served < MAX_TICKETS }
     ensures table { token.new.table_id ≡ token.old.table_id }
     ensures same { token.new.me ≡ token.old.me }
 {
     let owners = help_next(rt, lock, table, token, served);
-    wake_all(&mut TableBells::of(table), owners);
+    wake_all(&mut TableBells::of(table), token, owners);
 }

@@ -1,13 +1,14 @@
 //! The wait of a seat, which lends itself until its call is made.
-ghost use Rattle.std.specs.Prelude.{◌≡◌, ◌%◌, ◌<◌, ◌≤◌, [], ◌∷◌, IsSome, IsTrue};
+ghost use Rattle.std.specs.Prelude.{◌≡◌, ◌<◌, [], ◌∷◌, IsSome};
 ghost use Rattle.bw_lend.specs.declared.stake.Part.TheVariants.{Lends};
 ghost use Rattle.bw_lend.specs.Lent.{IsFinished, Returns};
 ghost use Rattle.bw_lend.specs.Parts.{IsTable, IsOwner};
 ghost use Rattle.bw_lend.specs.Rule.{stake};
 
 use crate::helping::help;
+use crate::sleeping::{PlaceWord, TableWord, may_take_back, sleep_lent};
 use crate::steps::{post, take_back};
-use crate::table::{Content, POSTED, Place, Shared, Token, code_of, low_half};
+use crate::table::{Content, Place, Shared, Token, low_half};
 use bw_machine::Machine;
 use bw_ticket::{Answer, Seat, TicketLock};
 use std::hint::spin_loop;
@@ -37,16 +38,10 @@ fn is_served_soon<M: Machine>(lock: &TicketLock<M>, ticket: u64) -> bool {
     false
 }
 
-// Whether the owner may take its place back: a helper is done with it, or its ticket is served and
-// no helper has come.
-fn may_take_back<M: Machine>(lock: &TicketLock<M>, state: u64, ticket: u64) -> bool
-    ensures { IsTrue result → 3 ≤ state % 8 }
-{
-    let code = code_of(state);
-    code > POSTED || (code == POSTED && lock.served() == ticket)
-}
-
 // Waits until the place can be taken back, and takes it.
+//
+// Each turn reads the state of the place. While nobody has claimed the seat, it then looks whether
+// its ticket is served: no other seat wakes it for that. It sleeps only if that look was in vain.
 fn wait_for_place<M: Machine, R: Wait>(
     rt: &R,
     lock: &TicketLock<M>,
@@ -65,9 +60,10 @@ fn wait_for_place<M: Machine, R: Wait>(
     ensures back { Returns lent.now.value result }
 {
     for _ in rt.forever() {
-        let state = table.peek(place);
-        if !may_take_back(lock, state, ticket) {
-            table.park(rt, place, low_half(state));
+        let mut word = TableWord::of(table, place);
+        let state = word.read();
+        if !may_take_back(&mut word, lock, state, ticket) {
+            sleep_lent(rt, &mut word, low_half(state), ticket);
         } else if let Some(content) = take_back(table, token, place, lent, state) {
             return content;
         }
@@ -84,6 +80,8 @@ pub(crate) fn is_soon<M: Machine>(lock: &TicketLock<M>, seat: &Seat<M>) -> bool 
 }
 
 /// Makes the seat's own call, and then helps the next ones.
+///
+/// If the next ticket is not drawn yet, its seat is lent nowhere. It will find its ticket served.
 pub(crate) fn finish_and_help<M: Machine, R: Wait + Clock>(
     rt: &R,
     lock: &TicketLock<M>,
@@ -99,7 +97,10 @@ pub(crate) fn finish_and_help<M: Machine, R: Wait + Clock>(
     ensures same { token.new.me ≡ token.old.me }
     ensures finished { IsFinished seat.old result seat.new }
 {
-    let answer = seat.finish(rt, lock);
+    let (answer, followed) = seat.finish_and_look(rt, lock);
+    if !followed {
+        return answer;
+    }
     help(rt, lock, table, token, answer.at);
     answer
 }

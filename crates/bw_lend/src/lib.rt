@@ -13,6 +13,7 @@ mod helping;
 mod lending;
 mod plays;
 mod seat;
+mod sleeping;
 mod stake;
 mod steps;
 mod table;
@@ -23,4 +24,4 @@ pub use crowd_laws::{
     no_lent_seat_is_stuck, no_lent_wake_is_lost, only_the_served_ticket_is_inside,
     seventeen_rounds_raise_serving,
 };
-pub use seat::{LendingSeat, lend};
+pub use seat::{LendingSeat, lend, take_home};

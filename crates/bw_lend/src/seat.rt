@@ -69,8 +69,7 @@ impl<M: Machine> LendingSeat<M> {
         }
     }
 
-    /// The seat of the lock.
-    pub fn into_seat(self) -> Seat<M>
+    fn into_seat(self) -> Seat<M>
         ensures { result ≡ self }
     {
         let LendingSeat {
@@ -258,8 +257,11 @@ fn lend_one<M: Machine>(
     Ok(LendingSeat::of(seat, places, token, place))
 }
 
-/// Makes seats of one lock lend themselves to one another. Each keeps its number, its calls and its
-/// ticket. No later call allocates.
+/// Makes all seats of a lock lend themselves to one another. Each keeps its number, its calls and
+/// its ticket. No later call but [`take_home`] allocates.
+///
+/// A lent seat sleeps until one that leaves wakes it, and only a seat of the same table does. So no
+/// seat of the lock may be left out.
 ///
 /// # Errors
 ///
@@ -270,6 +272,7 @@ pub fn lend<M: Machine>(
     seats: Vec<Seat<M>>,
 ) -> Result<Vec<LendingSeat<M>>, AllocError>
     requires lock { All (λ s. s.lock_id ≡ lock.now.lock_id) seats.items }
+    requires all { length seats.items ≡ lock.now.seats }
     requires few { length seats.items ≤ MAX_SEATS }
     ensures { IfOk result (λ v. v.items ≡ seats.items) }
 {
@@ -282,4 +285,27 @@ pub fn lend<M: Machine>(
         lending.push_reserved(seat);
     }
     Ok(lending)
+}
+
+/// The seats of a lock, which no longer lend themselves. All go at once: a seat of the lock's own
+/// would wake no lent one.
+///
+/// # Errors
+///
+/// - [`AllocError`]: the seats are dropped.
+pub fn take_home<M: Machine>(
+    alloc: Global,
+    lock: &TicketLock<M>,
+    seats: Vec<LendingSeat<M>>,
+) -> Result<Vec<Seat<M>>, AllocError>
+    requires lock { All (λ s. s.lock_id ≡ lock.now.lock_id) seats.items }
+    requires all { length seats.items ≡ lock.now.seats }
+    ensures { IfOk result (λ v. v.items ≡ seats.items) }
+{
+    let _ = lock;
+    let mut home = Vec::with_capacity(alloc, seats.len())?;
+    for seat in seats {
+        home.push_reserved(seat.into_seat());
+    }
+    Ok(home)
 }

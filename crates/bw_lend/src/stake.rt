@@ -11,7 +11,9 @@ pub enum Part<S> {
     Fresh,
     /// It owns the place, and has it.
     Owns,
-    /// It owns the place, and has lent this seat of the lock through it.
+    /// It owns the place, has lent this seat of the lock through it, and has yet to store its hint.
+    Hints(S),
+    /// It owns the place, has lent this seat of the lock through it, and has stored its hint.
     Lends(S),
     /// It has the place of another one, which has lent this seat of the lock.
     Helps(S),

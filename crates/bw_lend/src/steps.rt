@@ -2,13 +2,14 @@
 ghost use Rattle.std.specs.Prelude.{◌≡◌, ◌%◌, ◌<◌, ◌≤◌, [], ◌∷◌, drop, ℕ};
 ghost use Rattle.std.specs.Prelude.{IsSome, IfSome, IfNone, MatchBool};
 ghost use Rattle.bw_lend.specs.declared.stake.Part.TheVariants.{Owns, Lends, Helps, Fresh};
-ghost use Rattle.bw_lend.specs.Lent.{Brings, Returns};
+ghost use Rattle.bw_lend.specs.Lent.{HasTicket, Returns};
 ghost use Rattle.bw_lend.specs.Rule.{stake};
 ghost use Rattle.bw_lend.specs.Parts.{IsTable, IsOwner, IsHelper};
+ghost use Rattle.bw_lend.specs.declared.table.TheConstants.{TICKETS};
 
 use crate::plays::{Claim, GiveBack, Hint, Open, Post, TakeBack};
 use crate::table::{
-    AWAY, CLAIMED, Content, POSTED, Place, Shared, Token, hint_of, hint_word, hinted_place,
+    AWAY, CLAIMED, Content, POSTED, Place, Shared, Token, hint_of, hint_word_of, hinted_place,
     returned_state, state_of,
 };
 use crate::waking::Owed;
@@ -39,12 +40,14 @@ pub(crate) fn post<M: Machine>(
     requires owner { IsOwner seat.lock_id place token.old.me }
     requires place { place < 64 }
     requires pending { IsSome seat.pending }
+    requires ticket { HasTicket seat ticket }
+    requires small { ticket < TICKETS }
     ensures table { token.new.table_id ≡ token.old.table_id }
     ensures lent { token.new.me ≡ (stake seat.lock_id place (Lends seat) ∷ [], []) }
 {
     let _empty = table.exchange(token, place, Place::Lent(seat));
     table.store::<Post>(token, place, state_of(ticket, POSTED));
-    table.store::<Hint>(token, hint_word(ticket), hint_of(ticket, place));
+    table.store::<Hint>(token, hint_word_of(ticket), hint_of(ticket, place));
 }
 
 /// Takes the place back, where this seat is lent, if its state is still this one.
@@ -73,7 +76,7 @@ pub(crate) fn take_back<M: Machine>(
     Some(table.exchange(token, place, Place::Empty))
 }
 
-/// Takes the place where the seat of the ticket is lent, if it is.
+/// Takes the place if the seat of this ticket is lent there.
 pub(crate) fn claim<M: Machine>(
     lock: &TicketLock<M>,
     table: &Shared<M>,
@@ -84,9 +87,10 @@ pub(crate) fn claim<M: Machine>(
     requires table { (token.old.table_id ≡ table.now.table_id) × IsTable table.now.table_id }
     requires owner { (mine : _) × IsOwner lock.now.lock_id mine token.old.me }
     requires place { place < 64 }
+    requires small { ticket < TICKETS }
     ensures table { token.new.table_id ≡ token.old.table_id }
     ensures claimed { MatchBool result
-        (IsHelper lock.now.lock_id place token.old.me token.new.me)
+        (IsHelper lock.now.lock_id place ticket token.old.me token.new.me)
         (token.new.me ≡ token.old.me) }
 {
     let posted = state_of(ticket, POSTED);
@@ -103,8 +107,9 @@ pub(crate) fn give_back<M: Machine>(
     made: bool,
 ) -> Owed
     requires table { (token.old.table_id ≡ table.now.table_id) × IsTable table.now.table_id }
-    requires helper { (lock : _) × (before : _) × IsHelper lock place before token.old.me }
+    requires helper { (lock : _) × (before : _) × IsHelper lock place ticket before token.old.me }
     requires place { place < 64 }
+    requires small { ticket < TICKETS }
     ensures table { token.new.table_id ≡ token.old.table_id }
     ensures back { token.new.me ≡ (drop 1 token.old.me.0, drop 1 token.old.me.1) }
     ensures owed { result.place ≡ place }
@@ -118,5 +123,5 @@ pub(crate) fn hinted<M: Machine>(table: &Shared<M>, ticket: u64) -> Option<usize
     requires { IsTable table.now.table_id }
     ensures { IfSome result (λ place. place < 64) }
 {
-    hinted_place(table.peek(hint_word(ticket)), ticket)
+    hinted_place(table.peek(hint_word_of(ticket)), ticket)
 }

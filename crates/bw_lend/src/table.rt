@@ -1,9 +1,11 @@
 //! The table of places. Each seat of a lock owns one of the 64 places.
 //!
 //! Word k is the state of place k, and slot k its content. A state has a ticket and one of six
-//! codes. The other 64 words are hints: the hint of a ticket names the place where its seat is
+//! codes. The ticket is that of the seat that was lent. The other 64 words are hints: the hint of a ticket names the place where its seat is
 //! lent. Any value of a hint is safe.
-ghost use Rattle.std.specs.Prelude.{◌≡◌, ◌+◌, ◌%◌, ◌<◌, ◌≤◌, IfSome};
+ghost use Rattle.std.specs.Prelude.{◌≡◌, ◌≢◌, ◌/◌, ◌%◌, ◌^◌, ◌<◌, IfSome, IfNone, MatchBool};
+ghost use Rattle.bw_lend.specs.Rule.{hint_word, hint_for};
+ghost use Rattle.bw_lend.specs.declared.table.TheConstants.{TICKETS, DONE, BACK};
 
 use crate::stake::View;
 use atomic_table::TableRule;
@@ -37,9 +39,9 @@ pub const BACK: u64 = 5;
 // Number of codes that fit beside a ticket.
 const CODES: u64 = 8;
 
-// More than all tickets of a lock, so that a ticket and a code fit into the half of a word that a
-// sleep compares.
-const TICKETS: u64 = 1 << 28;
+/// Bound of the tickets that a word has room for: a ticket and a code fit into the half of a word
+/// that a sleep compares.
+pub const TICKETS: u64 = 1 << 28;
 
 /// The content of a place.
 #[derive(Drop)]
@@ -76,24 +78,29 @@ pub struct Lending;
 impl<M: Machine> TableRule<Place<Seat<M>, Answer<M::Reply>>, View<M>, Snapshot<TicketLock<M>>>
     for Lending {
     ghost use Rattle.bw_lend.specs.Rule.{Ruled, stakes_from};
-    ghost use Rattle.bw_lend.specs.Lent.{Brings};
+    ghost use Rattle.bw_lend.specs.Lent.{BringsOf};
 
-    ghost holds = { λ about s. Ruled Brings about.value.lock_id s };
+    ghost holds = { λ about s. Ruled BringsOf about.value.lock_id s };
 
     ghost first = { λ about. stakes_from about.value.lock_id 0 64 };
 }
 
-/// The state of a place with this ticket and code.
+/// The state of a place with this ticket and code. A sleep compares it whole.
 pub fn state_of(ticket: u64, code: u64) -> u64
-    requires { code < 8 }
-    ensures { result % 8 ≡ code }
+    requires ticket { ticket < TICKETS }
+    requires code { code < 8 }
+    ensures ticket { result / 8 ≡ ticket }
+    ensures code { result % 8 ≡ code }
+    ensures half { result < 2 ^ 32 }
 {
-    ticket % TICKETS * CODES + code
+    ticket * CODES + code
 }
 
 /// The state of a place that a helper gives back, with the seat's call made or not.
 pub fn returned_state(ticket: u64, made: bool) -> u64
-    ensures { 3 ≤ result % 8 }
+    requires ticket { ticket < TICKETS }
+    ensures ticket { result / 8 ≡ ticket }
+    ensures code { MatchBool made (result % 8 ≡ DONE) (result % 8 ≡ BACK) }
 {
     if made {
         state_of(ticket, DONE)
@@ -110,13 +117,15 @@ pub fn code_of(state: u64) -> u64
 }
 
 /// The half of a state that a sleep compares.
-pub fn low_half(state: u64) -> u32 {
+pub fn low_half(state: u64) -> u32
+    ensures { result ≡ state % 2 ^ 32 }
+{
     (state % (1 << 32)) as u32
 }
 
 /// The index of the hint of a ticket.
-pub fn hint_word(ticket: u64) -> usize
-    ensures hint { 64 ≤ result }
+pub fn hint_word_of(ticket: u64) -> usize
+    ensures word { result ≡ hint_word ticket }
     ensures range { result < 128 }
 {
     PLACES + (ticket % PLACES as u64) as usize
@@ -124,16 +133,19 @@ pub fn hint_word(ticket: u64) -> usize
 
 /// The hint that the seat with this ticket is lent in this place.
 pub fn hint_of(ticket: u64, place: usize) -> u64
-    requires { place < 64 }
+    requires ticket { ticket < TICKETS }
+    requires place { place < 64 }
+    ensures { result ≡ hint_for ticket place }
 {
-    ticket % TICKETS * PLACES as u64 + place as u64
+    ticket * PLACES as u64 + place as u64
 }
 
-/// The place that a hint names, if it is a hint of the ticket.
+/// The place that a hint names, if and only if it is a hint of the ticket.
 pub fn hinted_place(hint: u64, ticket: u64) -> Option<usize>
-    ensures { IfSome result (λ place. place < 64) }
+    ensures some { IfSome result (λ place. (place < 64) × (hint ≡ hint_for ticket place)) }
+    ensures none { IfNone result (hint / 64 ≢ ticket) }
 {
-    if hint / PLACES as u64 != ticket % TICKETS {
+    if hint / PLACES as u64 != ticket {
         return None;
     }
     Some((hint % PLACES as u64) as usize)

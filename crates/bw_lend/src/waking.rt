@@ -5,8 +5,9 @@
 //! [`wake_all`]. That is proved of any [`Bells`], where only its own calls count an owner as woken.
 ghost use Rattle.std.specs.Prelude.{◌≡◌, ℕ, ◌<◌, MatchBool};
 ghost use Rattle.bw_lend.specs.Bells.{IsIn, IsWith, AreIn};
+ghost use Rattle.bw_lend.specs.Parts.{IsOwner};
 
-use crate::table::{PLACES, Shared};
+use crate::table::{PLACES, Shared, Token};
 use bw_machine::Machine;
 
 /// A wake that is owed to the owner of this place. It is not `Drop`.
@@ -75,14 +76,18 @@ impl Owed {
     }
 }
 
-/// Wakes the owner at once. It is woken once more with all.
-pub(crate) fn wake_first<B: Bells>(bells: &mut B, owed: &Owed)
+/// Wakes the owner of a place at once. It is woken once more with all.
+///
+/// The seat must have no place but its own: the other one is back.
+pub(crate) fn wake_first<M: Machine, B: Bells>(bells: &mut B, token: &Token<M>, place: usize)
     requires exists { B.exists bells.old }
-    requires place { owed.now.place < 64 }
+    requires free { (lock : _) × (mine : _) × IsOwner lock mine token.now.me }
+    requires place { place < 64 }
     ensures exists { B.exists bells.new }
-    ensures made { IsWith (B.woken bells.old) owed.now.place (B.woken bells.new) }
+    ensures made { IsWith (B.woken bells.old) place (B.woken bells.new) }
 {
-    bells.rouse(owed.place);
+    let _ = token;
+    bells.rouse(place);
 }
 
 impl Owners {
@@ -114,12 +119,16 @@ impl Owners {
 }
 
 /// Wakes all of them. Most visits have none.
-pub(crate) fn wake_all<B: Bells>(bells: &mut B, owners: Owners)
+///
+/// The seat must have no place but its own: the others are back.
+pub(crate) fn wake_all<M: Machine, B: Bells>(bells: &mut B, token: &Token<M>, owners: Owners)
     requires exists { B.exists bells.old }
+    requires free { (lock : _) × (mine : _) × IsOwner lock mine token.now.me }
     requires none { B.woken bells.old ≡ 0 }
     ensures exists { B.exists bells.new }
     ensures woken { AreIn owners.set 64 (B.woken bells.new) }
 {
+    let _ = token;
     if owners.set != 0 {
         for place in 0..PLACES {
             if owners.has(place) {

@@ -1,10 +1,10 @@
 //! Seats that lend themselves, called from more threads than a machine has processors.
 //! A case with a failed allocation is run once more, so it passes with any one allocation failing.
-ghost use Rattle.std.specs.Prelude.{◌≡◌, All, None, IfOk};
+ghost use Rattle.std.specs.Prelude.{◌≡◌, All, None, IfOk, length};
 
 use crate::counter::{Add, Counter};
-use bw_lend::{LendingSeat, lend};
-use bw_ticket::{Answer, Closed, Seat, TicketLock, close, open};
+use bw_lend::{LendingSeat, lend, take_home};
+use bw_ticket::{Answer, Closed, TicketLock, close, open};
 use crossbeam_utils::atomic::AtomicCell;
 use std::alloc::{AllocError, Global};
 use std::process::Abort;
@@ -23,7 +23,7 @@ fn call_all<R: Wait + Clock>(
     lock: &TicketLock<Counter>,
     mut seat: LendingSeat<Counter>,
     wrong: &AtomicCell<bool>,
-) -> Seat<Counter>
+) -> LendingSeat<Counter>
     requires { (seat.lock_id ≡ lock.now.lock_id) × (seat.pending ≡ None) }
     ensures { (result.lock_id ≡ lock.now.lock_id) × (result.pending ≡ None) }
 {
@@ -37,7 +37,7 @@ fn call_all<R: Wait + Clock>(
             Err(_) => wrong.store(true),
         }
     }
-    seat.into_seat()
+    seat
 }
 
 fn call_all_at_once<R: Threads + Wait + Clock + Sync>(
@@ -45,16 +45,17 @@ fn call_all_at_once<R: Threads + Wait + Clock + Sync>(
     lock: &TicketLock<Counter>,
     seats: Vec<LendingSeat<Counter>>,
     wrong: &AtomicCell<bool>,
-) -> Result<Vec<Seat<Counter>>, AllocError>
+) -> Result<Vec<LendingSeat<Counter>>, AllocError>
     requires { All (λ s. s.lock_id ≡ lock.now.lock_id) seats.items ×
         All (λ s. s.pending ≡ None) seats.items }
-    ensures { IfOk result (λ v. All (λ s. s.lock_id ≡ lock.now.lock_id) v.items ×
+    ensures { IfOk result (λ v. (length v.items ≡ length seats.items) ×
+        All (λ s. s.lock_id ≡ lock.now.lock_id) v.items ×
         All (λ s. s.pending ≡ None) v.items) }
 {
     map_vec(
         rt,
         seats,
-        &|seat: LendingSeat<Counter>| -> Seat<Counter>
+        &|seat: LendingSeat<Counter>| -> LendingSeat<Counter>
             requires { (seat.lock_id ≡ lock.now.lock_id) × (seat.pending ≡ None) }
             ensures { (result.lock_id ≡ lock.entry.now.lock_id) × (result.pending ≡ None) }
         { call_all(rt, lock, seat, wrong) },
@@ -71,6 +72,7 @@ fn crowd_once<R: Threads + Wait + Clock + Abort + Sync>(
     let seats = lend(alloc, &lock, seats)?;
     let wrong = AtomicCell::new(false);
     let seats = call_all_at_once(rt, &lock, seats, &wrong)?;
+    let seats = take_home(alloc, &lock, seats)?;
     assert!(rt; !wrong.load());
     let Ok(Closed { machine, history }) = close(lock, seats) else {
         panic!(rt; "not closed")

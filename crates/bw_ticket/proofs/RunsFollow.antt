@@ -119,7 +119,7 @@ at_start M C R seats calls le few = record {
   long = refl;
   left = let h = all_left M C R 0 seats calls in omega arith;
   fits = words_below MAX_SEATS;
-  bound = few_calls seats calls le few;
+  bound = let h = few_calls seats calls le few in omega arith;
 }
 
 not_lost : (s : WaitState) → Sound s → NoWakeIsLostIn s

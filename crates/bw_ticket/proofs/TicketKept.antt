@@ -32,7 +32,7 @@ module _ {M C R : Type 0} (after : M → ℕ → C → M) (answer : M → ℕ �
         homes =
             s.homes;
         views = set s.views id (waiting (slice_index s.words 0) p ∷ []);
-      }
+      } × (slice_index s.words 0 < 2 ^ 22)
   ticket_keeps id p s idle some_left at r =
       let n : ℕ = slice_index s.words 0 in let q = waiting n p in
       let moved = λ (g : SeatView M C R → ℕ). weigh_set g s.views id (p ∷ []) (q ∷ []) at in
@@ -93,4 +93,5 @@ module _ {M C R : Type 0} (after : M → ℕ → C → M) (answer : M → ℕ �
           home = r.home;
           away = r.away;
         },
+        omega arith,
       )

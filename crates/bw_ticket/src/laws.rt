@@ -1,9 +1,9 @@
 //! Laws of the lock: each is the contract of a function that does nothing.
-ghost use Rattle.std.specs.Prelude.{◌≡◌};
+ghost use Rattle.std.specs.Prelude.{◌≡◌, ◌^◌};
 ghost use Rattle.bw_ticket.specs.Follows.{StepsAreEvents};
 ghost use Rattle.bw_ticket.specs.UnderWay.{NoWakeIsLostInLock};
 
-use crate::limits::{MAX_CALLS, MAX_SEATS, MOST_AWAKE};
+use crate::limits::{MAX_CALLS, MAX_SEATS, MAX_TICKETS, MOST_AWAKE};
 use bw_machine::Machine;
 
 /// Each step of a waiting or leaving seat is the event of the waiting protocol of `bw_wake` that
@@ -27,10 +27,11 @@ pub fn no_wake_is_lost<M: Machine>()
     ensures { NoWakeIsLostInLock M.after M.answer }
 {}
 
-/// The limits of a lock: 64 seats, 65536 calls of each, and 42043 looks, spins and yields of a
-/// waiting seat between two sleeps. The definitions read the first two from the code.
+/// The limits of a lock: 64 seats, 65536 calls of each, so 4194304 tickets, and 42043 looks, spins
+/// and yields of a waiting seat between two sleeps. The definitions read the first two from the code.
 pub fn lock_numbers()
     ensures seats { MAX_SEATS ≡ 64 }
     ensures calls { MAX_CALLS ≡ 65536 }
+    ensures tickets { MAX_TICKETS ≡ 2 ^ 22 }
     ensures awake { MOST_AWAKE ≡ 42043 }
 {}

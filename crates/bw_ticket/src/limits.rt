@@ -6,6 +6,9 @@ pub const MAX_SEATS: u32 = 64;
 /// Greatest number of calls of a seat.
 pub const MAX_CALLS: u32 = 65536;
 
+/// Greatest number of tickets of a lock. Each ticket is below it.
+pub const MAX_TICKETS: u64 = MAX_SEATS as u64 * MAX_CALLS as u64;
+
 /// Greatest number of looks of a seat whose ticket is served soon, before it sleeps.
 pub const LOOKS: u64 = 1000;
 

@@ -7,7 +7,7 @@ ghost use Rattle.bw_workers.specs.Working.{Asks, calls_of};
 use crate::gate::Gate;
 use bw_lend::LendingSeat;
 use bw_pool::{PoolCall, PoolReply, SlicePool};
-use bw_ticket::{Seat, TicketLock};
+use bw_ticket::TicketLock;
 use std::rt::Clock;
 use std::sync::Wait;
 
@@ -130,7 +130,7 @@ impl<'a, G: Gate> Draws<'a, G> {
     }
 
     /// The seat, with all its calls.
-    pub(crate) fn into_seat(self) -> Seat<SlicePool>
+    pub(crate) fn into_seat(self) -> LendingSeat<SlicePool>
         ensures { result ≡ self.entry.seat }
     {
         let Draws {
@@ -138,6 +138,6 @@ impl<'a, G: Gate> Draws<'a, G> {
             gate: _,
             nth: _,
         } = self;
-        seat.into_seat()
+        seat
     }
 }

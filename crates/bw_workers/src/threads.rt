@@ -7,7 +7,7 @@ ghost use Rattle.bw_workers.specs.Serving.{IsReady, AreReady, AreBack};
 use crate::fault::ServeFault;
 use crate::gate::Gate;
 use crate::worker::work;
-use bw_lend::LendingSeat;
+use bw_lend::{LendingSeat, take_home};
 use bw_model::Instance;
 use bw_model::limits::MAX_GROUPS;
 use bw_pool::SlicePool;
@@ -27,7 +27,7 @@ struct WorkerPromise<'a, G: Gate> {
     number: u32,
 }
 
-impl<'a, G: Gate> Promise<Seat<SlicePool>> for WorkerPromise<'a, G> {
+impl<'a, G: Gate> Promise<LendingSeat<SlicePool>> for WorkerPromise<'a, G> {
     ghost use Rattle.bw_model.specs.Host.{slices_per_processor};
     ghost use Rattle.bw_workers.specs.Working.{IsDrainedSeat};
 
@@ -64,7 +64,7 @@ fn at_once<G: Gate, R: Threads + Wait + Clock + Sync>(
     instance: &Instance,
     leaves: &[u32],
     gate: &G,
-) -> Result<Vec<Seat<SlicePool>>, ServeFault>
+) -> Result<Vec<LendingSeat<SlicePool>>, ServeFault>
     requires ready { AreReady lock.now.lock_id
         (slices_per_processor instance.now.shape + 2 * length leaves.now) seats.items }
     requires leaves { IsLeaves instance.now.rows leaves.now }
@@ -76,7 +76,7 @@ fn at_once<G: Gate, R: Threads + Wait + Clock + Sync>(
     thread::scope(
         thread::scope_env(),
         rt,
-        |scope| -> Result<Vec<Seat<SlicePool>>, ServeFault>
+        |scope| -> Result<Vec<LendingSeat<SlicePool>>, ServeFault>
             requires ready { AreReady lock.now.lock_id
                 (slices_per_processor instance.now.shape + 2 * length leaves.now) seats.items }
             requires leaves { IsLeaves instance.now.rows leaves.now }
@@ -91,7 +91,7 @@ fn at_once<G: Gate, R: Threads + Wait + Clock + Sync>(
             for seat in seats {
                 let mine = Vec::from_slice(alloc, leaves)?;
                 let promise = promise_of(lock, instance, gate, &seat);
-                let run = move || -> Seat<SlicePool>
+                let run = move || -> LendingSeat<SlicePool>
                     requires { IsReady lock.now.lock_id
                         (slices_per_processor instance.now.shape + 2 * length mine.items)
                         seat.number seat ×
@@ -122,7 +122,7 @@ fn worked<G: Gate, R: Wait + Clock>(
     instance: &Instance,
     leaves: &[u32],
     gate: &G,
-) -> Result<Seat<SlicePool>, ServeFault>
+) -> Result<LendingSeat<SlicePool>, ServeFault>
     requires ready { IsReady lock.now.lock_id
         (slices_per_processor instance.now.shape + 2 * length leaves.now) seat.number seat }
     requires leaves { IsLeaves instance.now.rows leaves.now }
@@ -143,7 +143,7 @@ fn in_this_thread<G: Gate, R: Wait + Clock>(
     instance: &Instance,
     leaves: &[u32],
     gate: &G,
-) -> Result<Vec<Seat<SlicePool>>, ServeFault>
+) -> Result<Vec<LendingSeat<SlicePool>>, ServeFault>
     requires ready { AreReady lock.now.lock_id
         (slices_per_processor instance.now.shape + 2 * length leaves.now) seats.items }
     requires leaves { IsLeaves instance.now.rows leaves.now }
@@ -161,9 +161,8 @@ fn in_this_thread<G: Gate, R: Wait + Clock>(
     Ok(done)
 }
 
-/// Works all seats at once, each in a thread of its own, and returns them once all workers have
-/// ended. An only one is worked in the calling thread.
-pub(crate) fn run_workers<G: Gate, R: Threads + Wait + Clock + Sync>(
+// Works all seats, each in a thread of its own. An only one is worked in the calling thread.
+fn work_all<G: Gate, R: Threads + Wait + Clock + Sync>(
     rt: &R,
     alloc: Global,
     lock: &TicketLock<SlicePool>,
@@ -171,7 +170,7 @@ pub(crate) fn run_workers<G: Gate, R: Threads + Wait + Clock + Sync>(
     instance: &Instance,
     leaves: &[u32],
     gate: &G,
-) -> Result<Vec<Seat<SlicePool>>, ServeFault>
+) -> Result<Vec<LendingSeat<SlicePool>>, ServeFault>
     requires ready { AreReady lock.now.lock_id
         (slices_per_processor instance.now.shape + 2 * length leaves.now) seats.items }
     requires leaves { IsLeaves instance.now.rows leaves.now }
@@ -185,4 +184,28 @@ pub(crate) fn run_workers<G: Gate, R: Threads + Wait + Clock + Sync>(
     } else {
         at_once(rt, alloc, lock, seats, instance, leaves, gate)
     }
+}
+
+/// Works all seats of the lock at once, each in a thread of its own, and returns them once all
+/// workers have ended. An only one is worked in the calling thread.
+pub(crate) fn run_workers<G: Gate, R: Threads + Wait + Clock + Sync>(
+    rt: &R,
+    alloc: Global,
+    lock: &TicketLock<SlicePool>,
+    seats: Vec<LendingSeat<SlicePool>>,
+    instance: &Instance,
+    leaves: &[u32],
+    gate: &G,
+) -> Result<Vec<Seat<SlicePool>>, ServeFault>
+    requires ready { AreReady lock.now.lock_id
+        (slices_per_processor instance.now.shape + 2 * length leaves.now) seats.items }
+    requires all { length seats.items ≡ lock.now.seats }
+    requires leaves { IsLeaves instance.now.rows leaves.now }
+    requires few { length leaves.now ≤ MAX_GROUPS }
+    ensures { IfOk result (λ v. (length v.items ≡ length seats.items) ×
+        AreBack (G.used gate.now) instance.now.rows (slices_per_processor instance.now.shape)
+        lock.now.lock_id v.items) }
+{
+    let worked = work_all(rt, alloc, lock, seats, instance, leaves, gate)?;
+    Ok(take_home(alloc, lock, worked)?)
 }

@@ -13,7 +13,7 @@ use bw_lend::LendingSeat;
 use bw_model::Instance;
 use bw_model::limits::MAX_GROUPS;
 use bw_pool::{PoolReply, SlicePool};
-use bw_ticket::{Seat, TicketLock};
+use bw_ticket::TicketLock;
 use std::collections::VecDeque;
 use std::rt::Clock;
 use std::sync::Wait;
@@ -78,7 +78,7 @@ pub(crate) fn work<G: Gate, R: Wait + Clock>(
     instance: &Instance,
     leaves: Vec<u32>,
     gate: &G,
-) -> Seat<SlicePool>
+) -> LendingSeat<SlicePool>
     requires lock { seat.lock_id ≡ lock.now.lock_id }
     requires idle { seat.pending ≡ None }
     requires fresh { seat.own ≡ [] }

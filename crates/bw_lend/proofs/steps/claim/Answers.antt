@@ -8,5 +8,5 @@ compare_exchange-found-requires g c = let w = c.requires.owner in (
   c.requires.table.0,
   omega (arith, c.requires.table.1.0, c.requires.place),
   may_claim c.args.table.now.key.value.lock_id _ _ c.args.lock.now.lock_id w.0 _ _ _ _ _ w.1.1
-      c.requires.place (le_of_eq (sym c.state_of-posted.ensures)) c.state_of.ensures,
+      c.requires.place (le_of_eq (sym c.state_of-posted.ensures.code)) c.state_of.ensures.code,
 )

@@ -1,13 +1,15 @@
 -- The rule allows the step give back.
-use Rattle.std.proofs.Common.{arith}
-use Rattle.bw_lend.proofs.Kept.{may_give_back}
+use Rattle.std.proofs.Common.{arith, sym, subst, ℕ}
+use Rattle.bw_lend.specs.Lent.{BringsOf}
+use Rattle.bw_lend.proofs.Kept.{may_give_back, is_home}
 use Rattle.bw_lend.proofs.steps.give_back.Goals as goal
 
 pub store-requires : goal.store-requires
-store-requires g c = let w = c.requires.helper in (
+store-requires g c = let w = c.requires.helper in let state = c.returned_state.ensures in (
   c.requires.table.0,
   omega (arith, c.requires.table.1.0, c.requires.place),
   may_give_back c.args.table.now.key.value.lock_id _ _ w.0 _ _ w.2.0 w.2.1 w.1.0 w.1.1 _ w.2.2
       c.requires.place (omega (arith, c.requires.table.1.1, c.requires.place))
-      c.returned_state.ensures w.2.3,
+      (is_home c.args.made _ state.code)
+      (subst (λ (t : ℕ). BringsOf w.0 t w.2.0 w.2.1) (sym state.ticket) w.2.3),
 )
