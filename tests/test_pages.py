@@ -307,9 +307,13 @@ CALLS_OF_LENT_SEATS = {
     r"\byield_now\(": [],
     r"\bCount::none\(": [("sleeping.rt", "of")],
     # the loads that are no steps of a table
-    r"\.peek\(": [("sleeping.rt", "read"), ("steps.rt", "hinted")],
+    r"\.peek\(": [("errands.rt", "hint"), ("sleeping.rt", "read")],
     r"\.served\(": [("lending.rt", "is_served_soon"), ("sleeping.rt", "look")],
     r"\(Sighting \{": [("sleeping.rt", "look")],
+    # each call that is made has its errand
+    r"\.finish\w*\(": [("errands.rt", "finish_owing"), ("seat.rt", "call")],
+    r"\.hint\(": [("errands.rt", "seek")],
+    r"\bTableHints::of\(": [("helping.rt", "help_one")],
     # a wake is owed for each place that is given back, and the words of the table get it
     r"\bOwed::to\(": [("steps.rt", "give_back")],
     r"\.rouse\(": [("waking.rt", "wake_first"), ("waking.rt", "wake_all")],
@@ -433,7 +437,8 @@ def test_calls_of_lent_seats():
 
 @pytest.mark.parametrize("call", ["table.park(rt, 2, 1)", "table.wake_all(2)", "yield_now()",
                                   "table.peek(2)", "lock.served()", "Owed::to(place)",
-                                  "bells.rouse(place)", "TableBells::of(table)"])
+                                  "bells.rouse(place)", "TableBells::of(table)",
+                                  "seat.finish(rt, lock)", "hints.hint(ticket)"])
 def test_another_call_of_lent_seats_is_found(call):
     """One call more in any file is found."""
     sources = code_of("bw_lend")

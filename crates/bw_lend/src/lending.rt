@@ -5,6 +5,7 @@ ghost use Rattle.bw_lend.specs.Lent.{IsFinished, Returns};
 ghost use Rattle.bw_lend.specs.Parts.{IsTable, IsOwner};
 ghost use Rattle.bw_lend.specs.Rule.{stake};
 
+use crate::errands::finish_owing;
 use crate::helping::help;
 use crate::sleeping::{PlaceWord, TableWord, may_take_back, sleep_lent};
 use crate::steps::{post, take_back};
@@ -80,8 +81,6 @@ pub(crate) fn is_soon<M: Machine>(lock: &TicketLock<M>, seat: &Seat<M>) -> bool 
 }
 
 /// Makes the seat's own call, and then helps the next ones.
-///
-/// If the next ticket is not drawn yet, its seat is lent nowhere. It will find its ticket served.
 pub(crate) fn finish_and_help<M: Machine, R: Wait + Clock>(
     rt: &R,
     lock: &TicketLock<M>,
@@ -97,11 +96,11 @@ pub(crate) fn finish_and_help<M: Machine, R: Wait + Clock>(
     ensures same { token.new.me ≡ token.old.me }
     ensures finished { IsFinished seat.old result seat.new }
 {
-    let (answer, followed) = seat.finish_and_look(rt, lock);
-    if !followed {
+    let (answer, due) = finish_owing(rt, lock, seat);
+    let Some(errand) = due else {
         return answer;
-    }
-    help(rt, lock, table, token, answer.at);
+    };
+    help(rt, lock, table, token, errand);
     answer
 }
 

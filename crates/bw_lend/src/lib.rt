@@ -9,6 +9,7 @@
 #![tactic(auto)]
 
 mod crowd_laws;
+mod errands;
 mod helping;
 mod lending;
 mod plays;

@@ -9,8 +9,8 @@ ghost use Rattle.bw_lend.specs.declared.table.TheConstants.{TICKETS};
 
 use crate::plays::{Claim, GiveBack, Hint, Open, Post, TakeBack};
 use crate::table::{
-    AWAY, CLAIMED, Content, POSTED, Place, Shared, Token, hint_of, hint_word_of, hinted_place,
-    returned_state, state_of,
+    AWAY, CLAIMED, Content, POSTED, Place, Shared, Token, hint_of, hint_word_of, returned_state,
+    state_of,
 };
 use crate::waking::Owed;
 use bw_machine::Machine;
@@ -116,12 +116,4 @@ pub(crate) fn give_back<M: Machine>(
 {
     table.store::<GiveBack>(token, place, returned_state(ticket, made));
     Owed::to(place)
-}
-
-/// The place where the seat of the ticket is lent, as far as its hint tells.
-pub(crate) fn hinted<M: Machine>(table: &Shared<M>, ticket: u64) -> Option<usize>
-    requires { IsTable table.now.table_id }
-    ensures { IfSome result (λ place. place < 64) }
-{
-    hinted_place(table.peek(hint_word_of(ticket)), ticket)
 }
