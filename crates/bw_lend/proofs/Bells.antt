@@ -1,5 +1,5 @@
 -- Sets of places.
-use Rattle.std.proofs.Common.{◌≡◌, ◌≢◌, ◌∙◌, ℕ, ◌+◌, ◌*◌, ◌^◌, ◌%◌, ◌<◌, arith, bit_or, w64}
+use Rattle.std.proofs.Common.{◌∙◌, ℕ, ◌+◌, ◌*◌, ◌^◌, ◌%◌, ◌<◌, arith, bit_or, w64}
 use Rattle.std.proofs.lemmas.Nat.Bits.{bit_at_set_same, bit_at_set_other}
 use Rattle.bw_lend.specs.Bells.{IsIn, IsWith, AreIn}
 use Rattle.bw_lend.proofs.Lists.{here_or_else}

@@ -3,7 +3,7 @@ use Rattle.std.specs.Prelude.{◌≡◌, ◌≢◌, ℕ, ◌/◌, List, [], ◌�
 use Rattle.atomic_table.specs.Seated.{TableId}
 use Rattle.atomic_table.specs.Table.{Me, Step}
 use Rattle.bw_lend.specs.declared.stake.Part.{Part}
-use Rattle.bw_lend.specs.declared.stake.Part.TheVariants.{Fresh, Owns, Hints, Lends, Helps}
+use Rattle.bw_lend.specs.declared.stake.Part.TheVariants.{Owns, Hints, Lends, Helps}
 use Rattle.bw_lend.specs.declared.stake.Stake.{Stake}
 use Rattle.bw_lend.specs.declared.table.Place.TheVariants.{Empty, Lent, Made}
 use Rattle.bw_lend.specs.Rule.{Each, stake, hint_word, hint_for}

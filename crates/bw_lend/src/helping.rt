@@ -47,9 +47,10 @@ fn make_at<M: Machine, R: Wait + Clock>(
     place: usize,
     makes: bool,
 ) -> (bool, Option<Errand>)
-    requires table { token.old.table_id ≡ table.now.table_id }
+    requires table { (token.old.table_id ≡ table.now.table_id) × IsTable table.now.table_id }
     requires helper { (ticket : _) × (before : _) ×
         IsHelper lock.now.lock_id place ticket before token.old.me }
+    requires place { place < 64 }
     ensures table { token.new.table_id ≡ token.old.table_id }
     ensures helper { (ticket : _) → (before : _) →
         IsHelper lock.now.lock_id place ticket before token.old.me →

@@ -1,5 +1,5 @@
 -- The seat of the table has what it had before. After the last turn no errand is due.
-use Rattle.std.proofs.Common.{◌≡◌, ℕ, ◌<◌, ◌≤◌, IfSome}
+use Rattle.std.proofs.Common.{◌≡◌, ◌<◌, ◌≤◌, IfSome}
 use Rattle.bw_lend.specs.declared.table.TheConstants.{TICKETS}
 use Rattle.bw_lend.proofs.helping.help_next.Given as goal
 

@@ -1,5 +1,5 @@
 -- The helper gives the place back that it claimed, and has what it had before.
-use Rattle.std.proofs.Common.{◌≡◌, ◌∙◌, ap, drop}
+use Rattle.std.proofs.Common.{◌∙◌, ap, drop}
 use Rattle.bw_lend.specs.Parts.{IsHelper}
 use Rattle.bw_lend.proofs.helping.help_one.Goals as goal
 

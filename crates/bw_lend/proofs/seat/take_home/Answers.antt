@@ -1,5 +1,5 @@
 -- One more seat that no longer lends itself.
-use Rattle.std.proofs.Common.{rules, arith, ◌≡◌, ℕ, ◌+◌, suc, length, [], ◌∷◌, ◌++◌, get_or, sym, ap, ◌∙◌}
+use Rattle.std.proofs.Common.{rules, ◌≡◌, length, [], ◌∷◌, ◌++◌, sym, ap, ◌∙◌}
 use Rattle.std.specs.Vec.Iter.{into_iter_items, into_iter_len}
 use Rattle.bw_lend.proofs.Handed.{snoc_append, append_nothing, none_left}
 use Rattle.bw_lend.proofs.seat.take_home.Goals as goal

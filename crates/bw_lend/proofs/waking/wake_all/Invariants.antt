@@ -1,5 +1,4 @@
 -- The owners before the place are woken.
-use Rattle.std.proofs.Common.{ℕ}
 use Rattle.bw_lend.specs.Bells.{AreIn}
 use Rattle.bw_lend.proofs.waking.wake_all.Given as goal
 

@@ -1,5 +1,4 @@
 -- A bit that is set keeps the others.
-use Rattle.std.proofs.Common.{◌≡◌}
 use Rattle.bw_lend.proofs.Bells.{set_with}
 use Rattle.bw_lend.proofs.waking.Owners.with.Goals as goal
 
