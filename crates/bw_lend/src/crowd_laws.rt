@@ -1,7 +1,17 @@
 //! Laws of lent seats: each is the contract of a function that does nothing.
+ghost use Rattle.std.specs.Prelude.{◌≡◌, ◌^◌};
 ghost use Rattle.bw_lend.specs.CrowdLaws.{NoWakeIsLost, NoneIsStuck, AwakeSeatsCanStep};
 ghost use Rattle.bw_lend.specs.CrowdLaws.{OnlyTheServedTicketIsInside, AtMostOneIsInside};
 ghost use Rattle.bw_lend.specs.CrowdRounds.{SeventeenRoundsRaiseServing, DrawnTicketsAreLeft};
+
+use crate::table::TICKETS;
+use bw_ticket::limits::MAX_TICKETS;
+
+/// Tickets fit into the words of places: a ticket is below 2^22, and a word has room for 2^28.
+pub fn tickets_fit()
+    ensures tickets { MAX_TICKETS ≡ 2 ^ 22 }
+    ensures room { TICKETS ≡ 2 ^ 28 }
+{}
 
 /// A seat that sleeps has its wake under way.
 ///

@@ -23,6 +23,6 @@ mod waking;
 pub use crowd_laws::{
     at_most_one_is_inside, awake_lent_seats_can_step, drawn_tickets_are_left,
     no_lent_seat_is_stuck, no_lent_wake_is_lost, only_the_served_ticket_is_inside,
-    seventeen_rounds_raise_serving,
+    seventeen_rounds_raise_serving, tickets_fit,
 };
 pub use seat::{LendingSeat, lend, take_home};
