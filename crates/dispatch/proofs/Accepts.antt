@@ -20,8 +20,12 @@ use Rattle.dispatch.specs.Replay.{input_fault, input_after, picks_in, at_input, 
 use Rattle.dispatch.specs.Replay.{finding_from}
 use Rattle.dispatch.specs.Replay.{event_fault, is_out, Spells, MayFollow, AllFollow, picks_of}
 use Rattle.dispatch.specs.Replay.{AcceptsExactly, nothing_set}
-use Rattle.dispatch.specs.Rule.{DispatchState, allowed}
+use Rattle.dispatch.specs.declared.reservation.Account.{Account}
+use Rattle.dispatch.specs.declared.reservation.Run.{Run}
+use Rattle.dispatch.specs.Reservation.{Reservations}
+use Rattle.dispatch.specs.Steps.{allowed}
 use Rattle.dispatch.specs.declared.limits.TheConstants.{MAX_PROCESSORS, MAX_SLICE_NS, MAX_AMOUNT}
+use Rattle.dispatch.specs.declared.limits.TheConstants.{MAX_TERM_NS}
 use Rattle.dispatch.proofs.Exact.{refusal_is_exact, some_not}
 
 -- ---- one input
@@ -86,7 +90,7 @@ event_tests false f o ok = (refl, ok)
 zero_from : (n : ℕ) → nat_lt 0 n ≡ false → n ≡ 0
 zero_from n is = let none = ltb-false 0 n is in omega (arith, none)
 
-follows : (s : DispatchState) (i : Input) → input_fault s i ≡ None → MayFollow s i
+follows : (s : Reservations) (i : Input) → input_fault s i ≡ None → MayFollow s i
 follows s (lines.Processors n) ok =
     let p = two_tests (nat_lt 0 (length s.processors)) (is_out MAX_PROCESSORS n) (Bad BadLine)
     (Bad BadField) ok in
@@ -96,27 +100,52 @@ follows s (lines.Slice n) ok =
     let p = two_tests (nat_lt 0 s.slice) (is_out MAX_SLICE_NS n) (Bad BadLine) (Bad BadField) ok in
     let q = within MAX_SLICE_NS n p.1 in
     (zero_from s.slice p.0, q.0, q.1)
-follows s (lines.Leaf i a) ok =
-    let p = leaf_tests (i == length s.leaves) (is_out MAX_AMOUNT a) (Bad BadLine) (Bad BadField)
+follows s (lines.Terms q w c) ok =
+    let p = two_tests (nat_lt 0 s.quantum || nat_lt 0 (length s.accounts))
+    (is_out MAX_TERM_NS q || (nat_lt MAX_TERM_NS w || nat_lt MAX_TERM_NS c)) (Bad BadLine)
+    (Bad BadField) ok in
+    let set = neither (nat_lt 0 s.quantum) (nat_lt 0 (length s.accounts)) p.0 in
+    let out = neither (is_out MAX_TERM_NS q) (nat_lt MAX_TERM_NS w || nat_lt MAX_TERM_NS c) p.1 in
+    let two = neither (nat_lt MAX_TERM_NS w) (nat_lt MAX_TERM_NS c) out.1 in
+    let first = within MAX_TERM_NS q out.0 in (
+      zero_from s.quantum set.0,
+      empty_of s.accounts set.1,
+      first.0,
+      first.1,
+      ltb-false MAX_TERM_NS w two.0,
+      ltb-false MAX_TERM_NS c two.1,
+    )
+follows s (lines.Leaf i a g) ok =
+    let p = leaf_tests (i == length s.accounts) (is_out MAX_AMOUNT a) (Bad BadLine) (Bad BadField)
     ok in
     let q = within MAX_AMOUNT a p.1 in
-    (eqb-true i (length s.leaves) p.0, q.0, q.1)
+    (eqb-true i (length s.accounts) p.0, q.0, q.1)
 follows s (lines.Event e) ok =
     let p = event_tests (s.slice == 0) (Bad BadLine) (event_fault (allowed s e)) ok in
     let q = (refusal_is_exact s e).0 (made (allowed s e) p.1) in
     (some_not s.slice p.0, q.0, q.1)
 
-may_follow : (s : DispatchState) (i : Input) → MayFollow s i → input_fault s i ≡ None
+may_follow : (s : Reservations) (i : Input) → MayFollow s i → input_fault s i ≡ None
 may_follow s (lines.Processors n) m =
     pass_tests (nat_lt 0 (length s.processors)) (is_out MAX_PROCESSORS n) (Bad BadLine)
-    (Bad BadField) (ap (λ (xs : List (Option ℕ)). nat_lt 0 (length xs)) m.0)
+    (Bad BadField) (ap (λ (xs : List (Option Run)). nat_lt 0 (length xs)) m.0)
     (no_out MAX_PROCESSORS n m.1 m.2)
 may_follow s (lines.Slice n) m =
     pass_tests (nat_lt 0 s.slice) (is_out MAX_SLICE_NS n) (Bad BadLine) (Bad BadField)
     (ap (λ k. nat_lt 0 k) m.0) (no_out MAX_SLICE_NS n m.1 m.2)
-may_follow s (lines.Leaf i a) m =
-    pass_leaf (i == length s.leaves) (is_out MAX_AMOUNT a) (Bad BadLine) (Bad BadField)
-    (eq-eqb i (length s.leaves) m.0) (no_out MAX_AMOUNT a m.1 m.2)
+may_follow s (lines.Terms q w c) m =
+    pass_tests (nat_lt 0 s.quantum || nat_lt 0 (length s.accounts))
+    (is_out MAX_TERM_NS q || (nat_lt MAX_TERM_NS w || nat_lt MAX_TERM_NS c)) (Bad BadLine)
+    (Bad BadField)
+    (ap (λ k. nat_lt 0 k || nat_lt 0 (length s.accounts)) m.0
+    ∙ ap (λ (xs : List Account). nat_lt 0 (length xs)) m.1)
+    (ap (λ (b : Bool). b || (nat_lt MAX_TERM_NS w || nat_lt MAX_TERM_NS c))
+    (no_out MAX_TERM_NS q m.2 m.3)
+    ∙ (ap (λ (b : Bool). b || nat_lt MAX_TERM_NS c) (le-ltb MAX_TERM_NS w m.4)
+    ∙ le-ltb MAX_TERM_NS c m.5))
+may_follow s (lines.Leaf i a g) m =
+    pass_leaf (i == length s.accounts) (is_out MAX_AMOUNT a) (Bad BadLine) (Bad BadField)
+    (eq-eqb i (length s.accounts) m.0) (no_out MAX_AMOUNT a m.1 m.2)
 may_follow s (lines.Event e) m =
     ap (λ (b : Bool). if◌then◌else◌ {A = Option LineFault} b (Some (Bad BadLine))
     (event_fault (allowed s e)))
@@ -154,7 +183,7 @@ input_ok n m (Some f) next ok = absurd (cc ok)
 more_parts : (q : List ℕ) (qs : List (List ℕ)) → (length (q ∷ qs) == 0) ≡ false
 more_parts q qs = ne_eqb (suc (length qs)) 0 (λ e. let clash : ⊥ = omega (arith, e) in clash)
 
-accepts : (s : DispatchState) (n picks m : ℕ) (part : List ℕ) (parts : List (List ℕ))
+accepts : (s : Reservations) (n picks m : ℕ) (part : List ℕ) (parts : List (List ℕ))
     → finding_from s n picks (part ∷ parts) ≡ Allowed m
     → (is : List Input) × Spells (part ∷ parts) is × AllFollow s is × (m ≡ picks + picks_of is)
 unfolding finding_from
@@ -176,7 +205,7 @@ accepts s n picks m part (q ∷ qs) ok =
     let r = accepts (input_after s i) (n + 1) (picks + picks_in i) m q qs f.1 in
     (i ∷ r.0, (p.1, r.1), (follows s i f.0, r.2), omega (arith, r.3))
 
-accepted : (s : DispatchState) (n picks m : ℕ) (part : List ℕ) (parts : List (List ℕ))
+accepted : (s : Reservations) (n picks m : ℕ) (part : List ℕ) (parts : List (List ℕ))
     (is : List Input) → Spells (part ∷ parts) is → AllFollow s is → m ≡ picks + picks_of is
     → finding_from s n picks (part ∷ parts) ≡ Allowed m
 unfolding finding_from

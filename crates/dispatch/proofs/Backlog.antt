@@ -16,10 +16,10 @@ use Rattle.dispatch.specs.Reservation.{Reservations, WHOLE, account_at, no_accou
 use Rattle.dispatch.specs.Reservation.{tasks_of, rate_of, credit_of, most_of, passed, aged, cut}
 use Rattle.dispatch.specs.Reservation.{paid_by, picked, ended, with_account, state_picked}
 use Rattle.dispatch.specs.Reservation.{state_ended, IsDue, OwesWithin, MayPick, Waits}
-use Rattle.dispatch.specs.Reservation.{settled_owed, after, Allows, Runs, woken, given, level_now}
+use Rattle.dispatch.specs.Reservation.{settled_owed, after, Allows, left, capped, terms_of, Runs, woken, given, level_now}
 use Rattle.dispatch.specs.declared.reservation.Step.{Step}
 use Rattle.dispatch.specs.declared.reservation.Step.TheVariants.{Pass, Wake, Pick, End, Level}
-use Rattle.dispatch.specs.declared.reservation.Step.TheVariants.{Give, Cut}
+use Rattle.dispatch.specs.declared.reservation.Step.TheVariants.{Give, Leave, Cut}
 use Rattle.dispatch.specs.Rule as shares
 use Rattle.dispatch.specs.Windows.{over_runs, of_run, RunsWithin, IsBusy, NoneWaits}
 use Rattle.dispatch.specs.Windows.{WaitsBeyondCredit, HasTasksForGuarantees, IsPrompt, IsFair}
@@ -899,6 +899,22 @@ backlog_passed n s t some b prompt beyond within = record {
 
 -- ---- runs
 
+-- a leaf of which a task that waits has gone
+record IsLeft (a now : Account) : Type 0 where
+  guarantee : now.guarantee ≡ a.guarantee
+  running : now.share.running ≡ a.share.running
+  owed : now.owed ≤ a.owed
+
+is_left : (s : Reservations) (a : Account) → IsLeft a (left s a)
+is_left s a =
+    either (IsLeft a) (nat_lt (rate_of before) (rate_of a)) (cut s before) before
+    (record { guarantee = refl; running = refl; owed = omega arith })
+    (record { guarantee = refl; running = refl; owed = omega arith }) where
+      before : Account
+      before = record (capped (terms_of s) a) {
+        share = record a.share { waiting = a.share.waiting - 1 };
+      }
+
 leveled : (n : ℕ) (s : Reservations) (c : ℕ × ℕ) → Backlog n s
     → Backlog n (record s { level = c })
 leveled n s c b = record {
@@ -919,9 +935,12 @@ backlog_after n s (Pick p i) some b may fair = backlog_picked n s p i some b fai
 backlog_after n s (End p used remains) some b may fair =
     subst (λ (q : Option (Option Run)). Backlog n (state_ended s p used remains q)) (sym may.runs)
     (backlog_ended n s p used remains may.run b may.runs may.known)
-backlog_after n s Level some b may fair = leveled n s (level_now s) b
+backlog_after n s Level some b may fair = leveled n s (level_now s.slice s.accounts) b
 backlog_after n s (Give i amount guarantee) some b may fair =
-    lowered n s i (given s amount guarantee (account_at s i)) b may fair refl (omega arith)
+    lowered n s i (given s amount guarantee (account_at s i)) b may.0 fair refl (omega arith)
+backlog_after n s (Leave i) some b may fair =
+    let h = is_left s (account_at s i) in
+    lowered n s i (left s (account_at s i)) b may.0 h.guarantee h.running h.owed
 backlog_after n s (Cut i) some b may fair =
     lowered n s i (cut s (account_at s i)) b may refl refl (omega arith)
 

@@ -13,12 +13,12 @@ use Rattle.dispatch.specs.declared.reservation.Account.{Account}
 use Rattle.dispatch.specs.declared.reservation.Run.{Run}
 use Rattle.dispatch.specs.declared.reservation.Step.{Step}
 use Rattle.dispatch.specs.declared.reservation.Step.TheVariants.{Pass, Wake, Pick, End, Level}
-use Rattle.dispatch.specs.declared.reservation.Step.TheVariants.{Give, Cut}
+use Rattle.dispatch.specs.declared.reservation.Step.TheVariants.{Give, Leave, Cut}
 use Rattle.dispatch.specs.Reservation.{Reservations, WHOLE, account_at, no_account, quantum_of}
 use Rattle.dispatch.specs.Reservation.{tasks_of, rate_of, credit_of, most_of, passed, aged, cut}
 use Rattle.dispatch.specs.Reservation.{paid_by, picked, ended, with_account, state_picked}
 use Rattle.dispatch.specs.Reservation.{state_ended, settled_owed, after, Allows, woken, given}
-use Rattle.dispatch.specs.Reservation.{MayPick}
+use Rattle.dispatch.specs.Reservation.{MayPick, left, capped, terms_of}
 use Rattle.dispatch.specs.Rule as shares
 use Rattle.dispatch.specs.Windows.{over_runs, of_run, back_of, owed_in_all, RunsWithin, IsFair}
 use Rattle.dispatch.specs.Windows.{WantsAt, held_at}
@@ -365,6 +365,46 @@ kept_ended s p used remains run i is known short below wants =
       }
     ]
 
+-- ---- a task that leaves
+
+abbrev left_account : Reservations → Account → Account
+left_account s a = record (capped (terms_of s) a) {
+  share = record a.share { waiting = a.share.waiting - 1 };
+}
+
+none_left : (s : Reservations) (a : Account) → rate_of a ≤ rate_of (left s a)
+    → (left s a).owed ≡ (left_account s a).owed
+none_left s a h =
+    let now = left_account s a in
+    let less : rate_of a ≤ rate_of now =
+    omega (arith, h, rate_same (nat_lt (rate_of now) (rate_of a)) s now) in
+    ap (λ (b : Bool). (if◌then◌else◌ {A = Account} b (cut s now) now).owed)
+    (le-ltb (rate_of now) (rate_of a) less)
+
+kept_left : (s : Reservations) (i j : ℕ) → j < length s.accounts
+    → (i ≡ j → (account_at s j).owed ≤ most_of s (account_at s j))
+    → rate_of (account_at s i)
+    ≤ rate_of (account_at (with_account s j (left s (account_at s j))) i)
+    → IsKept s (with_account s j (left s (account_at s j))) i 0 0
+kept_left s i j known below wants =
+    one_set s i j (left s (account_at s j)) known
+    (λ same. (let rates : rate_of (account_at s j) ≤ rate_of (left s (account_at s j)) =
+    elim (account_set s.accounts j i (left s (account_at s j)) known) [
+      | inl h ↦ omega (
+        arith,
+        wants,
+        ap (λ (x : Account). rate_of x) h.1,
+        ap (λ (x : ℕ). rate_of (account_at s x)) same,
+      )
+      | inr h ↦ absurd (h.0 same)
+    ] in
+    let kept = none_left s (account_at s j) rates in (
+      guarantee_same
+          (nat_lt (rate_of (left_account s (account_at s j))) (rate_of (account_at s j))) s
+          (left_account s (account_at s j)),
+      omega (arith, kept, below same),
+    )))
+
 -- ---- all events
 
 -- the nanoseconds that pass at an event
@@ -420,8 +460,10 @@ kept_after n s e i k some b known guaranteed = by e where
   }
   by (Give j amount guarantee) may fair wants =
       still s (after s (Give j amount guarantee)) i m
-      (one_set s i j (given s amount guarantee (account_at s j)) may
+      (one_set s i j (given s amount guarantee (account_at s j)) may.0
       (λ same. (fair, omega (arith, below j same))))
+  by (Leave j) may fair wants =
+      still s (after s (Leave j)) i m (kept_left s i j may.0 (below j) wants)
   by (Cut j) may fair wants =
       still s (after s (Cut j)) i m
       (one_set s i j (cut s (account_at s j)) may

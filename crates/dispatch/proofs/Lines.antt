@@ -9,7 +9,8 @@ use Rattle.std.proofs.lemmas.Bool.{ne_eqb}
 use Rattle.bw_text.specs.Words.{words}
 use Rattle.dispatch.specs.declared.fault.InputFault.{InputFault}
 use Rattle.dispatch.specs.declared.fault.InputFault.TheVariants.{CutShort}
-use Rattle.dispatch.specs.declared.events.Event.TheVariants.{Wake, Pick, End}
+use Rattle.dispatch.specs.declared.reservation.Step.TheVariants.{Pass, Wake, Pick, End, Level}
+use Rattle.dispatch.specs.declared.reservation.Step.TheVariants.{Give, Leave, Cut}
 use Rattle.dispatch.specs.declared.input.Input.{Input}
 use Rattle.dispatch.specs.declared.input.Input.TheVariants as lines
 use Rattle.dispatch.specs.declared.replay.LineFault.{LineFault}
@@ -19,7 +20,7 @@ use Rattle.dispatch.specs.declared.replay.Finding.TheVariants.{Allowed, Refused}
 use Rattle.dispatch.specs.Input.{input_of}
 use Rattle.dispatch.specs.Replay.{input_fault, input_after, picks_in, at_input, at_line}
 use Rattle.dispatch.specs.Replay.{finding_from}
-use Rattle.dispatch.specs.Rule.{DispatchState}
+use Rattle.dispatch.specs.Reservation.{Reservations}
 
 abbrev pub parts : List ℕ → List (List ℕ)
 parts text = slice_split (λ b. b == 10) text
@@ -29,7 +30,7 @@ parts_some text =
     ne_eqb (length (parts text)) 0
     (λ e. omega (arith, e, length-slice_split (λ b. b == 10) text))
 
-first_line : (s : DispatchState) (n picks : ℕ) (rest line next : List ℕ)
+first_line : (s : Reservations) (n picks : ℕ) (rest line next : List ℕ)
     → parts rest ≡ line ∷ parts next
     → finding_from s n picks (parts rest)
     ≡ at_line n (input_of (words line)) (λ i. at_input n (input_fault s i)
@@ -44,7 +45,7 @@ first_line s n picks rest line next split =
     else at_line n (input_of (words line)) rec)
     (parts_some next)
 
-pub refused_line : (s : DispatchState) (n picks : ℕ) (rest line next : List ℕ) (f : InputFault)
+pub refused_line : (s : Reservations) (n picks : ℕ) (rest line next : List ℕ) (f : InputFault)
     → parts rest ≡ line ∷ parts next → input_of (words line) ≡ Err f
     → finding_from s n picks (parts rest) ≡ Refused n (Bad f)
 refused_line s n picks rest line next f split is =
@@ -52,7 +53,7 @@ refused_line s n picks rest line next f split is =
     ∙ ap (λ (r : Result Input InputFault). at_line n r (λ i. at_input n (input_fault s i)
     (finding_from (input_after s i) (n + 1) (picks + picks_in i) (parts next)))) is
 
-pub refused_input : (s : DispatchState) (n picks : ℕ) (rest line next : List ℕ) (i : Input)
+pub refused_input : (s : Reservations) (n picks : ℕ) (rest line next : List ℕ) (i : Input)
     (f : LineFault) → parts rest ≡ line ∷ parts next → input_of (words line) ≡ Ok i
     → input_fault s i ≡ Some f → finding_from s n picks (parts rest) ≡ Refused n f
 refused_input s n picks rest line next i f split is faulty =
@@ -63,7 +64,7 @@ refused_input s n picks rest line next i f split is faulty =
     (finding_from (input_after s i) (n + 1) (picks + picks_in i) (parts next)))) is
     ∙ ap (λ (o : Option LineFault). at_input n o after) faulty
 
-pub goes_on : (s : DispatchState) (n picks : ℕ) (rest line next : List ℕ) (i : Input)
+pub goes_on : (s : Reservations) (n picks : ℕ) (rest line next : List ℕ) (i : Input)
     → parts rest ≡ line ∷ parts next → input_of (words line) ≡ Ok i → input_fault s i ≡ None
     → finding_from s n picks (parts rest)
     ≡ finding_from (input_after s i) (n + 1) (picks + picks_in i) (parts next)
@@ -96,7 +97,13 @@ lines_go_on text rest line next n split lines = omega (arith, lines, ap length s
 pub one_pick : (i : Input) → picks_in i ≤ 1
 one_pick (lines.Processors n) = omega arith
 one_pick (lines.Slice n) = omega arith
-one_pick (lines.Leaf l a) = omega arith
+one_pick (lines.Terms q w c) = omega arith
+one_pick (lines.Leaf l a g) = omega arith
+one_pick (lines.Event (Pass n)) = omega arith
+one_pick (lines.Event Level) = omega arith
+one_pick (lines.Event (Give l a g)) = omega arith
+one_pick (lines.Event (Leave l)) = omega arith
+one_pick (lines.Event (Cut l)) = omega arith
 one_pick (lines.Event (Wake l n)) = omega arith
 one_pick (lines.Event (Pick p l)) = omega arith
 one_pick (lines.Event (End p u r)) = omega arith

@@ -4,13 +4,13 @@ use Rattle.std.proofs.Common.{min, refl, ap, sym, subst, ◌∙◌, arith, Bool,
 use Rattle.std.proofs.Common.{slice_get}
 use Rattle.std.proofs.lemmas.List.{length-map}
 use Rattle.dispatch.specs.declared.reservation.Run.{Run}
-use Rattle.dispatch.specs.Reservation.{state_ended, ended, passed, woken, picked, given, cut}
+use Rattle.dispatch.specs.Reservation.{state_ended, ended, passed, woken, picked, given, cut, left}
 use Rattle.dispatch.proofs.Counts.{length_set}
 use Rattle.std.proofs.Math.Nat.{mul-le-mul_right}
 use Rattle.dispatch.specs.declared.reservation.Account.{Account}
 use Rattle.dispatch.specs.declared.reservation.Step.{Step}
 use Rattle.dispatch.specs.declared.reservation.Step.TheVariants.{Pass, Wake, Pick, End, Level}
-use Rattle.dispatch.specs.declared.reservation.Step.TheVariants.{Give, Cut}
+use Rattle.dispatch.specs.declared.reservation.Step.TheVariants.{Give, Leave, Cut}
 use Rattle.dispatch.specs.Reservation.{Reservations, WHOLE, account_at, after, most_of, quantum_of}
 use Rattle.dispatch.specs.Windows.{after_all, IsFairRun, IsAtRest, FitsHost, owed_in_all, time_of}
 use Rattle.dispatch.specs.Windows.{held_in, Wants, OwedIsBounded, WindowsAreServed}
@@ -35,6 +35,7 @@ accounts_after s (End p used remains) =
 accounts_after s Level = refl
 accounts_after s (Give i amount guarantee) =
     length_set s.accounts i (given s amount guarantee (account_at s i))
+accounts_after s (Leave i) = length_set s.accounts i (left s (account_at s i))
 accounts_after s (Cut i) = length_set s.accounts i (cut s (account_at s i))
 
 known_after : (s : Reservations) (es : List Step) (i : ℕ) → i < length s.accounts
@@ -58,6 +59,7 @@ time_more (Pick p i) es = omega arith
 time_more (End p used remains) es = omega arith
 time_more Level es = omega arith
 time_more (Give i amount guarantee) es = omega arith
+time_more (Leave i) es = omega arith
 time_more (Cut i) es = omega arith
 
 -- the ledger of a window

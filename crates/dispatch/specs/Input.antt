@@ -3,11 +3,14 @@ use Rattle.std.specs.Prelude.{ℕ, ◌==◌, List, [], ◌∷◌, Bool, true, fa
 use Rattle.std.specs.Prelude.{if◌then◌else◌}
 use Rattle.std.specs.Str.{bytes_eq}
 use Rattle.bw_text.specs.Number.{number_read}
-use Rattle.dispatch.specs.declared.events.Event.TheVariants.{Wake, Pick, End}
+use Rattle.dispatch.specs.declared.reservation.Step.{Step}
+use Rattle.dispatch.specs.declared.reservation.Step.TheVariants.{Pass, Wake, Pick, End, Level}
+use Rattle.dispatch.specs.declared.reservation.Step.TheVariants.{Give, Leave, Cut}
 use Rattle.dispatch.specs.declared.fault.InputFault.{InputFault}
 use Rattle.dispatch.specs.declared.fault.InputFault.TheVariants.{BadNumber, BadLine, BadField}
 use Rattle.dispatch.specs.declared.input.Input.{Input}
-use Rattle.dispatch.specs.declared.input.Input.TheVariants.{Processors, Slice, Leaf, Event}
+use Rattle.dispatch.specs.declared.input.Input.TheVariants.{Processors, Slice, Terms}
+use Rattle.dispatch.specs.declared.input.Input.TheVariants.{Leaf, Event}
 
 -- the first fault of two steps
 infixl 10 ◌>>=◌
@@ -64,17 +67,48 @@ three_numbers ws = do
 abbrev pub remains_in : ℕ → Result Bool InputFault
 remains_in n = if n == 0 then Ok false else if n == 1 then Ok true else Err BadField
 
+-- the only word as a number, or 0 if there is none
+abbrev pub last_or_zero : List (List ℕ) → Result ℕ InputFault
+last_or_zero [] = Ok 0
+last_or_zero (w ∷ ws) = one_number (w ∷ ws)
+
+-- number, amount and guarantee of a leaf
+abbrev pub leaf_numbers : List (List ℕ) → Result (ℕ × ℕ × ℕ) InputFault
+leaf_numbers ws = do
+  a ← number_at ws
+  b ← number_at a.1
+  g ← last_or_zero b.1
+  Ok (a.0, b.0, g)
+
+-- the event that a first word and the words behind it make: one of a plan or a limit
+abbrev pub rare_step : List ℕ → List (List ℕ) → Result Step InputFault
+rare_step verb ws =
+    if bytes_eq verb (codes "level") then (is_over ws >>= λ u. Ok Level)
+    else if bytes_eq verb (codes "give") then (three_numbers ws >>= λ p. Ok (Give p.0 p.1 p.2))
+    else if bytes_eq verb (codes "leave") then (one_number ws >>= λ n. Ok (Leave n))
+    else if bytes_eq verb (codes "cut") then (one_number ws >>= λ n. Ok (Cut n))
+    else Err BadLine
+
+-- the event that a first word and the words behind it make
+abbrev pub step_of : List ℕ → List (List ℕ) → Result Step InputFault
+step_of verb ws =
+    if bytes_eq verb (codes "pass") then (one_number ws >>= λ n. Ok (Pass n))
+    else if bytes_eq verb (codes "wake") then (two_numbers ws >>= λ p. Ok (Wake p.0 p.1))
+    else if bytes_eq verb (codes "pick") then (two_numbers ws >>= λ p. Ok (Pick p.0 p.1))
+    else if bytes_eq verb (codes "end")
+    then (three_numbers ws >>= λ p. remains_in p.2 >>= λ r. Ok (End p.0 p.1 r))
+    else rare_step verb ws
+
 -- the line that a first word and the words behind it make
 abbrev pub input_behind : List ℕ → List (List ℕ) → Result Input InputFault
 input_behind verb ws =
     if bytes_eq verb (codes "processors") then (one_number ws >>= λ n. Ok (Processors n))
     else if bytes_eq verb (codes "slice") then (one_number ws >>= λ n. Ok (Slice n))
-    else if bytes_eq verb (codes "leaf") then (two_numbers ws >>= λ p. Ok (Leaf p.0 p.1))
-    else if bytes_eq verb (codes "wake") then (two_numbers ws >>= λ p. Ok (Event (Wake p.0 p.1)))
-    else if bytes_eq verb (codes "pick") then (two_numbers ws >>= λ p. Ok (Event (Pick p.0 p.1)))
-    else if bytes_eq verb (codes "end")
-    then (three_numbers ws >>= λ p. remains_in p.2 >>= λ r. Ok (Event (End p.0 p.1 r)))
-    else Err BadLine
+    else if bytes_eq verb (codes "terms")
+    then (three_numbers ws >>= λ p. Ok (Terms p.0 p.1 p.2))
+    else if bytes_eq verb (codes "leaf")
+    then (leaf_numbers ws >>= λ p. Ok (Leaf p.0 p.1 p.2))
+    else (step_of verb ws >>= λ e. Ok (Event e))
 
 abbrev pub input_of : List (List ℕ) → Result Input InputFault
 input_of [] = Err BadLine

@@ -6,4 +6,5 @@ pub mod Replay
 pub mod Reservation
 pub mod Rule
 pub mod Runs
+pub mod Steps
 pub mod Windows

@@ -7,24 +7,27 @@ use Rattle.std.specs.List.{slice_split}
 use Rattle.std.specs.Fmt.{decimal}
 use Rattle.bw_text.specs.Words.{words}
 use Rattle.bw_streams.specs.Answers.{refusal_line}
-use Rattle.dispatch.specs.declared.events.Event.TheVariants.{Pick}
+use Rattle.dispatch.specs.declared.reservation.Step.TheVariants.{Pick}
 use Rattle.dispatch.specs.declared.events.Refusal.{Refusal}
 use Rattle.dispatch.specs.declared.events.Refusal.TheVariants.{UnknownLeaf, UnknownProcessor}
 use Rattle.dispatch.specs.declared.events.Refusal.TheVariants.{ProcessorBusy, ProcessorIdle}
-use Rattle.dispatch.specs.declared.events.Refusal.TheVariants.{NothingWaits, NotLeast, TooGreat}
+use Rattle.dispatch.specs.declared.events.Refusal.TheVariants.{NothingWaits, NotEarliest, NotLeast}
+use Rattle.dispatch.specs.declared.events.Refusal.TheVariants.{TooGreat}
 use Rattle.dispatch.specs.declared.fault.InputFault.{InputFault}
 use Rattle.dispatch.specs.declared.fault.InputFault.TheVariants.{NotFound, BadLine, BadField}
 use Rattle.dispatch.specs.declared.fault.InputFault.TheVariants.{CutShort}
 use Rattle.dispatch.specs.declared.input.Input.{Input}
 use Rattle.dispatch.specs.declared.input.Input.TheVariants as lines
 use Rattle.dispatch.specs.declared.limits.TheConstants.{MAX_PROCESSORS, MAX_SLICE_NS, MAX_AMOUNT}
+use Rattle.dispatch.specs.declared.limits.TheConstants.{MAX_TERM_NS}
 use Rattle.dispatch.specs.declared.replay.LineFault.{LineFault}
 use Rattle.dispatch.specs.declared.replay.LineFault.TheVariants.{Bad, NotAllowed}
 use Rattle.dispatch.specs.declared.replay.Finding.{Finding}
 use Rattle.dispatch.specs.declared.replay.Finding.TheVariants.{Allowed, Refused}
 use Rattle.dispatch.specs.Faults.{input_fault_number, input_fault_name}
 use Rattle.dispatch.specs.Input.{input_of}
-use Rattle.dispatch.specs.Rule.{DispatchState, new_leaf, allowed, after, Allows, HasRoom}
+use Rattle.dispatch.specs.Reservation.{Reservations, after, terms_of, Allows}
+use Rattle.dispatch.specs.Steps.{allowed, new_account, HasRoom}
 
 -- the fault of a refused event: the input is bad, or the rule does not allow it
 abbrev pub fault_of : Refusal → LineFault
@@ -34,6 +37,7 @@ fault_of TooGreat = Bad BadField
 fault_of ProcessorBusy = NotAllowed ProcessorBusy
 fault_of ProcessorIdle = NotAllowed ProcessorIdle
 fault_of NothingWaits = NotAllowed NothingWaits
+fault_of NotEarliest = NotAllowed NotEarliest
 fault_of NotLeast = NotAllowed NotLeast
 
 abbrev pub event_fault : Result (Unit {0}) Refusal → Option LineFault
@@ -44,26 +48,32 @@ event_fault (Err r) = Some (fault_of r)
 abbrev pub is_out : ℕ → ℕ → Bool
 is_out most n = n == 0 || nat_lt most n
 
--- the first fault of a line: the processors and the slice are set once, the slice before an event,
--- and the leaves are numbered from 0
-abbrev pub input_fault : DispatchState → Input → Option LineFault
+-- the first fault of a line: processors, slice and terms are set once, the terms before a leaf, the
+-- slice before an event, and the leaves are numbered from 0
+abbrev pub input_fault : Reservations → Input → Option LineFault
 input_fault s (lines.Processors n) =
     if nat_lt 0 (length s.processors) then Some (Bad BadLine)
     else if is_out MAX_PROCESSORS n then Some (Bad BadField) else None
 input_fault s (lines.Slice n) =
     if nat_lt 0 s.slice then Some (Bad BadLine)
     else if is_out MAX_SLICE_NS n then Some (Bad BadField) else None
-input_fault s (lines.Leaf i a) =
-    if i == length s.leaves then (if is_out MAX_AMOUNT a then Some (Bad BadField) else None)
+input_fault s (lines.Terms q w c) =
+    if nat_lt 0 s.quantum || nat_lt 0 (length s.accounts) then Some (Bad BadLine)
+    else if is_out MAX_TERM_NS q || (nat_lt MAX_TERM_NS w || nat_lt MAX_TERM_NS c)
+    then Some (Bad BadField) else None
+input_fault s (lines.Leaf i a g) =
+    if i == length s.accounts then (if is_out MAX_AMOUNT a then Some (Bad BadField) else None)
     else Some (Bad BadLine)
 input_fault s (lines.Event e) =
     if s.slice == 0 then Some (Bad BadLine) else event_fault (allowed s e)
 
 -- the state after a line without a fault
-abbrev pub input_after : DispatchState → Input → DispatchState
+abbrev pub input_after : Reservations → Input → Reservations
 input_after s (lines.Processors n) = record s { processors = replicate n None }
 input_after s (lines.Slice n) = record s { slice = n }
-input_after s (lines.Leaf i a) = record s { leaves = s.leaves ++ new_leaf a ∷ [] }
+input_after s (lines.Terms q w c) = record s { quantum = q; slack = w; credit = c }
+input_after s (lines.Leaf i a g) =
+    record s { accounts = s.accounts ++ new_account (terms_of s) a g ∷ [] }
 input_after s (lines.Event e) = after s e
 
 -- 1 for a pick
@@ -72,8 +82,16 @@ picks_in (lines.Event (Pick p i)) = 1
 picks_in _ = 0
 
 -- nothing is set
-abbrev pub nothing_set : DispatchState
-nothing_set = record { slice = 0; leaves = []; processors = [] }
+abbrev pub nothing_set : Reservations
+nothing_set = record {
+  slice = 0;
+  quantum = 0;
+  slack = 0;
+  credit = 0;
+  level = (0, 1);
+  accounts = [];
+  processors = [];
+}
 
 -- the finding at a line that is read
 abbrev pub at_input : ℕ → Option LineFault → Finding → Finding
@@ -86,7 +104,7 @@ at_line n (Ok i) next = next i
 
 -- The finding from the line n on, after so many picks. The parts are the text between newlines: the
 -- last is empty, and no line.
-unfoldable pub finding_from : DispatchState → ℕ → ℕ → List (List ℕ) → Finding
+unfoldable pub finding_from : Reservations → ℕ → ℕ → List (List ℕ) → Finding
 finding_from s n picks [] = Allowed picks
 finding_from s n picks (part ∷ parts) =
     if length parts == 0
@@ -103,6 +121,7 @@ abbrev pub reason : Refusal → List ℕ
 reason ProcessorBusy = codes "the processor runs a task"
 reason ProcessorIdle = codes "the processor runs no task"
 reason NothingWaits = codes "no task of the leaf waits"
+reason NotEarliest = codes "a leaf that is due has an earlier deadline"
 reason NotLeast = codes "a leaf that waits has a lesser clock"
 reason UnknownLeaf = codes "no such leaf"
 reason UnknownProcessor = codes "no such processor"
@@ -131,14 +150,17 @@ Spells (part ∷ parts) [] = (part ≡ []) × (parts ≡ [])
 Spells (part ∷ parts) (i ∷ is) = (input_of (words part) ≡ Ok i) × Spells parts is
 
 -- the input may come next: an event, if the rule allows it and its numbers have room
-abbrev pub MayFollow : DispatchState → Input → Type 0
+abbrev pub MayFollow : Reservations → Input → Type 0
 MayFollow s (lines.Processors n) = (s.processors ≡ []) × (0 < n) × (n ≤ MAX_PROCESSORS)
 MayFollow s (lines.Slice n) = (s.slice ≡ 0) × (0 < n) × (n ≤ MAX_SLICE_NS)
-MayFollow s (lines.Leaf i a) = (i ≡ length s.leaves) × (0 < a) × (a ≤ MAX_AMOUNT)
+MayFollow s (lines.Terms q w c) =
+    (s.quantum ≡ 0) × (s.accounts ≡ []) × (0 < q) × (q ≤ MAX_TERM_NS) × (w ≤ MAX_TERM_NS)
+    × (c ≤ MAX_TERM_NS)
+MayFollow s (lines.Leaf i a g) = (i ≡ length s.accounts) × (0 < a) × (a ≤ MAX_AMOUNT)
 MayFollow s (lines.Event e) = (0 < s.slice) × Allows s e × HasRoom s e
 
 -- each input may come next, after those before it
-abbrev pub AllFollow : DispatchState → List Input → Type 0
+abbrev pub AllFollow : Reservations → List Input → Type 0
 AllFollow s [] = Unit {0}
 AllFollow s (i ∷ is) = MayFollow s i × AllFollow (input_after s i) is
 

@@ -5,10 +5,11 @@ use Rattle.std.specs.Prelude.{List, [], ◌∷◌, length, get_or, map, Option, 
 use Rattle.std.specs.Prelude.{false, slice_get, slice_set, if◌then◌else◌}
 use Rattle.dispatch.specs.declared.leaves.Leaf.{Leaf}
 use Rattle.dispatch.specs.declared.reservation.Account.{Account}
+use Rattle.dispatch.specs.declared.reservation.Terms.{Terms}
 use Rattle.dispatch.specs.declared.reservation.Run.{Run}
 use Rattle.dispatch.specs.declared.reservation.Step.{Step}
 use Rattle.dispatch.specs.declared.reservation.Step.TheVariants.{Pass, Wake, Pick, End, Level}
-use Rattle.dispatch.specs.declared.reservation.Step.TheVariants.{Give, Cut}
+use Rattle.dispatch.specs.declared.reservation.Step.TheVariants.{Give, Leave, Cut}
 use Rattle.dispatch.specs.Rule.{new_leaf, has_tasks, settled}
 use Rattle.dispatch.specs.Rule as shares
 
@@ -34,7 +35,20 @@ no_account = record { share = new_leaf 0; guarantee = 0; owed = 0 }
 abbrev pub account_at : Reservations → ℕ → Account
 account_at s i = get_or s.accounts i no_account
 
+-- the numbers that the rule goes by
+abbrev pub terms_of : Reservations → Terms
+terms_of s = record {
+  slice = s.slice;
+  quantum = s.quantum;
+  slack = s.slack;
+  credit = s.credit;
+  processors = length s.processors;
+}
+
 -- the quantum, in 2^-20 ns
+abbrev pub quantum_in : Terms → ℕ
+quantum_in t = WHOLE * t.quantum
+
 abbrev pub quantum_of : Reservations → ℕ
 quantum_of s = WHOLE * s.quantum
 
@@ -47,76 +61,117 @@ abbrev pub rate_of : Account → ℕ
 rate_of a = min (tasks_of a * WHOLE) a.guarantee
 
 -- what is kept of a guarantee that nobody wants
+abbrev pub credit_in : Terms → Account → ℕ
+credit_in t a = quantum_in t + a.guarantee * t.credit
+
 abbrev pub credit_of : Reservations → Account → ℕ
-credit_of s a = quantum_of s + a.guarantee * s.credit
+credit_of s a = credit_in (terms_of s) a
 
 -- the most that a leaf is owed; what is owed beyond is forgotten
+abbrev pub most_in : Terms → Account → ℕ
+most_in t a = 2 * t.processors * quantum_in t + a.guarantee * t.credit
+
 abbrev pub most_of : Reservations → Account → ℕ
-most_of s a = 2 * length s.processors * quantum_of s + a.guarantee * s.credit
+most_of s a = most_in (terms_of s) a
 
--- the leaf after so many nanoseconds
+-- what the leaf is owed after so many nanoseconds
+abbrev pub passed_owed : Terms → ℕ → Account → ℕ
+passed_owed t ns a =
+    if tasks_of a == 0 then max a.owed (min (a.owed + a.guarantee * ns) (credit_in t a))
+    else a.owed + rate_of a * ns
+
+abbrev pub passed_in : Terms → ℕ → Account → Account
+passed_in t ns a = record a { owed = passed_owed t ns a }
+
 abbrev pub passed : Reservations → ℕ → Account → Account
-passed s t a = record a {
-  owed =
-      if tasks_of a == 0 then max a.owed (min (a.owed + a.guarantee * t) (credit_of s a))
-      else a.owed + rate_of a * t;
-}
+passed s ns a = passed_in (terms_of s) ns a
 
--- the leaf with no more than the most
-abbrev pub capped : Reservations → Account → Account
-capped s a = record a { owed = min a.owed (most_of s a) }
+-- what the leaf is owed, no more than the most
+abbrev pub capped_owed : Terms → Account → ℕ
+capped_owed t a = min a.owed (most_in t a)
+
+abbrev pub capped : Terms → Account → Account
+capped t a = record a { owed = capped_owed t a }
 
 -- the leaf with no more than its credit
-abbrev pub cut : Reservations → Account → Account
-cut s a = record a { owed = min a.owed (credit_of s a) }
+abbrev pub cut_in : Terms → Account → Account
+cut_in t a = record a { owed = min a.owed (credit_in t a) }
 
-abbrev pub leaves_of : Reservations → List Leaf
-leaves_of s = map (λ a. a.share) s.accounts
+abbrev pub cut : Reservations → Account → Account
+cut s a = cut_in (terms_of s) a
+
+-- the leaf with what is beyond its credit cut, if its tasks can take less than before
+abbrev pub cut_if_less : Terms → Account → Account → Account
+cut_if_less t before a = if nat_lt (rate_of a) (rate_of before) then cut_in t a else a
+
+abbrev pub leaves_of : List Account → List Leaf
+leaves_of accounts = map (λ a. a.share) accounts
+
+abbrev pub woken_in : Terms → List Account → ℕ → Account → Account
+woken_in t accounts tasks a =
+    record (capped t a) { share = shares.woken t.slice (leaves_of accounts) tasks a.share }
 
 abbrev pub woken : Reservations → ℕ → Account → Account
-woken s tasks a = record (capped s a) { share = shares.woken s.slice (leaves_of s) tasks a.share }
+woken s tasks a = woken_in (terms_of s) s.accounts tasks a
 
 -- what a pick takes of a leaf in advance: a quantum, unless less is there
+abbrev pub paid_in : Terms → Account → ℕ
+paid_in t a = min (capped_owed t a) (quantum_in t)
+
 abbrev pub paid_by : Reservations → Account → ℕ
-paid_by s a = min (min a.owed (most_of s a)) (quantum_of s)
+paid_by s a = paid_in (terms_of s) a
+
+abbrev pub picked_in : Terms → Account → Account
+picked_in t a = record a {
+  share = shares.picked t.slice a.share;
+  owed = capped_owed t a - paid_in t a;
+}
 
 abbrev pub picked : Reservations → Account → Account
-picked s a = record a {
-  share = shares.picked s.slice a.share;
-  owed = min a.owed (most_of s a) - paid_by s a;
-}
+picked s a = picked_in (terms_of s) a
 
 -- what is owed after a run of this time, for which so much was paid: what was not used of the
 -- quantum comes back, and an overrun beyond it is paid now
 abbrev pub settled_owed : ℕ → ℕ → ℕ → ℕ → ℕ
 settled_owed quantum paid time owed = owed + min (quantum - time) paid - (time - quantum)
 
--- the leaf with what is beyond its credit cut, if its tasks can take less than before
-abbrev pub cut_if_less : Reservations → Account → Account → Account
-cut_if_less s before a = if nat_lt (rate_of a) (rate_of before) then cut s a else a
-
 -- The leaf after a run of a task. The time since the pick counts for what it is owed, and the
 -- time that was used for the clock of its share.
-abbrev pub ended : Reservations → Run → ℕ → Bool → Account → Account
-ended s run used remains a = cut_if_less s a (record a {
-  share = shares.ended s.slice used remains a.share;
-  owed = settled_owed (quantum_of s) run.paid (WHOLE * run.age) (min a.owed (most_of s a));
+abbrev pub ended_in : Terms → Run → ℕ → Bool → Account → Account
+ended_in t run used remains a = cut_if_less t a (record a {
+  share = shares.ended t.slice used remains a.share;
+  owed = settled_owed (quantum_in t) run.paid (WHOLE * run.age) (capped_owed t a);
 })
 
--- the charge that stands as far before the level of the new amount as the old one did before the
--- level of the old, but by no more than 32 slices
+abbrev pub ended : Reservations → Run → ℕ → Bool → Account → Account
+ended s run used remains a = ended_in (terms_of s) run used remains a
+
+-- the leaf after a task of it that waits has gone
+abbrev pub left_in : Terms → Account → Account
+left_in t a = cut_if_less t a (record (capped t a) {
+  share = record a.share { waiting = a.share.waiting - 1 };
+})
+
+abbrev pub left : Reservations → Account → Account
+left s a = left_in (terms_of s) a
+
+-- The charge that stands as far before the level of the new amount as the old one did before the
+-- level of the old, but by no more than 32 slices. The level is a charge over an amount above 0.
 abbrev pub moved : ℕ → ℕ × ℕ → ℕ → ℕ → ℕ → ℕ
 moved slice level charged old new =
-    level.0 * new / level.1 + min (charged - level.0 * old / level.1) (32 * slice)
+    level.0 * new / max 1 level.1 + min (charged - level.0 * old / max 1 level.1) (32 * slice)
 
-abbrev pub given : Reservations → ℕ → ℕ → Account → Account
-given s amount guarantee a = record (capped s a) {
+abbrev pub given_in : Terms → ℕ × ℕ → ℕ → ℕ → Account → Account
+given_in t level amount guarantee a = record (capped t a) {
   share = record a.share {
-    charged = moved s.slice s.level a.share.charged a.share.amount amount;
+    charged = moved t.slice level a.share.charged a.share.amount amount;
     amount = amount;
   };
   guarantee = guarantee;
 }
+
+abbrev pub given : Reservations → ℕ → ℕ → Account → Account
+given s amount guarantee a = given_in (terms_of s) s.level amount guarantee a
 
 -- the lesser of two clocks, each a charge and an amount
 abbrev pub lesser_clock : ℕ × ℕ → ℕ × ℕ → ℕ × ℕ
@@ -125,35 +180,33 @@ lesser_clock c d = if nat_lt (d.0 * c.1) (c.0 * d.1) then d else c
 abbrev pub greater_clock : ℕ × ℕ → ℕ × ℕ → ℕ × ℕ
 greater_clock c d = if nat_lt (c.0 * d.1) (d.0 * c.1) then d else c
 
--- a clock, and the lesser of it and another, if there is another
-abbrev pub least_with : Bool → ℕ × ℕ → Option (ℕ × ℕ) → Option (ℕ × ℕ)
-least_with false here rest = rest
-least_with true here None = Some here
-least_with true here (Some c) = Some (lesser_clock here c)
+-- the least settled clock of the leaves that have tasks, and of one that is known before
+abbrev pub least_known : Option (ℕ × ℕ) → ℕ × ℕ → ℕ × ℕ
+least_known None c = c
+least_known (Some k) c = lesser_clock k c
 
--- the least settled clock of the leaves that have tasks
-abbrev pub least_clock : ℕ → List Leaf → Option (ℕ × ℕ)
-least_clock slice [] = None
-least_clock slice (l ∷ ls) =
-    least_with (has_tasks l) (settled slice l, l.amount) (least_clock slice ls)
+abbrev pub least_clock : Option (ℕ × ℕ) → ℕ → List Account → Option (ℕ × ℕ)
+least_clock known slice [] = known
+least_clock known slice (a ∷ rest) =
+    least_clock
+    (if has_tasks a.share then Some (least_known known (settled slice a.share, a.share.amount))
+    else known)
+    slice rest
 
-abbrev pub greatest_with : ℕ × ℕ → Option (ℕ × ℕ) → ℕ × ℕ
-greatest_with here None = here
-greatest_with here (Some c) = greater_clock here c
+-- the greatest clock, and one that is known before
+abbrev pub greatest_clock : ℕ × ℕ → List Account → ℕ × ℕ
+greatest_clock known [] = known
+greatest_clock known (a ∷ rest) =
+    greatest_clock (greater_clock known (a.share.charged, a.share.amount)) rest
 
--- the greatest clock
-abbrev pub greatest_clock : List Leaf → Option (ℕ × ℕ)
-greatest_clock [] = None
-greatest_clock (l ∷ ls) = Some (greatest_with (l.charged, l.amount) (greatest_clock ls))
+abbrev pub clock_or : Option (ℕ × ℕ) → ℕ × ℕ → ℕ × ℕ
+clock_or (Some c) other = c
+clock_or None other = other
 
--- the first that is there, or a clock of 0
-abbrev pub first_clock : Option (ℕ × ℕ) → Option (ℕ × ℕ) → ℕ × ℕ
-first_clock (Some c) other = c
-first_clock None (Some c) = c
-first_clock None None = (0, 1)
-
-abbrev pub level_now : Reservations → ℕ × ℕ
-level_now s = first_clock (least_clock s.slice (leaves_of s)) (greatest_clock (leaves_of s))
+-- the clock of all: the least of the leaves that have tasks, or the greatest if none has
+abbrev pub level_now : ℕ → List Account → ℕ × ℕ
+level_now slice accounts =
+    clock_or (least_clock None slice accounts) (greatest_clock (0, 1) accounts)
 
 -- the run after so many nanoseconds
 abbrev pub aged : ℕ → Option Run → Option Run
@@ -185,8 +238,9 @@ after s (Pass t) =
 after s (Wake i tasks) = with_account s i (woken s tasks (account_at s i))
 after s (Pick p i) = state_picked s p i
 after s (End p used remains) = state_ended s p used remains (slice_get s.processors p)
-after s Level = record s { level = level_now s }
+after s Level = record s { level = level_now s.slice s.accounts }
 after s (Give i amount guarantee) = with_account s i (given s amount guarantee (account_at s i))
+after s (Leave i) = with_account s i (left s (account_at s i))
 after s (Cut i) = with_account s i (cut s (account_at s i))
 
 -- the leaf is behind its guarantee by the slack
@@ -235,5 +289,6 @@ Allows s (Wake i tasks) = i < length s.accounts
 Allows s (Pick p i) = MayPick s p i
 Allows s (End p used remains) = Runs s p
 Allows s Level = Unit {0}
-Allows s (Give i amount guarantee) = i < length s.accounts
+Allows s (Give i amount guarantee) = (i < length s.accounts) × (0 < amount)
+Allows s (Leave i) = (i < length s.accounts) × Waits s i
 Allows s (Cut i) = i < length s.accounts

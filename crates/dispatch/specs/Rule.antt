@@ -9,18 +9,12 @@ use Rattle.dispatch.specs.declared.events.Event.{Event}
 use Rattle.dispatch.specs.declared.events.Event.TheVariants.{Wake, Pick, End}
 use Rattle.dispatch.specs.declared.events.Refusal.{Refusal}
 use Rattle.dispatch.specs.declared.events.Refusal.TheVariants as refusals
-use Rattle.dispatch.specs.declared.rule.Dispatcher.TheInside.{Inside as Fields}
 
 -- the slice, the leaves, and the leaf of the task that each processor runs, if it runs one
 pub record DispatchState : Type 0 where
   pub slice : ℕ
   pub leaves : List Leaf
   pub processors : List (Option ℕ)
-
--- the state that the program's fields stand for
-abbrev pub state_of : Fields → DispatchState
-state_of a =
-    record { slice = a.slice; leaves = a.leaves.items; processors = a.processors.items }
 
 -- a leaf of this amount, before its first task
 abbrev pub new_leaf : ℕ → Leaf
@@ -167,23 +161,7 @@ abbrev pub ◌>>=◌ : {A B : Type 0} → Result A Refusal → (A → Result B R
 abbrev pub number : ℕ → Result ℕ Refusal
 number n = if nat_lt n (2 ^ 64) then Ok n else Err refusals.TooGreat
 
--- a leaf after an event of it, or the first refusal; the processor is looked at before
-abbrev pub leaf_woken : ℕ → List Leaf → ℕ → Option Leaf → Result Leaf Refusal
-leaf_woken slice ls tasks None = Err refusals.UnknownLeaf
-leaf_woken slice ls tasks (Some l) = do
-  _ ← number (woken slice ls tasks l).charged
-  _ ← number (woken slice ls tasks l).waiting
-  Ok (woken slice ls tasks l)
-
-abbrev pub leaf_picked : ℕ → List Leaf → Option Leaf → Result Leaf Refusal
-leaf_picked slice ls None = Err refusals.UnknownLeaf
-leaf_picked slice ls (Some l) =
-    if l.waiting == 0 then Err refusals.NothingWaits
-    else if list_any (waits_behind l) ls then Err refusals.NotLeast else do
-      _ ← number (picked slice l).charged
-      _ ← number (picked slice l).running
-      Ok (picked slice l)
-
+-- a leaf after a run of it, or the first refusal
 abbrev pub leaf_ended : ℕ → ℕ → Bool → Option Leaf → Result Leaf Refusal
 leaf_ended slice used remains None = Err refusals.UnknownLeaf
 leaf_ended slice used remains (Some l) = do
@@ -192,85 +170,7 @@ leaf_ended slice used remains (Some l) = do
   _ ← number (ended slice used remains l).waiting
   Ok (ended slice used remains l)
 
--- whether a task may be picked for the processor
-abbrev pub free_processor : Option (Option ℕ) → Result (Unit {0}) Refusal
-free_processor None = Err refusals.UnknownProcessor
-free_processor (Some (Some i)) = Err refusals.ProcessorBusy
-free_processor (Some None) = Ok tt
-
--- the index of the leaf whose task the processor runs
-abbrev pub leaf_run : Option (Option ℕ) → Result ℕ Refusal
-leaf_run None = Err refusals.UnknownProcessor
-leaf_run (Some None) = Err refusals.ProcessorIdle
-leaf_run (Some (Some i)) = Ok i
-
 -- a result without its value
 abbrev pub without_value : {A : Type 0} → Result A Refusal → Result (Unit {0}) Refusal
 without_value (Ok l) = Ok tt
 without_value (Err r) = Err r
-
--- the second result, if the first is none of a refusal
-abbrev pub and_then : Result (Unit {0}) Refusal → Result (Unit {0}) Refusal
-    → Result (Unit {0}) Refusal
-and_then (Ok u) second = second
-and_then (Err r) second = Err r
-
-abbrev pub end_allowed : DispatchState → ℕ → Bool → Result ℕ Refusal → Result (Unit {0}) Refusal
-end_allowed s used remains (Err r) = Err r
-end_allowed s used remains (Ok i) =
-    without_value (leaf_ended s.slice used remains (slice_get s.leaves i))
-
--- the first refusal of an event, if there is one
-abbrev pub allowed : DispatchState → Event → Result (Unit {0}) Refusal
-allowed s (Wake i tasks) = without_value (leaf_woken s.slice s.leaves tasks (slice_get s.leaves i))
-allowed s (Pick p i) =
-    and_then (free_processor (slice_get s.processors p))
-    (without_value (leaf_picked s.slice s.leaves (slice_get s.leaves i)))
-allowed s (End p used remains) =
-    end_allowed s used remains (leaf_run (slice_get s.processors p))
-
--- the state after an event; a refused one changes nothing
-abbrev pub happens : DispatchState → Event → DispatchState
-happens s e = if is_ok (allowed s e) then after s e else s
-
--- each leaf has an amount
-abbrev pub HasAmounts : Fields → Type 0
-HasAmounts a = All (λ l. 0 < l.amount) a.leaves.items
-
--- A free processor picks, unless no leaf waits.
-abbrev pub Dispatches : DispatchState → ℕ → DispatchState → Option ℕ → Type 0
-Dispatches s p t None = NoneWaits s.leaves × (t ≡ s)
-Dispatches s p t (Some i) = MayPick s p i × (t ≡ after s (Pick p i))
-
--- room below 2^64 for each number of a leaf that an event makes greater, where it makes one greater
-abbrev pub HasRoomAtEnd : DispatchState → ℕ → Bool → Option (Option ℕ) → Type 0
-HasRoomAtEnd s used remains (Some (Some i)) =
-    ((ended s.slice used remains (leaf_at s i)).charged < 2 ^ 64)
-    × ((ended s.slice used remains (leaf_at s i)).used < 2 ^ 64)
-    × ((ended s.slice used remains (leaf_at s i)).waiting < 2 ^ 64)
-HasRoomAtEnd s used remains _ = Unit {0}
-
-abbrev pub HasRoom : DispatchState → Event → Type 0
-HasRoom s (Wake i tasks) =
-    ((woken s.slice s.leaves tasks (leaf_at s i)).charged < 2 ^ 64)
-    × ((woken s.slice s.leaves tasks (leaf_at s i)).waiting < 2 ^ 64)
-HasRoom s (Pick p i) =
-    ((picked s.slice (leaf_at s i)).charged < 2 ^ 64)
-    × ((picked s.slice (leaf_at s i)).running < 2 ^ 64)
-HasRoom s (End p used remains) = HasRoomAtEnd s used remains (slice_get s.processors p)
-
--- An event is refused unless the rule allows it and its numbers have room; of an end, its processor
--- runs a known leaf.
-abbrev pub RefusalIsExact : Type 0
-RefusalIsExact = (s : DispatchState) (e : Event)
-    → (allowed s e ≡ Ok tt) ↔ (Allows s e × HasRoom s e)
-
--- whether a leaf comes before the least one so far
-abbrev pub is_new_least : List Leaf → Option ℕ → Leaf → Bool
-is_new_least ls None m = nat_lt 0 m.waiting
-is_new_least ls (Some i) m = waits_behind (get_or ls i (new_leaf 0)) m
-
--- No pick is made for a processor: it is not free, or a pick that the rule allows is refused.
-abbrev pub IsRefusedPick : DispatchState → ℕ → Refusal → Type 0
-IsRefusedPick s p r = (free_processor (slice_get s.processors p) ≡ Err r)
-    ⊎ ((i : ℕ) × MayPick s p i × (allowed s (Pick p i) ≡ Err r))

@@ -6,7 +6,7 @@ use Rattle.dispatch.specs.declared.reservation.Account.{Account}
 use Rattle.dispatch.specs.declared.reservation.Run.{Run}
 use Rattle.dispatch.specs.declared.reservation.Step.{Step}
 use Rattle.dispatch.specs.declared.reservation.Step.TheVariants.{Pass, Wake, Pick, End, Level}
-use Rattle.dispatch.specs.declared.reservation.Step.TheVariants.{Give, Cut}
+use Rattle.dispatch.specs.declared.reservation.Step.TheVariants.{Give, Leave, Cut}
 use Rattle.dispatch.specs.Reservation.{Reservations, WHOLE, account_at, quantum_of, tasks_of}
 use Rattle.dispatch.specs.Reservation.{rate_of, credit_of, most_of, after, Allows, Waits}
 
@@ -61,7 +61,13 @@ IsFair s (Pick p i) = WaitsBeyondCredit s × HasTasksForGuarantees s
 IsFair s (End p used remains) = AllByRecursion (RunsWithin s.quantum 0) s.processors
 IsFair s Level = Unit {0}
 IsFair s (Give i amount guarantee) = guarantee ≡ (account_at s i).guarantee
+IsFair s (Leave i) = Unit {0}
 IsFair s (Cut i) = Unit {0}
+
+-- the rule allows each event
+abbrev pub IsRun : Reservations → List Step → Type 0
+IsRun s [] = Unit {0}
+IsRun s (e ∷ es) = Allows s e × IsRun (after s e) es
 
 -- the rule allows each event, and the premises hold
 abbrev pub IsFairRun : Reservations → List Step → Type 0
@@ -119,6 +125,8 @@ abbrev pub WantsAt : ℕ → ℕ → Reservations → Step → Type 0
 WantsAt k i s (Pass t) = k ≤ tasks_of (account_at s i)
 WantsAt k i s (End p used remains) =
     rate_of (account_at s i) ≤ rate_of (account_at (after s (End p used remains)) i)
+WantsAt k i s (Leave j) =
+    rate_of (account_at s i) ≤ rate_of (account_at (after s (Leave j)) i)
 WantsAt k i s (Cut j) = j ≢ i
 WantsAt k i s _ = Unit {0}
 

@@ -35,6 +35,8 @@ pub enum Refusal {
     ProcessorIdle,
     /// No task of the leaf that is picked waits.
     NothingWaits,
+    /// A leaf that waits is due, and the one that is picked is not, or has a later deadline.
+    NotEarliest,
     /// A leaf that waits has a lesser clock than the one that is picked.
     NotLeast,
     /// A charge, a use or a number of tasks would be above `u64::MAX`.

@@ -2,10 +2,12 @@
 ghost use Rattle.std.specs.Prelude.{◌≡◌};
 ghost use Rattle.bw_text.specs.Words.{words};
 ghost use Rattle.dispatch.specs.Input.{seen, number_in, number_at, is_over, one_number};
+ghost use Rattle.dispatch.specs.Input.{last_or_zero, leaf_numbers};
 ghost use Rattle.dispatch.specs.Input.{two_numbers, three_numbers, input_of, remains_in};
+ghost use Rattle.dispatch.specs.Input.{step_of, rare_step};
 
-use crate::events::Event;
 use crate::fault::InputFault;
+use crate::reservation::Step;
 use bw_text::{next_word, read_number};
 
 /// A line of a trace.
@@ -15,10 +17,22 @@ pub enum Input {
     Processors(u64),
     /// `slice NS` sets the slice in nanoseconds.
     Slice(u64),
-    /// `leaf ID AMOUNT` adds a leaf. The numbers of leaves are 0, 1, 2 and so on.
-    Leaf { leaf: u64, amount: u64 },
-    /// `wake ID N`, `pick CPU ID` or `end CPU USED REMAINS`.
-    Event(Event),
+    /// `terms QUANTUM SLACK CREDIT` sets these, in nanoseconds.
+    Terms {
+        quantum: u64,
+        slack: u64,
+        credit: u64,
+    },
+    /// `leaf ID AMOUNT GUARANTEE` adds a leaf. The numbers of leaves are 0, 1, 2 and so on. A
+    /// guarantee is in 2^-20 of a processor, and 0 if it is not there.
+    Leaf {
+        leaf: u64,
+        amount: u64,
+        guarantee: u64,
+    },
+    /// `pass NS`, `wake ID N`, `pick CPU ID`, `end CPU USED REMAINS`, `level`,
+    /// `give ID AMOUNT GUARANTEE`, `leave ID` or `cut ID`.
+    Event(Step),
 }
 
 fn number_in(word: &[u8]) -> Result<u64, InputFault>
@@ -78,6 +92,26 @@ fn three_numbers(text: &[u8]) -> Result<(u64, u64, u64), InputFault>
     Ok((one, two, three))
 }
 
+// The only word as a number, or 0 if there is none.
+fn last_or_zero(text: &[u8]) -> Result<u64, InputFault>
+    ensures { result ≡ last_or_zero (words text.now) }
+{
+    match next_word(text) {
+        None => Ok(0),
+        Some(_) => one_number(text),
+    }
+}
+
+// Number, amount and guarantee of a leaf.
+fn leaf_numbers(text: &[u8]) -> Result<(u64, u64, u64), InputFault>
+    ensures { result ≡ leaf_numbers (words text.now) }
+{
+    let (leaf, rest) = take_number(text)?;
+    let (amount, rest) = take_number(rest)?;
+    let guarantee = last_or_zero(rest)?;
+    Ok((leaf, amount, guarantee))
+}
+
 // Whether the task waits again: 1 or 0.
 fn remains_in(n: u64) -> Result<bool, InputFault>
     ensures { result ≡ remains_in n }
@@ -89,13 +123,65 @@ fn remains_in(n: u64) -> Result<bool, InputFault>
     }
 }
 
+// The event of a line, by its first word and the text behind it: one of a plan or a limit.
+fn rare_step(verb: &[u8], rest: &[u8]) -> Result<Step, InputFault>
+    ensures { result ≡ rare_step verb.now (words rest.now) }
+{
+    if verb == b"level".as_slice() {
+        is_over(rest)?;
+        return Ok(Step::Level);
+    }
+    if verb == b"give".as_slice() {
+        let (leaf, amount, guarantee) = three_numbers(rest)?;
+        return Ok(Step::Give {
+            leaf,
+            amount,
+            guarantee,
+        });
+    }
+    if verb == b"leave".as_slice() {
+        return Ok(Step::Leave(one_number(rest)?));
+    }
+    if verb == b"cut".as_slice() {
+        return Ok(Step::Cut(one_number(rest)?));
+    }
+    Err(InputFault::BadLine)
+}
+
+// The event of a line, by its first word and the text behind it.
+fn step_of(verb: &[u8], rest: &[u8]) -> Result<Step, InputFault>
+    ensures { result ≡ step_of verb.now (words rest.now) }
+{
+    if verb == b"pass".as_slice() {
+        return Ok(Step::Pass(one_number(rest)?));
+    }
+    if verb == b"wake".as_slice() {
+        let (leaf, tasks) = two_numbers(rest)?;
+        return Ok(Step::Wake { leaf, tasks });
+    }
+    if verb == b"pick".as_slice() {
+        let (processor, leaf) = two_numbers(rest)?;
+        return Ok(Step::Pick { processor, leaf });
+    }
+    if verb == b"end".as_slice() {
+        let (processor, used, remains) = three_numbers(rest)?;
+        let remains = remains_in(remains)?;
+        return Ok(Step::End {
+            processor,
+            used,
+            remains,
+        });
+    }
+    rare_step(verb, rest)
+}
+
 impl Input {
     /// Reads a line without its newline.
     ///
     /// # Errors
     ///
     /// The first that applies, from the first word to the last:
-    /// - [`InputFault::BadLine`] if the first word is none of the six, or the words are too few.
+    /// - [`InputFault::BadLine`] if the first word is none of these, or the words are too few.
     /// - [`InputFault::BadNumber`] if a word behind it is no number of 64 bits.
     /// - [`InputFault::BadLine`] if the words are too many.
     /// - [`InputFault::BadField`] if REMAINS is neither 0 nor 1.
@@ -111,27 +197,22 @@ impl Input {
         if verb == b"slice".as_slice() {
             return Ok(Input::Slice(one_number(rest)?));
         }
+        if verb == b"terms".as_slice() {
+            let (quantum, slack, credit) = three_numbers(rest)?;
+            return Ok(Input::Terms {
+                quantum,
+                slack,
+                credit,
+            });
+        }
         if verb == b"leaf".as_slice() {
-            let (leaf, amount) = two_numbers(rest)?;
-            return Ok(Input::Leaf { leaf, amount });
+            let (leaf, amount, guarantee) = leaf_numbers(rest)?;
+            return Ok(Input::Leaf {
+                leaf,
+                amount,
+                guarantee,
+            });
         }
-        if verb == b"wake".as_slice() {
-            let (leaf, tasks) = two_numbers(rest)?;
-            return Ok(Input::Event(Event::Wake { leaf, tasks }));
-        }
-        if verb == b"pick".as_slice() {
-            let (processor, leaf) = two_numbers(rest)?;
-            return Ok(Input::Event(Event::Pick { processor, leaf }));
-        }
-        if verb == b"end".as_slice() {
-            let (processor, used, remains) = three_numbers(rest)?;
-            let remains = remains_in(remains)?;
-            return Ok(Input::Event(Event::End {
-                processor,
-                used,
-                remains,
-            }));
-        }
-        Err(InputFault::BadLine)
+        Ok(Input::Event(step_of(verb, rest)?))
     }
 }

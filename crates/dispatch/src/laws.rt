@@ -3,7 +3,7 @@ ghost use Rattle.dispatch.specs.Runs.{LeadIsBounded, GainIsBounded, ShareIsKept}
 ghost use Rattle.dispatch.specs.Runs.{NoProcessorIdles};
 ghost use Rattle.dispatch.specs.Runs.{NoneIsPickedPastItsPlan, IsLiftedOnlyFromSleep};
 ghost use Rattle.dispatch.specs.Runs.{LiftIsAtMostTheLeast};
-ghost use Rattle.dispatch.specs.Rule.{RefusalIsExact};
+ghost use Rattle.dispatch.specs.Steps.{RefusalIsExact};
 ghost use Rattle.dispatch.specs.Replay.{AcceptsExactly};
 ghost use Rattle.dispatch.specs.Accepted.{TraceIsARun};
 ghost use Rattle.dispatch.specs.Windows.{OwedIsBounded, WindowsAreServed};
@@ -51,11 +51,6 @@ pub fn none_is_picked_past_its_plan()
     ensures { NoneIsPickedPastItsPlan }
 {}
 
-/// An event is refused if and only if the rule does not allow it, or a number has no room.
-pub fn refusal_is_exact()
-    ensures { RefusalIsExact }
-{}
-
 /// A wake lifts neither a leaf that has a task, nor any leaf at a common start. A lifted clock is
 /// at most that of each leaf that has a task.
 ///
@@ -63,18 +58,6 @@ pub fn refusal_is_exact()
 pub fn only_sleepers_are_lifted()
     ensures sleepers { IsLiftedOnlyFromSleep }
     ensures least { LiftIsAtMostTheLeast }
-{}
-
-/// A trace is accepted if and only if each of its lines may follow those before it: of an event, if
-/// the rule allows it and its numbers have room.
-pub fn accepts_exactly()
-    ensures { AcceptsExactly }
-{}
-
-/// An accepted trace whose events come last is a run from a common start. So the laws of runs hold
-/// of it.
-pub fn trace_is_a_run()
-    ensures { TraceIsARun }
 {}
 
 /// What a leaf is owed is bounded, whatever the others do and how many they are.
@@ -96,4 +79,21 @@ pub fn owed_is_bounded()
 /// that is owed more than its credit has a task that waits whenever a processor picks.
 pub fn windows_are_served()
     ensures { WindowsAreServed }
+{}
+
+/// An event is refused if and only if the rule does not allow it, or a number has no room.
+pub fn refusal_is_exact()
+    ensures { RefusalIsExact }
+{}
+
+/// A trace is accepted if and only if each of its lines may follow those before it: of an event, if
+/// the rule allows it and its numbers have room.
+pub fn accepts_exactly()
+    ensures { AcceptsExactly }
+{}
+
+/// An accepted trace whose events come last is a run that begins at rest. So the laws of runs hold
+/// of it where their premises do.
+pub fn trace_is_a_run()
+    ensures { TraceIsARun }
 {}

@@ -1,13 +1,12 @@
 //! The leaves of the plan, and their clocks.
-ghost use Rattle.std.specs.Prelude.{◌≡◌, ◌<◌, ◌+◌, Some, IfOk, IfSome, MatchOption, length, get_or};
-ghost use Rattle.std.specs.Prelude.{if◌then◌else◌};
-ghost use Rattle.std.specs.List.{list_any, All};
+ghost use Rattle.std.specs.Prelude.{◌≡◌, ◌<◌, ◌+◌, ◌*◌, ◌/◌, IfOk, if◌then◌else◌};
+ghost use Rattle.std.specs.List.{All};
 ghost use Rattle.dispatch.specs.Rule.{new_leaf, has_tasks, is_behind, waits_behind, level, at_most};
-ghost use Rattle.dispatch.specs.Rule.{settled, greatest};
-ghost use Rattle.dispatch.specs.Rule.{is_new_least, NoneWaits, IsLeast};
-ghost use Rattle.dispatch.specs.Rule.{number, lifted, leaf_woken, leaf_picked, leaf_ended};
+ghost use Rattle.dispatch.specs.Rule.{settled, greatest, number, lifted, leaf_ended};
+ghost use Rattle.dispatch.specs.Reservation.{leaves_of};
 
 use crate::events::Refusal;
+use crate::reservation::Account;
 
 /// A leaf of the plan: its amount, and what it has and had. Its clock is `charged` over `amount`.
 #[derive(Clone, Copy, Debug, PartialEq)]
@@ -45,8 +44,8 @@ impl Leaf {
         self.waiting > 0 || self.running > 0
     }
 
-    // The charge, without a slice for each task that still runs.
-    fn settled(&self, slice: u64) -> u64
+    /// The charge, without a slice for each task that still runs.
+    pub fn settled(&self, slice: u64) -> u64
         ensures { result ≡ settled slice self.now }
     {
         let in_advance = u128::from(slice) * u128::from(self.running);
@@ -62,47 +61,12 @@ impl Leaf {
         theirs < mine
     }
 
-    // Whether the other leaf has a waiting task, and the lesser clock.
-    fn waits_behind(&self, other: &Leaf) -> bool
+    /// Whether the other leaf has a waiting task, and the lesser clock.
+    pub fn waits_behind(&self, other: &Leaf) -> bool
         ensures { result ≡ waits_behind self.now other.now }
     {
         other.waiting > 0 && self.is_behind(other)
     }
-}
-
-// Whether a leaf that waits has a lesser clock than this one.
-fn has_lesser(leaves: &[Leaf], leaf: Leaf) -> bool
-    ensures { result ≡ list_any (waits_behind leaf) leaves.now }
-{
-    leaves.iter().any(|other| leaf.waits_behind(other))
-}
-
-// The least leaf so far, or the one at `at`, which comes next.
-fn lesser(leaves: &[Leaf], least: Option<usize>, at: usize) -> Option<usize>
-    requires known { at < length leaves.now }
-    requires least { IfSome least (λ i. i < at) }
-    ensures { result ≡ (if is_new_least leaves.now least (get_or leaves.now at (new_leaf 0))
-        then Some at else least) }
-{
-    let leaf = leaves[at];
-    let is_new = match least {
-        None => leaf.waiting > 0,
-        Some(i) => leaves[i].waits_behind(&leaf),
-    };
-    if is_new { Some(at) } else { least }
-}
-
-/// The leaf with the least clock among those that wait, and of several the first. `None` if none
-/// waits.
-pub fn least(leaves: &[Leaf]) -> Option<usize>
-    requires { All (λ l. 0 < l.amount) leaves.now }
-    ensures { MatchOption result (NoneWaits leaves.now) (IsLeast leaves.now) }
-{
-    let mut least = None;
-    for at in 0..leaves.len() {
-        least = lesser(leaves, least, at);
-    }
-    least
 }
 
 // The lesser of a charge and another, if there is another.
@@ -117,12 +81,13 @@ fn at_most(known: Option<u128>, charge: u128) -> u128
 
 // The clock of all, as a charge to a leaf of this amount: the least clock of the leaves that have
 // tasks. Slices that are charged in advance do not count.
-fn level(slice: u64, leaves: &[Leaf], amount: u64) -> Option<u128>
-    requires { All (λ l. 0 < l.amount) leaves.now }
-    ensures { result ≡ level slice amount leaves.now }
+fn level(slice: u64, accounts: &[Account], amount: u64) -> Option<u128>
+    requires { All (λ a. 0 < a.share.amount) accounts.now }
+    ensures { result ≡ level slice amount (leaves_of accounts.now) }
 {
     let mut least = None;
-    for leaf in leaves {
+    for account in accounts {
+        let leaf = account.share;
         if leaf.has_tasks() {
             let settled = u128::from(leaf.settled(slice));
             let charge = u128::from(amount) * settled / u128::from(leaf.amount);
@@ -132,21 +97,28 @@ fn level(slice: u64, leaves: &[Leaf], amount: u64) -> Option<u128>
     least
 }
 
+// The clock of a leaf, as a charge to one of this amount.
+fn charge_of(amount: u64, leaf: Leaf) -> u128
+    requires { 0 < leaf.amount }
+    ensures { result ≡ amount * leaf.charged / leaf.amount }
+{
+    u128::from(amount) * u128::from(leaf.charged) / u128::from(leaf.amount)
+}
+
 // The greatest clock of all leaves, as a charge to a leaf of this amount.
-fn greatest(leaves: &[Leaf], amount: u64) -> u128
-    requires { All (λ l. 0 < l.amount) leaves.now }
-    ensures { result ≡ greatest amount leaves.now }
+fn greatest(accounts: &[Account], amount: u64) -> u128
+    requires { All (λ a. 0 < a.share.amount) accounts.now }
+    ensures { result ≡ greatest amount (leaves_of accounts.now) }
 {
     let mut greatest = 0u128;
-    for leaf in leaves {
-        let charge = u128::from(amount) * u128::from(leaf.charged) / u128::from(leaf.amount);
-        greatest = greatest.max(charge);
+    for account in accounts {
+        greatest = greatest.max(charge_of(amount, account.share));
     }
     greatest
 }
 
-// A number of 64 bits.
-fn number(n: u128) -> Result<u64, Refusal>
+/// A number of 64 bits.
+pub fn number(n: u128) -> Result<u64, Refusal>
     ensures value { result ≡ number n }
     ensures same { IfOk result (λ m. m ≡ n) }
 {
@@ -157,8 +129,8 @@ fn number(n: u128) -> Result<u64, Refusal>
     }
 }
 
-// The sum of two numbers, if it has 64 bits.
-fn sum(one: u64, other: u64) -> Result<u64, Refusal>
+/// The sum of two numbers, if it has 64 bits.
+pub fn sum(one: u64, other: u64) -> Result<u64, Refusal>
     ensures value { result ≡ number (one + other) }
     ensures same { IfOk result (λ m. m ≡ one + other) }
 {
@@ -175,74 +147,19 @@ fn lifted(charged: u64, level: Option<u128>, greatest: u128) -> u128
     }
 }
 
-// The charge of a leaf after tasks of it wake.
-fn charge_at_wake(slice: u64, leaves: &[Leaf], leaf: Leaf) -> u128
-    requires { All (λ l. 0 < l.amount) leaves.now }
+/// The charge of a leaf after tasks of it wake.
+pub fn charge_at_wake(slice: u64, accounts: &[Account], leaf: Leaf) -> u128
+    requires { All (λ a. 0 < a.share.amount) accounts.now }
     ensures { result ≡ (if has_tasks leaf then leaf.charged
-        else lifted leaf.charged (level slice leaf.amount leaves.now)
-        (greatest leaf.amount leaves.now)) }
+        else lifted leaf.charged (level slice leaf.amount (leaves_of accounts.now))
+        (greatest leaf.amount (leaves_of accounts.now))) }
 {
     if leaf.has_tasks() {
         u128::from(leaf.charged)
     } else {
-        let level = level(slice, leaves, leaf.amount);
-        lifted(leaf.charged, level, greatest(leaves, leaf.amount))
+        let level = level(slice, accounts, leaf.amount);
+        lifted(leaf.charged, level, greatest(accounts, leaf.amount))
     }
-}
-
-/// The leaf after tasks of it wake. If it had none, its clock is lifted to the clock of all,
-/// or to the greatest clock if no leaf had a task.
-///
-/// # Errors
-///
-/// - [`Refusal::UnknownLeaf`] if there is no leaf.
-/// - [`Refusal::TooGreat`] if a number would be above `u64::MAX`.
-pub fn leaf_woken(
-    slice: u64,
-    leaves: &[Leaf],
-    tasks: u64,
-    leaf: Option<Leaf>,
-) -> Result<Leaf, Refusal>
-    requires { All (λ l. 0 < l.amount) leaves.now }
-    ensures { result ≡ leaf_woken slice leaves.now tasks leaf }
-{
-    let leaf = leaf.ok_or(Refusal::UnknownLeaf)?;
-    let charged = number(charge_at_wake(slice, leaves, leaf))?;
-    let waiting = sum(leaf.waiting, tasks)?;
-    Ok(Leaf {
-        charged,
-        waiting,
-        ..leaf
-    })
-}
-
-/// The leaf after a task of it is picked: a slice is charged.
-///
-/// # Errors
-///
-/// The first that applies:
-/// - [`Refusal::UnknownLeaf`] if there is no leaf.
-/// - [`Refusal::NothingWaits`] if no task of it waits.
-/// - [`Refusal::NotLeast`] if a leaf that waits has a lesser clock.
-/// - [`Refusal::TooGreat`] if a number would be above `u64::MAX`.
-pub fn leaf_picked(slice: u64, leaves: &[Leaf], leaf: Option<Leaf>) -> Result<Leaf, Refusal>
-    ensures { result ≡ leaf_picked slice leaves.now leaf }
-{
-    let leaf = leaf.ok_or(Refusal::UnknownLeaf)?;
-    if leaf.waiting == 0 {
-        return Err(Refusal::NothingWaits);
-    }
-    if has_lesser(leaves, leaf) {
-        return Err(Refusal::NotLeast);
-    }
-    let charged = sum(leaf.charged, slice)?;
-    let running = sum(leaf.running, 1)?;
-    Ok(Leaf {
-        charged,
-        waiting: leaf.waiting - 1,
-        running,
-        ..leaf
-    })
 }
 
 /// The leaf after a task of it ends its run: what it did not use of the slice is given back.

@@ -5,6 +5,7 @@
 //! if a read, a write or an allocation failed.
 #![tactic(auto)]
 
+mod accounts;
 mod events;
 mod fault;
 mod input;
@@ -13,7 +14,7 @@ mod leaves;
 mod limits;
 mod replay;
 mod reservation;
-mod rule;
+mod scheduler;
 
 use replay::{Finding, put_finding, replay, status_of};
 use std::alloc::Global;

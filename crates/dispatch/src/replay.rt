@@ -4,11 +4,12 @@ ghost use Rattle.dispatch.specs.Replay.{fault_of, event_fault, input_fault, inpu
 ghost use Rattle.dispatch.specs.Replay.{picks_in, finding_of, finding_text, reason, fault_text};
 ghost use Rattle.dispatch.specs.Replay.{status_of};
 
-use crate::events::{Event, Refusal};
+use crate::events::Refusal;
 use crate::fault::InputFault;
 use crate::input::Input;
-use crate::limits::{MAX_AMOUNT, MAX_PROCESSORS, MAX_SLICE_NS};
-use crate::rule::Dispatcher;
+use crate::limits::{MAX_AMOUNT, MAX_PROCESSORS, MAX_SLICE_NS, MAX_TERM_NS};
+use crate::reservation::Step;
+use crate::scheduler::Scheduler;
 use bw_streams::{put_last_word, put_number, put_refusal};
 use bw_text::split_line;
 use std::alloc::{AllocError, Global};
@@ -60,83 +61,110 @@ fn is_out(most: u64, n: u64) -> bool
 // Makes the processors.
 fn set_processors(
     alloc: Global,
-    dispatcher: &mut Dispatcher,
+    scheduler: &mut Scheduler,
     count: u64,
 ) -> Result<Option<LineFault>, AllocError>
-    ensures { IfOk result (λ f. (f ≡ input_fault dispatcher.old (Input.Processors count))
-        × (f ≡ None → dispatcher.new ≡ input_after dispatcher.old (Input.Processors count))) }
+    ensures { IfOk result (λ f. (f ≡ input_fault scheduler.old (Input.Processors count))
+        × (f ≡ None → scheduler.new ≡ input_after scheduler.old (Input.Processors count))) }
 {
-    if dispatcher.processor_count() > 0 {
+    if scheduler.processor_count() > 0 {
         return Ok(Some(LineFault::Bad(InputFault::BadLine)));
     }
     if is_out(MAX_PROCESSORS, count) {
         return Ok(Some(LineFault::Bad(InputFault::BadField)));
     }
-    dispatcher.set_processors(alloc, count)?;
+    scheduler.set_processors(alloc, count)?;
     Ok(None)
 }
 
 // Sets the slice.
-fn set_slice(dispatcher: &mut Dispatcher, slice: u64) -> Option<LineFault>
-    ensures fault { result ≡ input_fault dispatcher.old (Input.Slice slice) }
+fn set_slice(scheduler: &mut Scheduler, slice: u64) -> Option<LineFault>
+    ensures fault { result ≡ input_fault scheduler.old (Input.Slice slice) }
     ensures state { result ≡ None
-        → dispatcher.new ≡ input_after dispatcher.old (Input.Slice slice) }
+        → scheduler.new ≡ input_after scheduler.old (Input.Slice slice) }
 {
-    if dispatcher.slice() > 0 {
+    if scheduler.slice() > 0 {
         return Some(LineFault::Bad(InputFault::BadLine));
     }
     if is_out(MAX_SLICE_NS, slice) {
         return Some(LineFault::Bad(InputFault::BadField));
     }
-    dispatcher.set_slice(slice);
+    scheduler.set_slice(slice);
+    None
+}
+
+// Sets quantum, slack and credit.
+fn set_terms(scheduler: &mut Scheduler, quantum: u64, slack: u64, credit: u64) -> Option<LineFault>
+    ensures fault { result ≡ input_fault scheduler.old (Input.Terms quantum slack credit) }
+    ensures state { result ≡ None
+        → scheduler.new ≡ input_after scheduler.old (Input.Terms quantum slack credit) }
+{
+    if scheduler.quantum() > 0 || scheduler.leaf_count() > 0 {
+        return Some(LineFault::Bad(InputFault::BadLine));
+    }
+    if is_out(MAX_TERM_NS, quantum) || (MAX_TERM_NS < slack || MAX_TERM_NS < credit) {
+        return Some(LineFault::Bad(InputFault::BadField));
+    }
+    scheduler.set_terms(quantum as u32, slack as u32, credit as u32);
     None
 }
 
 // Adds a leaf.
 fn add_leaf(
-    dispatcher: &mut Dispatcher,
+    scheduler: &mut Scheduler,
     leaf: u64,
     amount: u64,
+    guarantee: u64,
 ) -> Result<Option<LineFault>, AllocError>
-    ensures { IfOk result (λ f. (f ≡ input_fault dispatcher.old (Input.Leaf leaf amount))
-        × (f ≡ None → dispatcher.new ≡ input_after dispatcher.old (Input.Leaf leaf amount))) }
+    ensures { IfOk result (λ f. (f ≡ input_fault scheduler.old (Input.Leaf leaf amount guarantee))
+        × (f ≡ None
+        → scheduler.new ≡ input_after scheduler.old (Input.Leaf leaf amount guarantee))) }
 {
-    if leaf != dispatcher.leaf_count() {
+    if leaf != scheduler.leaf_count() {
         return Ok(Some(LineFault::Bad(InputFault::BadLine)));
     }
     if is_out(MAX_AMOUNT, amount) {
         return Ok(Some(LineFault::Bad(InputFault::BadField)));
     }
-    dispatcher.add_leaf(amount)?;
+    scheduler.add_leaf(amount, guarantee)?;
     Ok(None)
 }
 
 // Makes an event.
-fn make_event(dispatcher: &mut Dispatcher, event: Event) -> Option<LineFault>
-    ensures fault { result ≡ input_fault dispatcher.old (Input.Event event) }
+fn make_event(scheduler: &mut Scheduler, event: Step) -> Option<LineFault>
+    ensures fault { result ≡ input_fault scheduler.old (Input.Event event) }
     ensures state { result ≡ None
-        → dispatcher.new ≡ input_after dispatcher.old (Input.Event event) }
+        → scheduler.new ≡ input_after scheduler.old (Input.Event event) }
 {
-    if dispatcher.slice() == 0 {
+    if scheduler.slice() == 0 {
         return Some(LineFault::Bad(InputFault::BadLine));
     }
-    event_fault(dispatcher.step(event))
+    event_fault(scheduler.step(event))
 }
 
 // Follows a line that is read.
 fn follow(
     alloc: Global,
-    dispatcher: &mut Dispatcher,
+    scheduler: &mut Scheduler,
     input: Input,
 ) -> Result<Option<LineFault>, AllocError>
-    ensures { IfOk result (λ f. (f ≡ input_fault dispatcher.old input)
-        × (f ≡ None → dispatcher.new ≡ input_after dispatcher.old input)) }
+    ensures { IfOk result (λ f. (f ≡ input_fault scheduler.old input)
+        × (f ≡ None → scheduler.new ≡ input_after scheduler.old input)) }
 {
     match input {
-        Input::Processors(count) => set_processors(alloc, dispatcher, count),
-        Input::Slice(slice) => Ok(set_slice(dispatcher, slice)),
-        Input::Leaf { leaf, amount } => add_leaf(dispatcher, leaf, amount),
-        Input::Event(event) => Ok(make_event(dispatcher, event)),
+        Input::Processors(count) => set_processors(alloc, scheduler, count),
+        Input::Slice(slice) => Ok(set_slice(scheduler, slice)),
+        Input::Terms {
+            quantum,
+            slack,
+            credit,
+        } => Ok(set_terms(scheduler, quantum, slack, credit)),
+        Input::Leaf {
+            leaf,
+            amount,
+            guarantee,
+        } => add_leaf(scheduler, leaf, amount, guarantee),
+        Input::Event(event) => Ok(make_event(scheduler, event)),
     }
 }
 
@@ -145,7 +173,7 @@ fn picks_in(input: Input) -> u64
     ensures { result ≡ picks_in input }
 {
     match input {
-        Input::Event(Event::Pick { .. }) => 1,
+        Input::Event(Step::Pick { .. }) => 1,
         _ => 0,
     }
 }
@@ -159,7 +187,7 @@ fn picks_in(input: Input) -> u64
 pub fn replay(alloc: Global, text: &[u8]) -> Result<Finding, AllocError>
     ensures { IfOk result (λ f. f ≡ finding_of text.now) }
 {
-    let mut dispatcher = Dispatcher::new(alloc);
+    let mut scheduler = Scheduler::new(alloc);
     let mut picks: u64 = 0;
     let mut line: u64 = 1;
     let mut rest = text;
@@ -171,7 +199,7 @@ pub fn replay(alloc: Global, text: &[u8]) -> Result<Finding, AllocError>
                 return Ok(Finding::Refused { line, fault });
             }
         };
-        if let Some(fault) = follow(alloc, &mut dispatcher, input)? {
+        if let Some(fault) = follow(alloc, &mut scheduler, input)? {
             return Ok(Finding::Refused { line, fault });
         }
         picks += picks_in(input);
@@ -194,6 +222,7 @@ fn reason(refusal: Refusal) -> &'static str
         Refusal::ProcessorBusy => "the processor runs a task",
         Refusal::ProcessorIdle => "the processor runs no task",
         Refusal::NothingWaits => "no task of the leaf waits",
+        Refusal::NotEarliest => "a leaf that is due has an earlier deadline",
         Refusal::NotLeast => "a leaf that waits has a lesser clock",
         Refusal::UnknownLeaf => "no such leaf",
         Refusal::UnknownProcessor => "no such processor",

@@ -16,6 +16,21 @@ pub struct Account {
     pub owed: u64,
 }
 
+/// The numbers that the rule goes by.
+#[derive(Clone, Copy, Debug, PartialEq)]
+pub struct Terms {
+    /// Slice, in nanoseconds: what a pick charges to the clock of a share.
+    pub slice: u64,
+    /// Quantum, in nanoseconds: a slice with its longest overrun, which a pick takes of what is owed.
+    pub quantum: u32,
+    /// Slack, in nanoseconds: a leaf is due when it is behind by this of its guarantee.
+    pub slack: u32,
+    /// Credit, in nanoseconds: what a leaf without tasks keeps of its guarantee.
+    pub credit: u32,
+    /// Number of processors.
+    pub processors: u64,
+}
+
 /// What a processor runs.
 #[derive(Clone, Copy, Debug, PartialEq)]
 pub struct Run {
@@ -57,6 +72,8 @@ pub enum Step {
         amount: u64,
         guarantee: u64,
     },
+    /// A task of the leaf that waits leaves it, or sleeps before it is picked.
+    Leave(u64),
     /// A limit stopped the leaf. What it is owed beyond its credit is cut.
     Cut(u64),
 }

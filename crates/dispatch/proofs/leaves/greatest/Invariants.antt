@@ -1,9 +1,11 @@
 -- Invariant of each turn of the loop in `greatest`: the greatest clock so far, raised by the rest,
 -- is that of all.
 use Rattle.std.proofs.Common.{◌≡◌, drop}
+use Rattle.dispatch.specs.Reservation.{leaves_of}
 use Rattle.dispatch.specs.Rule.{greatest_from, greatest}
 use Rattle.dispatch.proofs.leaves.greatest.Given as goal
 
-abbrev pub invariant-loop-leaf : goal.invariant-loop-leaf
-invariant-loop-leaf l =
-    greatest_from l.greatest l.amount (drop l.leaf-index l.leaves) ≡ greatest l.amount l.leaves
+abbrev pub invariant-loop-account : goal.invariant-loop-account
+invariant-loop-account l =
+    greatest_from l.greatest l.amount (leaves_of (drop l.account-index l.accounts))
+    ≡ greatest l.amount (leaves_of l.accounts)

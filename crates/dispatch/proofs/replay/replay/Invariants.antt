@@ -6,7 +6,7 @@ use Rattle.dispatch.proofs.replay.replay.Given as goal
 
 abbrev pub invariant-loop-words : goal.invariant-loop-words
 invariant-loop-words l = record {
-  found : finding_from l.dispatcher l.line l.picks (slice_split (λ b. b == 10) l.rest)
+  found : finding_from l.scheduler l.line l.picks (slice_split (λ b. b == 10) l.rest)
       ≡ finding_of l.text;
   lines : l.line + length (slice_split (λ b. b == 10) l.rest)
       ≡ 1 + length (slice_split (λ b. b == 10) l.text);
