@@ -103,7 +103,7 @@ def test_table(ctl, folder):
         "intervals: 2, each of 10 s; the proved check accepted each plan",
         "off: what a group used less its plan, in hundredths of a CPU and in parts of the plan",
         "used outside these groups, as a mean: 0.010 CPUs"]
-    assert lines[5].split() == " ".join(answer.HEADS).split()
+    assert lines[5].split() == " ".join(each.title for each in answer.COLUMNS).split()
     assert lines[6].split()[:7] == ["1.300", "1.350", "-5.0", "-4%", "-10.0", "-7%", "2"]
     assert lines[7].split()[:7] == ["0.490", "0.500", "-1.0", "-2%", "-2.0", "-4%", "2"]
     assert [line.split()[-1] for line in lines[6:8]] == ["batch", "web"]

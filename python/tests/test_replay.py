@@ -76,8 +76,8 @@ def test_repeated_periods_are_periods(engine, quota, burst, before, after, perio
     for path, single in cells([each for each in wants for _ in range(periods)], 1).items():
         parts = [single[begin:begin + periods] for begin in range(0, 3 * periods, periods)]
         for cell, part in zip(whole[path], parts, strict=True):
-            assert cell.data() == {name: sum(each.data()[name] for each in part)
-                                   for name in cell.data()}
+            assert all(getattr(cell, key) == sum(getattr(each, key) for each in part)
+                       for key in series.COUNTS)
             assert cell.limit == sum(each.limit for each in part)
 
 

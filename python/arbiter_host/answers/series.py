@@ -6,14 +6,13 @@ that the proved check has not accepted.
 """
 from __future__ import annotations
 
-import csv
-import io
 import itertools
 import json
 from array import array
 from collections.abc import Callable, Iterable, Iterator, Mapping, Sequence
 from dataclasses import dataclass
 from fractions import Fraction
+from typing import Any
 
 from arbiter import Host, QuotaColumns, Samples
 from arbiter.c import NO_LIMIT, NO_PARENT
@@ -22,6 +21,7 @@ from arbiter_host.base.faults import HostFault, UsageFault
 from arbiter_host.base.model import Model, checked
 from arbiter_host.base.names import cut, parent_path, short, shown
 from arbiter_host.base.plan import Engine
+from arbiter_host.base.tables import Answer, Column, Forms, Table
 from arbiter_host.sources.samples import History
 
 FLAGS = (("T", "throttled", "#b4231f"), ("t", "throttled, not by its limit", "#d97706"),
@@ -64,9 +64,6 @@ class SampleCell:
     def mean(self, slices: int) -> Fraction:
         """A sum as a mean over the periods."""
         return Fraction(slices, max(self.periods, 1))
-
-    def data(self) -> dict[str, int]:
-        return {name: getattr(self, key) for key, name in COUNTS.items()}
 
     @property
     def flags(self) -> str:
@@ -220,47 +217,63 @@ def written(series: Series, slices: Fraction, unit: str) -> str:
     return units.decimal(value, 3 if unit == "cpu" else 1)
 
 
-def as_text(series: Series, unit: str) -> str:
+# A group with its sums over all samples.
+Sums = tuple[str, dict[str, int]]
+# A group in a sample: the sample's name, the group's path, and the cell.
+Sampled = tuple[str, str, SampleCell]
+
+
+def counted(title: str, key: str) -> Column[Sums]:
+    """A column of a count of periods, or of microseconds."""
+    return Column(title, lambda each: str(each[1][key]))
+
+
+def table(series: Series, unit: str) -> Table[Sums]:
     """The sums of each group as a table. `wanted` and `got` are means."""
-    rows = [["group", "wanted", "got", "of it", "throttled", "not by limit", "withheld_usec",
-             "bursts", "starved", "samples in a row"]]
-    for path, cells in series.groups.items():
-        sums = summed(cells)
-        wanted, got = (written(series, Fraction(sums[key], max(sums["periods"], 1)), unit)
-                       for key in ("wanted", "got"))
-        part = f"{100 * sums['got'] / sums['wanted']:.0f}%" if sums["wanted"] else "-"
-        rows.append([short(shown(path)), wanted, got, part, *(str(sums[key]) for key in (
-            "throttled", "throttled_not_by_limit", "withheld_usec", "bursts", "starved",
-            "samples_starved_in_a_row"))])
-    return "".join(f"{line}\n" for line in text.table(rows, (0,)))
+    def mean(key: str) -> Column[Sums]:
+        return Column(key, lambda each: written(
+            series, Fraction(each[1][key], max(each[1]["periods"], 1)), unit))
+
+    return Table([
+        Column("group", lambda each: short(shown(each[0])), True), mean("wanted"), mean("got"),
+        Column("of it", lambda each: f"{100 * each[1]['got'] / each[1]['wanted']:.0f}%"
+               if each[1]["wanted"] else "-"),
+        counted("throttled", "throttled"), counted("not by limit", "throttled_not_by_limit"),
+        counted("withheld_usec", "withheld_usec"), counted("bursts", "bursts"),
+        counted("starved", "starved"), counted("samples in a row", "samples_starved_in_a_row")],
+                 [(path, summed(cells)) for path, cells in series.groups.items()])
 
 
-def records(series: Series, unit: str) -> Iterator[dict[str, object]]:
-    for place, name in enumerate(series.names):
-        for path, cells in series.groups.items():
-            cell = cells[place]
-            gets, wants, limit = (None if each is None else written(series, cell.mean(each), unit)
-                                  for each in (cell.gets, cell.wants, cell.limit))
-            counts = cell.data()
-            del counts["got"], counts["wanted"]
-            yield {"sample": name, "group": path, "gets": gets, "wants": wants, "limit": limit,
-                   **counts}
+def records(series: Series, unit: str) -> Table[Sampled]:
+    """Each group in each sample. Amounts are means over its periods, in the unit."""
+    def amount(title: str, key: str) -> Column[Sampled]:
+        def value(each: Sampled) -> str | None:
+            slices = getattr(each[2], key)
+            return None if slices is None else written(series, each[2].mean(slices), unit)
+
+        return column(title, value)
+
+    return Table([
+        column("sample", lambda each: each[0]), column("group", lambda each: each[1]),
+        amount("gets", "gets"), amount("wants", "wants"), amount("limit", "limit"),
+        *(column(name, lambda each, key=key: getattr(each[2], key))  # type: ignore[misc]
+          for key, name in COUNTS.items() if name not in ("got", "wanted"))],
+                 [(name, path, cells[at]) for at, name in enumerate(series.names)
+                  for path, cells in series.groups.items()])
 
 
-def as_csv(series: Series, unit: str) -> str:
-    """The records as CSV. Names are escaped."""
-    out = io.StringIO()
-    rows = list(records(series, unit))
-    writer = csv.DictWriter(out, list(rows[0]), lineterminator="\n")
-    writer.writeheader()
-    writer.writerows({**row, "sample": shown(str(row["sample"])), "group": shown(str(row["group"]))}
-                     for row in rows)
-    return out.getvalue()
+def column(key: str, value: Callable[[Sampled], Any]) -> Column[Sampled]:
+    """A column of records, whose title is its key."""
+    return Column(key, lambda each: str(value(each)), None, key, value)
 
 
-def as_json(series: Series, unit: str) -> str:
-    """The records as JSON, with ASCII letters alone."""
-    return json.dumps({"unit": unit, "records": list(records(series, unit))}, indent=1) + "\n"
+def forms(series: Series, unit: str) -> Forms:
+    """The forms of samples."""
+    return {**Answer((), [table(series, unit)], dict).forms(),
+            "csv": lambda: records(series, unit).csv(),
+            "json": lambda: json.dumps({"unit": unit, "records": records(series, unit).data()},
+                                       indent=1) + "\n",
+            "svg": lambda: picture(series)}
 
 
 def runs(holds: Sequence[bool]) -> Iterator[tuple[int, int]]:

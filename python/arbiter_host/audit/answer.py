@@ -14,12 +14,11 @@ from arbiter_host.base.demands import mean
 from arbiter_host.base.html import bar, rendered
 from arbiter_host.base.model import Group
 from arbiter_host.base.names import below, common_parent, cut, short, shown
+from arbiter_host.base.tables import Answer, Column, Table
 
-HEADS = ("used", "plan", "mean off", "of plan", "worst off", "of plan then", "intervals",
-         "likely cause", "group")
 # Keys of the cells of a group as data, and what they hold.
-COLUMNS = {"used_millicpu": "used", "demand_millicpu": "demand", "plan_millicpu": "planned",
-           "periods": "periods", "throttled": "throttled", "hungry": "hungry", "tasks": "tasks"}
+CELLS = {"used_millicpu": "used", "demand_millicpu": "demand", "plan_millicpu": "planned",
+         "periods": "periods", "throttled": "throttled", "hungry": "hungry", "tasks": "tasks"}
 # Thousandths of a CPU of a hundredth.
 HUNDREDTH = 10
 # Groups whose use is drawn.
@@ -114,12 +113,22 @@ def head(ranked: Ranked) -> Iterator[str]:
         yield f"used outside these groups, as a mean: {cpus(mean(unplanned))} CPUs"
 
 
-def cells_of(row: AuditRow) -> list[str]:
-    """The cells of a row, in the order of HEADS."""
-    average, most = row.average, row.most
-    return [cpus(average.used), cpus(average.planned), points(average.off), percent(average.part),
-            points(most.off), percent(most.part), str(row.count), row.cause,
-            short(shown(row.path))]
+COLUMNS: list[Column[AuditRow]] = [
+    Column("used", lambda row: cpus(row.average.used)),
+    Column("plan", lambda row: cpus(row.average.planned)),
+    Column("mean off", lambda row: points(row.average.off)),
+    Column("of plan", lambda row: percent(row.average.part)),
+    Column("worst off", lambda row: points(row.most.off)),
+    Column("of plan then", lambda row: percent(row.most.part)),
+    Column("intervals", lambda row: str(row.count)),
+    Column("likely cause", lambda row: row.cause),
+    Column("group", lambda row: short(shown(row.path)), True)]
+
+
+def table(ranked: Ranked) -> Table[AuditRow]:
+    """A row for each busy group. One that is not explained is red."""
+    return Table(COLUMNS, ranked.busy,
+                 style=lambda row: "red" if row.cause == NOTHING else "")
 
 
 def foot(ranked: Ranked) -> Iterator[str]:
@@ -151,7 +160,7 @@ def row_data(row: AuditRow, intervals: Sequence[Interval]) -> dict[str, Any]:
             "mean": off_data(row.average), "worst": {"interval": row.worst, **off_data(row.most)},
             "cause": row.cause,
             **{name: [None if cell is None else number(getattr(cell, key)) for cell in row.cells]
-               for name, key in COLUMNS.items()}}
+               for name, key in CELLS.items()}}
 
 
 def as_data(ranked: Ranked) -> dict[str, Any]:
@@ -165,6 +174,12 @@ def as_data(ranked: Ranked) -> dict[str, Any]:
                           for each in audit.intervals],
             "notes": audit.notes, "placement": {"not_known": ranked.why_not or None},
             "groups": [row_data(row, audit.intervals) for row in ranked.rows]}
+
+
+def answer(ranked: Ranked) -> Answer:
+    """An audit as lines and as data."""
+    return Answer([*((line, "") for line in head(ranked)), ("", "")], [table(ranked)],
+                  lambda: as_data(ranked), [(line, "") for line in foot(ranked)])
 
 
 def lines_of(row: AuditRow) -> list[tuple[str, str, list[float | None]]]:
@@ -221,10 +236,10 @@ def page(found: Ranked, title: str) -> str:
     """One HTML page: the table, which sorts, and plan and use over time of the worst groups."""
     intervals, host = found.audit.intervals, found.audit.plan.model.host
     rows, prefix = [], common_parent(row.path for row in found.busy)
-    for row in found.busy:
-        *cells, cause, _ = cells_of(row)
+    whole = table(found)
+    for row, (*cells, cause, _) in zip(found.busy, whole.rows):
         rows.append({"name": short(shown(below(row.path, prefix))), "cause": cause,
-                     "cells": list(zip(HEADS, cells)), "is_bad": row.cause == NOTHING})
+                     "cells": list(zip(whole.heads, cells)), "is_bad": row.cause == NOTHING})
     return rendered("audit.html", title, head(found), rows=rows, prefix=short(shown(prefix)),
                     drawn=drawn(found.busy, intervals, prefix), foot=list(foot(found)),
                     hosts=bars(intervals, Fraction(1000 * host.processors)),

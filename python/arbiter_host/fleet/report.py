@@ -4,12 +4,13 @@ from __future__ import annotations
 from collections.abc import Callable, Iterable, Mapping, Sequence
 from dataclasses import dataclass, replace
 from fractions import Fraction
+from operator import itemgetter
 from typing import Any
 
 from arbiter_host.answers.series import COUNTS
-from arbiter_host.base import text as layout
 from arbiter_host.base.html import bar, rendered
 from arbiter_host.base.names import short, shown
+from arbiter_host.base.tables import Answer, Column, Table
 from arbiter_host.fleet.answers import HostAnswer
 from arbiter_host.fleet.hosts import Fleet
 from arbiter_host.fleet.work import Action
@@ -28,35 +29,20 @@ MOST_ROWS = 20
 
 
 @dataclass(frozen=True)
-class Table:
-    """Rows of one shape, in the order in which they are told."""
-
-    title: str
-    heads: list[str]
-    rows: list[list[str]]
-
-    @property
-    def left(self) -> list[int]:
-        """The columns of words. In one of numbers `-` stands for none."""
-        return [at for at, column in enumerate(zip(*self.rows)) if at == 0 or not all(
-            cell == "-" or cell.lstrip("+-")[:1].isdigit() for cell in column)]
-
-
-@dataclass(frozen=True)
 class Report:
     """All that is told of a run, by the name of its question: lines, tables, hosts without an
     answer, the same as data, and the bars of all hosts together."""
 
     name: str
     lines: list[str]
-    tables: list[Table]
+    tables: list[Table[Any]]
     missing: list[tuple[str, str]]
     data: dict[str, Any]
     bars: list[dict[str, Any]]
 
 
 # Lines, tables, the same as data, and the CPUs of each bar by its name.
-Parts = tuple[list[str], list[Table], dict[str, Any], dict[str, Fraction]]
+Parts = tuple[list[str], list[Table[Any]], dict[str, Any], dict[str, Fraction]]
 Cell = Callable[[HostAnswer], str]
 Columns = Mapping[str, Cell]
 
@@ -71,10 +57,18 @@ def amount_of(*keys: str) -> Cell:
     return lambda host: cpu(host.of(*keys))
 
 
-def table(title: str, hosts: Iterable[HostAnswer], columns: Columns) -> Table:
+def table(title: str, hosts: Iterable[HostAnswer], columns: Columns) -> Table[HostAnswer]:
     """A table with a row for each host, in the order in which they are given."""
-    return Table(title, ["host", *columns], [
-        [host.name, *(cell(host) for cell in columns.values())] for host in hosts])
+    return Table([Column("host", lambda host: host.name, True),
+                  *(Column(head, cell, None) for head, cell in columns.items())],
+                 list(hosts), title)
+
+
+def listed(title: str, heads: Sequence[str], rows: Sequence[Sequence[str]]
+           ) -> Table[Sequence[str]]:
+    """A table of rows that are made, of which the first column has names."""
+    return Table([Column(head, itemgetter(at), at == 0 or None) for at, head in enumerate(heads)],
+                 rows, title)
 
 
 def cpu(value: Fraction) -> str:
@@ -174,11 +168,10 @@ def of_changes(hosts: Sequence[HostAnswer], _: str) -> Parts:
              f"hosts with such a group: {with_group} of {len(hosts)}",
              f"groups that gain: {gain}, that lose: {lose}, of"
              f" {sum(count for _, count in changes)} without children"]
-    tables = [Table("Groups that gain and lose most", ["host", "group", "change"],
-                    [*moved(hosts, "gains"), *moved(hosts, "losses")]),
-              table("Hosts, the greatest loss first",
-                    sorted(hosts, key=lambda host: (-lost(host), host.name)), CHANGE_COLUMNS)]
-    return lines, tables, {
+    most = listed("Groups that gain and lose most", ["host", "group", "change"],
+                  [*moved(hosts, "gains"), *moved(hosts, "losses")])
+    ordered = sorted(hosts, key=lambda host: (-lost(host), host.name))
+    return lines, [most, table("Hosts, the greatest loss first", ordered, CHANGE_COLUMNS)], {
         "before_cpus": number(before), "after_cpus": number(after), "gain": gain, "lose": lose,
         "hosts_with_such_a_group": with_group}, {"before": before, "after": after}
 
@@ -327,35 +320,22 @@ def with_pending(to: Report, fleet: Fleet, hosts: Sequence[HostAnswer], rule: st
     line = (f"pods that no node has yet: {len(pods)}, unplaced: {unplaced}; by {rule}:"
             f" {RULES[rule]}")
     return replace(to, lines=[*to.lines, line], data={**to.data, "pending": pods}, tables=[
-        *to.tables, Table("Pods that no node has yet", PENDING, rows)])
+        *to.tables, listed("Pods that no node has yet", PENDING, rows)])
 
 
-def table_lines(table_: Table, has_all: bool) -> list[str]:
-    """A table as text, of at most MOST_ROWS rows unless all are asked for."""
-    rows = table_.rows if has_all else table_.rows[:MOST_ROWS]
-    more = len(table_.rows) - len(rows)
-    return layout.table([table_.heads, *rows], table_.left) + ([f"and {more} more (--all)"]
-                                                        if more else [])
-
-
-def text(report: Report, has_all: bool) -> str:
-    """The report as text. Each host without an answer is named."""
-    lines = list(report.lines)
-    for each in report.tables:
-        if each.rows:
-            lines += ["", f"{each.title}:", *table_lines(each, has_all)]
-    if report.missing:
-        lines += ["", "Not answered:", *(f"{name}: {shown(why)}" for name, why in report.missing)]
-    return "".join(f"{line}\n" for line in lines)
+def answer(report: Report, has_all: bool) -> Answer:
+    """The report as an answer. Each host without one is named."""
+    foot = ["", "Not answered:", *(f"{name}: {shown(why)}" for name, why in report.missing)]
+    return Answer([(line, "") for line in report.lines],
+                  [each for each in report.tables if each.records], lambda: report.data,
+                  [(line, "") for line in foot] if report.missing else (),
+                  None if has_all else MOST_ROWS)
 
 
 def page(report: Report, words: Sequence[str] = ()) -> str:
     """The report as one HTML page, whose tables sort and can be searched, with the words of a
     change."""
-    tables = [{"title": each.title, "heads": each.heads,
-               "left": [each.heads[at] for at in each.left],
-               "rows": [[shown(cell) for cell in row] for row in each.rows]}
-              for each in report.tables if each.rows]
     missing = [(shown(name), shown(why)) for name, why in report.missing]
-    return rendered("fleet.html", f"Fleet: {report.name}", report.lines, tables=tables,
-                    hosts=report.bars, words=list(map(shown, words)), missing=missing)
+    return rendered("fleet.html", f"Fleet: {report.name}", report.lines, hosts=report.bars,
+                    tables=[each.page() for each in report.tables if each.records],
+                    words=list(map(shown, words)), missing=missing)

@@ -8,12 +8,11 @@ from arbiter import Library
 from arbiter_host import options
 from arbiter_host.audit import answer, intervals, ranges, unknown
 from arbiter_host.audit.answer import Ranked
-from arbiter_host.audit.causes import NOTHING
-from arbiter_host.base import progress, text
+from arbiter_host.base import progress
 from arbiter_host.base.faults import HostFault, UsageFault
 from arbiter_host.base.model import Model
 from arbiter_host.base.names import shown
-from arbiter_host.base.output import json_text, write_forms
+from arbiter_host.base.output import write_forms
 from arbiter_host.base.plan import Engine, engine_of
 from arbiter_host.records import source_options
 from arbiter_host.sources import load, prometheus, readings
@@ -81,21 +80,10 @@ def audited(asked: argparse.Namespace) -> Ranked:
     return answer.ranked(audit)
 
 
-def lines_of(ranked: Ranked) -> list[tuple[str, str]]:
-    """The lines of an audit. What is not explained is red."""
-    table = [list(answer.HEADS), *(answer.cells_of(row) for row in ranked.busy)]
-    styles = ["bold", *("red" if row.cause == NOTHING else "" for row in ranked.busy)]
-    lines = text.table(table, [len(answer.HEADS) - 1])
-    return [*((line, "") for line in answer.head(ranked)), ("", ""), *zip(lines, styles),
-            *((line, "") for line in answer.foot(ranked))]
-
-
 def run(asked: argparse.Namespace) -> None:
     """Measures how far off the plan is, and writes the answers."""
     outputs, name = options.outputs(asked), source_name(asked.source or [readings.HOST_TREE])
     ranked = audited(asked)
     load.warn(Model(notes=ranked.audit.notes), name)
-
-    write_forms(outputs, {"text": lambda: lines_of(ranked),
-                          "json": lambda: json_text(answer.as_data(ranked)),
+    write_forms(outputs, {**answer.answer(ranked).forms(),
                           "html": lambda: answer.page(ranked, f"Audit of {name}")})

@@ -10,7 +10,7 @@ from arbiter_host import options as table
 from arbiter_host.base import names, plain_files
 from arbiter_host.base.faults import UsageFault
 from arbiter_host.base.model import Group
-from arbiter_host.base.output import json_text, warn, write_forms
+from arbiter_host.base.output import warn, write_forms
 from arbiter_host.fleet import hosts, questions, report
 from arbiter_host.fleet.hosts import Fleet
 from arbiter_host.fleet.work import Action, Job
@@ -84,8 +84,7 @@ def answer(options: argparse.Namespace, fleet: Fleet, action: Action) -> None:
     told, check = questions.reported(
         options.asked, questions.Planners(options.workers, options.dask), job, fleet,
         options.rank, samples)
-    write_forms(outputs, {"text": lambda: report.text(told, options.everything),
-                          "json": lambda: json_text(told.data),
+    write_forms(outputs, {**report.answer(told, options.everything).forms(),
                           "html": lambda: report.page(told, options.set)})
     check()
 

@@ -15,9 +15,10 @@ from arbiter_host.base.model import Model
 from arbiter_host.base.names import cut, few, short, shown
 from arbiter_host.base.output import Styled
 from arbiter_host.base.plan import Engine, engine_of
+from arbiter_host.base.tables import Answer, Column, Table
 from arbiter_host.fleet import hosts as cluster
 from arbiter_host.fleet.hosts import Fleet
-from arbiter_host.recommend import Advised, Recommendation, SeenHost
+from arbiter_host.recommend import Advised, Proposal, Recommendation, SeenHost
 from arbiter_host.records import OF_SAMPLES, source_options, use_options
 from arbiter_host.sources import change, kubernetes, load, used
 from arbiter_host.sources.data import loads
@@ -117,8 +118,7 @@ def run(options: argparse.Namespace) -> None:
         for (_, model), each in zip(models, zip(uses, chosen_of(options, models)))], rule)
     for before, after in advice.plans:
         change.warned(before.model, after.model)
-    output.write_forms(outputs, {"text": lambda: lines_of(advice),
-                                 "json": lambda: output.json_text(recommend.as_data(advice))})
+    output.write_forms(outputs, answer(advice).forms())
 
 
 def hosts_words(advice: Recommendation) -> str:
@@ -150,28 +150,37 @@ def heading(advice: Recommendation, short_: list[str]) -> Styled:
             ("", "")]
 
 
-def row(advice: Recommendation, each: Advised) -> list[str]:
-    """The cells of an owner: what weighs and what limits its groups are as people write them."""
-    one, least = each.proposal, each.least
-    settings = [word for key, now in zip(advice.keys, one.words)
-                for word in (cut(now, 20), one.values.get(key, "-"))]
+def title(one: Proposal) -> str:
+    """The name of an owner, and how many groups it has where these are several."""
     of = f" ({len(one.groups)})" if len(one.groups) > 1 else ""
-    return [str(len(one.use.values)), f"{float(one.used):.0f}m",
-            f"{float(one.most):.0f}m{'*' if one.is_throttled else ''}", *settings,
-            *(f"{units.decimal(amount, 1)}m" for amount in (least.gets, least.guaranteed)),
-            cut(short(shown(one.title)), 100) + of]
+    return cut(short(shown(one.title)), 100) + of
 
 
-def lines_of(advice: Recommendation) -> Styled:
-    """The lines of `recommend`. A container that is short then is red."""
-    rows = [["samples", "used", "most", advice.keys[0], "then", advice.keys[1], "then", "gets",
-             "guaranteed", advice.noun], *(row(advice, each) for each in advice.rows)]
+def columns(advice: Recommendation) -> list[Column[Advised]]:
+    """The columns of owners: what weighs and what limits their groups is as people write them."""
+    weighs, limits = advice.keys
+    return [
+        Column("samples", lambda each: str(len(each.proposal.use.values))),
+        Column("used", lambda each: f"{float(each.proposal.used):.0f}m"),
+        Column("most", lambda each: f"{float(each.proposal.most):.0f}m"
+               f"{'*' if each.proposal.is_throttled else ''}"),
+        Column(weighs, lambda each: cut(each.proposal.words[0], 20)),
+        Column("then", lambda each: each.proposal.values.get(weighs, "-")),
+        Column(limits, lambda each: cut(each.proposal.words[1], 20)),
+        Column("then", lambda each: each.proposal.values.get(limits, "-")),
+        Column("gets", lambda each: f"{units.decimal(each.least.gets, 1)}m"),
+        Column("guaranteed", lambda each: f"{units.decimal(each.least.guaranteed, 1)}m"),
+        Column(advice.noun, lambda each: title(each.proposal), True)]
+
+
+def answer(advice: Recommendation) -> Answer:
+    """The answer of `recommend`. A container that is short then is red."""
     short_ = [shown(each.proposal.title) for each in advice.rows if each.is_short]
     notes = [(words, "") for words, is_told in (
         ("* throttled at its limit: it wanted more than it used",
          any(each.proposal.is_throttled for each in advice.rows)),
         (f"(N) N {advice.noun}s: `gets` and `guaranteed` are of the one that has least",
          any(len(each.proposal.groups) > 1 for each in advice.rows))) if is_told]
-    return [*heading(advice, short_),
-            *zip(text.table(rows, (len(rows[0]) - 1,)),
-                 ["bold", *("red" if each.is_short else "" for each in advice.rows)]), *notes]
+    return Answer(heading(advice, short_), [Table(
+        columns(advice), advice.rows, style=lambda each: "red" if each.is_short else "")],
+                  lambda: recommend.as_data(advice), notes)

@@ -68,7 +68,4 @@ def run(options: argparse.Namespace) -> None:
     if any(form == "html" for form, _ in outputs):
         raise UsageFault("-o html: of one host there is text, json, csv and svg")
     series_ = replayed(options, files, uses, engine_of(options.library))
-    output.write_forms(outputs, {"text": lambda: series.as_text(series_, options.unit),
-                                 "csv": lambda: series.as_csv(series_, options.unit),
-                                 "json": lambda: series.as_json(series_, options.unit),
-                                 "svg": lambda: series.picture(series_)})
+    output.write_forms(outputs, series.forms(series_, options.unit))
