@@ -59,6 +59,40 @@ pytest_all() {
     -n "$(nproc)" --dist loadfile --junitxml="$test_report" -q </dev/null
 }
 
+# Tests that need no build and take about a minute: what is quick fails first.
+pytest_quick() {
+  local some=(python/tests/test_layers.py python/tests/test_interface.py
+    python/tests/test_package.py::test_{mypy,pyflakes,columns,functions_are_short_and_have_comments}
+    python/tests/test_manual.py::test_files_are_made_from_the_help tests/test_pages.py)
+  [ -d python/tests ] || some=(tests/test_pages.py)
+  "$python" -B -m pytest "${some[@]}" -k 'not readme_command' -n "$(nproc)" -q -x </dev/null
+}
+
+# What a checked build can show, without the tests of tests/checked/left_out.txt.
+pytest_checked() {
+  rm -f "$test_report"
+  timeout --kill-after=10 "$test_seconds" "$python" -m pytest tests python/tests --checked \
+    --fuzz-runs 200 -n "$(nproc)" --dist loadfile --junitxml="$test_report" -q </dev/null
+}
+
+# ./test --checked: its last line says what was not proved.
+test_checked() {
+  local passed failed status crates edits
+  need_kit test
+  need_packages
+  pytest_checked
+  status=$?
+  read -r passed failed < <(pytest_counts)
+  [ "$status" = 0 ] || [ "$failed" != 0 ] || failed=1
+  crates=$(grep -c '^[a-z].*:' crates.txt)
+  edits=$(find crates/*/must-fail -name '*.edit' | wc -l)
+  echo "test: it took $(in_words "$SECONDS")"
+  echo "test: tests/checked/left_out.txt has what was left out; ./test runs all"
+  echo "$passed passed, $failed failed on the checked build; not proved: $crates crates, nor that" \
+    "their $edits wrong bodies are refused"
+  [ "$failed" = 0 ]
+}
+
 # Prints the numbers of passed and failed tests. Skipped tests are neither.
 pytest_counts() {
   local suite name tests=0 failures=0 errors=0 skipped=0

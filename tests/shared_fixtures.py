@@ -13,15 +13,56 @@ import support
 def pytest_addoption(parser):
     group = parser.getgroup("arbiter")
     group.addoption("--program", metavar="PATH", default=support.PROGRAM,
-                    help="native program under test (default: the one that ./build makes)")
+                    help="program under test (default: the native one that ./build makes);"
+                    " ./arbiter is what that runs")
     group.addoption("--library", metavar="PATH", default=support.LIBRARY,
                     help="shared C library under test, libarbiter.so, with libarbiter.a beside it")
+    group.addoption("--checked", action="store_true",
+                    help="the checked build of program and calls, which proves nothing, without the"
+                    " tests of tests/checked/left_out.txt")
     group.addoption("--memory-tests", metavar="PATH", default=support.MEMORY_TESTS,
                     help="program of tests that repeat each call that was refused memory")
     group.addoption("--fuzz-seconds", metavar="N", type=int, default=10,
                     help="seconds that each fuzzer of the C library runs (default 10)")
+    group.addoption("--fuzz-runs", metavar="N", type=int, default=0,
+                    help="inputs that each fuzzer tries, in the place of seconds")
     group.addoption("--write", action="store_true",
                     help="put the program's answers into the pages of docs/, to be read by hand")
+
+
+def make_checked(config, *what):
+    """Makes the checked build, once for all workers."""
+    if hasattr(config, "workerinput"):
+        return
+    ended = subprocess.run(["bash", "scripts/make_checked.sh", *what], cwd=support.ROOT, check=False,
+                           stdin=subprocess.DEVNULL)
+    if ended.returncode != 0:
+        pytest.exit("no checked build", ended.returncode)
+
+
+def pytest_configure(config):
+    """Finds the checked build where it is asked for."""
+    if config.getoption("checked"):
+        make_checked(config)
+        config.option.program = support.CHECKED / "arbiter"
+        config.option.library = support.CHECKED / "libarbiter.so"
+    elif Path(config.getoption("program")).resolve() == support.ROOT / "arbiter":
+        make_checked(config, "program")
+        config.option.program = support.CHECKED / "arbiter"
+
+
+def pytest_collection_modifyitems(config, items):
+    """Leaves out what a checked build cannot show."""
+    if not config.getoption("checked"):
+        return
+    lines = (support.ROOT / "tests/checked/left_out.txt").read_text().splitlines()
+    left_out = tuple(line.partition("\t")[0] for line in lines if not line.startswith("#"))
+
+    def is_left_out(item):
+        return f"{item.path.relative_to(support.ROOT)}::{item.name}".startswith(left_out)
+
+    config.hook.pytest_deselected(items=[item for item in items if is_left_out(item)])
+    items[:] = [item for item in items if not is_left_out(item)]
 
 
 def pytest_report_header(config):

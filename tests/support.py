@@ -17,6 +17,8 @@ ROOT = Path(__file__).resolve().parent.parent
 PROGRAM = ROOT / "crates/arbiter/out/arbiter"
 LIBRARY = ROOT / "crates/bw_exports/out/libarbiter.so"
 MEMORY_TESTS = ROOT / "crates/bw_memory_tests/out/bw_memory_tests_tests"
+# What scripts/make_checked.sh makes.
+CHECKED = ROOT / "out/checked"
 # Time limit of one process, in seconds.
 SECONDS = 60
 # Number of allocations that one round of a sweep refuses, each in a run of its own.

@@ -124,20 +124,21 @@ def findings(folder):
 @pytest.mark.parametrize("kind", KINDS)
 def test_fuzz(built, kind, request, tmp_path, record_property):
     """No input breaks what the header says; each kept input and many new ones are tried."""
-    seconds = request.config.getoption("fuzz_seconds")
+    seconds, runs = (request.config.getoption(f"fuzz_{each}") for each in ("seconds", "runs"))
+    end = f"-runs={runs}" if runs else f"-max_total_time={seconds}"
     program = built(f"fuzz_{kind}", "-fsanitize=fuzzer")
     many = corpus(kind, tmp_path / "corpus")
     (tmp_path / "found").mkdir()
     run = subprocess.run(
-        [program, f"-max_total_time={seconds}", "-max_len=600", "-timeout=60",
+        [program, end, "-max_len=600", "-timeout=60",
          "-rss_limit_mb=2048", f"-artifact_prefix={tmp_path}/found/", tmp_path / "corpus"],
         capture_output=True, text=True, check=False, timeout=seconds + 300)
     assert (run.returncode, findings(tmp_path / "found")) == (0, []), run.stderr[-4000:]
-    runs = int(re.search(r"^Done ([0-9]+) runs in", run.stderr, re.M).group(1))
+    done = int(re.search(r"^Done ([0-9]+) runs in", run.stderr, re.M).group(1))
     said = run.stderr[run.stderr.rindex("calls: " if kind == "columns" else "answers:"):].strip()
-    record_property("fuzzed", f"{kind}: {runs} inputs; {said}")
-    print(f"{kind}: {runs} inputs; {said}")
-    assert runs >= max(LEAST_RUNS, many)
+    record_property("fuzzed", f"{kind}: {done} inputs; {said}")
+    print(f"{kind}: {done} inputs; {said}")
+    assert done >= (runs or max(LEAST_RUNS, many))
     # Accepted and refused ones are met, so that the oracles are asked.
     assert {0, 1, 2, 3, 5} <= {int(each) for each in re.findall(r" ([0-9]+):", said)}
 

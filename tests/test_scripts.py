@@ -10,6 +10,7 @@ import select
 import shutil
 import signal
 import subprocess
+from pathlib import Path
 import time
 
 import pytest
@@ -685,7 +686,9 @@ esac
 """
 # Stands in for pytest: the report of the tests, and the status.
 PYTHON = """#!/bin/sh
+echo "python $*" >>"{kit}/log"
 case "$*" in
+  '-B -m pytest'*) exit {quick} ;;
   '-m pytest'*)
     mkdir -p out
     counts='errors="0" failures="{failures}" skipped="1" tests="{tests}"'
@@ -702,7 +705,7 @@ def with_gate(copy, last, lines="grep -v NOT", during=":", keeps="--anew", **tes
         shutil.copy(f"{copy.kit}/bin/rt", f"{copy.kit}/bin/kit")
     copy.write("../kit/bin/rt", GATE.format(kit=copy.kit, out=OUT, program=PROGRAM, last=last,
                                             lines=lines, during=during, keeps=keeps))
-    wanted = {"failures": 0, "tests": 12, "status": 0, **tests}
+    wanted = {"failures": 0, "tests": 12, "status": 0, "quick": 0, "kit": copy.kit, **tests}
     copy.write("../kit/python", PYTHON.format(**wanted))
     os.chmod(f"{copy.kit}/python", 0o755)
     text = copy.read("scripts/pytest.sh")
@@ -726,6 +729,31 @@ def test_test_counts_all(copy):
     same(copy.proved(), [LIBRARY_PROVED], "what ./test proves after the gate")
     copy.is_native("after ./test")
     copy.installs(f"{copy.folder}/there", "after ./test")
+
+
+def test_what_is_quick_fails_first(copy):
+    """./test ends before the gate where a quick test fails."""
+    with_gate(copy, "5 passed, 0 failed", quick=1)
+    copy.log()
+    status, out, err = copy.call(["./test"], stdin=subprocess.DEVNULL)
+    same((status, out.split("\n")[-3:-1]), (1, ["test: what is quick failed, so the gate was not run",
+                                                "0 passed, 1 failed"]), f"{out}{err}")
+    same([line for line in copy.log() if line.startswith("rt")], [], "what the kit does")
+
+
+@pytest.mark.parametrize("failures", [0, 2])
+def test_test_of_the_checked_build(copy, failures):
+    """Nothing is proved. The last line says so, and counts crates and wrong bodies."""
+    with_gate(copy, "5 passed, 0 failed", failures=failures, status=int(failures > 0))
+    copy.log()
+    status, out, err = copy.call(["./test", "--checked"], stdin=subprocess.DEVNULL)
+    crates = len(re.findall("^[a-z].*:", copy.read("crates.txt"), re.M))
+    edits = len(list(Path(copy.top).glob("crates/*/must-fail/*.edit")))
+    last = (f"{11 - failures} passed, {failures} failed on the checked build; not proved: {crates}"
+            f" crates, nor that their {edits} wrong bodies are refused")
+    same((status, out.split("\n")[-2]), (int(failures > 0), last), f"{out}{err}")
+    asked = [line for line in copy.log() if line.startswith(("rt ", "python "))]
+    same([line[:42] for line in asked], ["python -m pytest tests python/tests --check"[:42]], "what runs")
 
 
 # The gate leaves a library of each crate. The kit tells its stamp.

@@ -15,9 +15,9 @@ from arbiter.found import Unavailable
 
 
 def word_of(word: c.Argument, given: Any) -> str:
-    """A word as the process reads it: of a column that the call only writes its length."""
+    """A word as the process reads it, with what stands in memory that the call writes."""
     if word.is_column:
-        return ",".join(map(str, given)) if word.is_read else str(len(given))
+        return ",".join(map(str, given))
     return str(given._obj.value if word.is_written else given)
 
 

@@ -5,14 +5,14 @@ import textwrap
 from collections.abc import Iterable, Iterator
 from pathlib import Path
 
-from arbiter_pages.calls import (CHANGED, FAULTS, HOST, READ, ROWS, SECTIONS, TABLE, U8, U32, U64, WRITTEN,
-                                 Call, Part, CallWord)
+from arbiter_pages.calls import (CHANGED, CHAR, FAULTS, HOST, READ, ROWS, SECTIONS, TABLE, U8, U32,
+                                 U64, WRITTEN, Call, CallWord, Part)
 from arbiter_pages.shapes import environment
 
 SOURCE = "python/arbiter_pages/calls.py"
 # Types as C and as Python's `array` have them.
-C_TYPES = {U8: "uint8_t", U32: "uint32_t", U64: "uint64_t", "char": "char"}
-CODES = {U8: "B", U32: "I", U64: "Q", "char": "B"}
+C_TYPES = {U8: "uint8_t", U32: "uint32_t", U64: "uint64_t", CHAR: "char"}
+CODES = {U8: "B", U32: "I", U64: "Q", CHAR: "B"}
 HEADER_COLUMNS, PIPE_COLUMNS = 128, 100
 # The page with the tables of the calls, and the lines around these.
 PAGE = Path(__file__).resolve().parents[2] / "docs/EMBEDDING.md"
@@ -134,12 +134,12 @@ def python_words() -> str:
 
 
 def rust_type(word: CallWord) -> str:
-    return U8 if word.type == "char" else word.type
+    return U8 if word.type == CHAR else word.type
 
 
 def pipe_read(word: CallWord) -> str:
     """The line of the pipe's program that reads a word."""
-    what = "number" if not word.is_column else "room" if word.way == WRITTEN else "column"
+    what = "column" if word.is_column else "number"
     mutable = "" if word.way == READ else "mut "
     given = "alloc" if word.is_column else ""
     return f"let {mutable}{word.name} = words.{what}::<{rust_type(word)}>({given})?;"
@@ -206,9 +206,37 @@ def pipe_program() -> str:
     return made.get_template("calls.rattle").render(source=SOURCE, calls=TABLE)
 
 
+def as_bytes(word: CallWord) -> str:
+    """A cast of characters to numbers."""
+    return "(uint8_t *)" if word.type == CHAR else ""
+
+
+def checked_sent(word: CallWord) -> str:
+    """The line of the tests' library that sends a word to the checked build."""
+    if not word.is_column:
+        return f"put(' ', {'' if word.way == READ else '*'}{word.name});"
+    return f"COLUMN({as_bytes(word)}{word.name}, {word.name}_length);"
+
+
+def checked_told(word: CallWord) -> str:
+    """The line that takes what the checked build wrote."""
+    if word.is_column:
+        return f"TOLD({as_bytes(word)}{word.name}, {word.name}_length);"
+    return f"*{word.name} = ({C_TYPES[word.type]})get();"
+
+
+def checked_calls() -> str:
+    """The calls of the tests' library, which asks the checked build."""
+    made = environment()
+    made.filters |= {"sent": checked_sent, "told": checked_told, "answer": lambda call:
+                     C_TYPES[call.answer], "head": lambda call: c_lines(call)[:-1]}
+    return made.get_template("calls.h").render(source=SOURCE, calls=TABLE)
+
+
 def files() -> dict[str, str]:
     """All files with their texts, by their places in the repository."""
     return {**{f"share/{name}": text for name, text in c_files().items()},
             "docs/EMBEDDING.md": page(),
             "python/arbiter/words.py": python_words(),
-            "scripts/calls/calls.rattle": pipe_program()}
+            "scripts/calls/calls.rattle": pipe_program(),
+            "tests/checked/calls.h": checked_calls()}
