@@ -8,6 +8,7 @@ run begins with.
 import re
 import shutil
 import subprocess
+import sys
 from pathlib import Path
 
 import pytest
@@ -105,6 +106,77 @@ def test_sixteen_threads(built):
     said = ended(built("threads"), THREAD_SECONDS)
     calls = int(re.fullmatch(r"([0-9]+) calls, 0 wrong\n", said).group(1))
     assert calls > 1000
+
+
+# Calls of each way of tests/attack/every.c, in turn.
+EVERY = {"plain": 6000, "refuse": 1500, "threads": 1500, "valgrind": 300}
+TYPES = {"B": "uint8_t", "I": "uint32_t", "Q": "uint64_t"}
+
+
+def plain_calls():
+    """The calls that the header says to ask for no memory."""
+    header = (ROOT / "share/arbiter.h").read_text(encoding="ascii")
+    some = re.search(r"\n \* (arbiter_[\w, \n*]+?) ask for no\b", header).group(1)
+    return {each.removeprefix("arbiter_") for each in re.findall(r"arbiter_\w+", some)}
+
+
+def call_in_c(name, words, answer, is_plain):
+    """The kinds of a call's words, a function that calls it, and its row."""
+    kinds, given = [], []
+    for at, word in enumerate(words):
+        kinds.append(f"{{'{word.kind}', {word.is_column:d}, {word.is_read:d},"
+                     f' {word.is_written:d}, "{word.name}"}}')
+        given.append(f"w[{at}].block, w[{at}].length" if word.is_column else
+                     f"w[{at}].block" if word.is_written else f"({TYPES[word.kind]})w[{at}].number")
+    return (f"static const struct kind kinds_{name}[] = {{{', '.join(kinds)}}};\n"
+            f"static uint64_t call_{name}(const struct word *w)\n{{\n"
+            f"    return arbiter_{name}({', '.join(given)});\n}}\n",
+            f'    {{"{name}", {len(words)}, kinds_{name}, call_{name}, {is_plain:d},'
+            f" {answer not in ('name', 'version', 'weight_of_shares'):d}}},\n")
+
+
+def table_in_c(folder):
+    """Writes the table of calls for tests/attack/every.c: each call of the package's table."""
+    from arbiter import c
+    plain = plain_calls()
+    made = [call_in_c(name, words, name, name in plain) for name, words in c.WORDS.items()]
+    text = "".join(each for each, _ in made) + "static const struct call calls[] = {\n"
+    text += "".join(row for _, row in made) + f"}};\n#define CALLS {len(made)}\n"
+    (folder / "calls.h").write_text(text, encoding="ascii")
+    return len(made)
+
+
+@pytest.fixture(scope="module", name="every")
+def every_call(built, library, tmp_path_factory):
+    """A program for each way of attacking each call, and the number of calls."""
+    folder = tmp_path_factory.mktemp("every")
+    sys.path.insert(0, str(ROOT / "python"))
+    count = table_in_c(folder)
+    guarded = built("every", f"-I{folder}", "-Wno-pedantic")
+    plain = folder / "plain"
+    made = subprocess.run(
+        ["gcc", "-std=gnu11", "-O1", "-g", "-Wall", "-Wextra", "-Werror", "-DPLAIN", f"-I{folder}",
+         ATTACK / "every.c", library.with_suffix(".a"), "-pthread", "-o", plain],
+        capture_output=True, text=True, check=False)
+    assert (made.returncode, made.stderr) == (0, "")
+    return {"plain": [guarded, "plain"], "refuse": [guarded, "refuse"],
+            "threads": [plain, "threads"],
+            "valgrind": ["valgrind", "-q", "--error-exitcode=9", "--leak-check=full", plain,
+                         "plain"]}, count
+
+
+@pytest.mark.parametrize("way", EVERY)
+def test_every_call_in_each_way(every, way):
+    """Hostile words between guard pages; each allocation refused; sixteen threads; valgrind. New
+    calls of the table are attacked with the others, and some calls of each are accepted."""
+    ways, count = every
+    if way == "valgrind" and not shutil.which("valgrind"):
+        pytest.skip("no valgrind")
+    first, *rows = ended(*ways[way], EVERY[way], 1, seconds=300).strip().split("\n")
+    calls = int(re.fullmatch(r"([0-9]+) calls, digest [0-9a-f]{16}", first).group(1))
+    assert calls >= EVERY[way] * {"refuse": 2, "threads": 17}.get(way, 1) and len(rows) == count - 3
+    # (a certificate by chance is none)
+    assert {row for row in rows if row.endswith(" 0")} <= {"check 0"} or way == "valgrind", rows
 
 
 def corpus(kind, folder):
