@@ -4,6 +4,7 @@ from __future__ import annotations
 
 import re
 import textwrap
+from collections.abc import Callable
 
 from arbiter_host import helps
 from arbiter_host.subcommands import every
@@ -67,10 +68,12 @@ def head(word: Word) -> str:
 def library_page() -> str:
     """The man page of the C library."""
     made = environment()
-    made.filters |= {"prose": prose, "answer": lambda call: interface.C_TYPES[call.answer],
-                     "about": interface.about, "ways": interface.ways,
-                     "parameters": lambda call: [part for word in call.words
-                                                 for part in interface.c_word(word).split(", ")]}
+    filters: dict[str, Callable[..., object]] = {
+        "prose": prose, "answer": lambda call: interface.C_TYPES[call.answer],
+        "about": interface.about, "ways": interface.ways,
+        "parameters": lambda call: [part for word in call.words
+                                    for part in interface.c_word(word).split(", ")]}
+    made.filters |= filters
     exact = [call for call in calls.TABLE if not call.allocates]
     return made.get_template("libarbiter.3").render(
         source=interface.SOURCE, date=DATE, calls=calls.TABLE, sections=calls.SECTIONS,
