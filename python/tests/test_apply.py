@@ -171,8 +171,10 @@ def test_no_link_is_followed(folder):
     (folder / "t/a/cpu.weight").unlink()
     (folder / "t/a/cpu.weight").symlink_to(folder / "out/cpu.weight")
     (folder / "t/b/cpu.weight").unlink()
-    os.link(folder / "out/cpu.weight", folder / "t/b/cpu.weight")
     for path in ("link", "a", "b"):
+        if path == "b":
+            # (the others would be refused for this name too)
+            os.link(folder / "out/cpu.weight", folder / "t/b/cpu.weight")
         with pytest.raises(HostFault):
             safe_files.Root(str(folder / "t")).write(path, "cpu.weight", "7")
     assert (folder / "out/cpu.weight").read_text() == "5\n"

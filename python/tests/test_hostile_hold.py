@@ -9,6 +9,7 @@ import signal
 import subprocess
 import sys
 import tempfile
+from contextlib import ExitStack
 from pathlib import Path
 
 import pytest
@@ -539,6 +540,30 @@ def test_an_undo_file_of_another_name_after_a_kill(ctl, world, folder):
     loop = started(ctl, world, folder / "second")
     loop.send_signal(signal.SIGTERM)
     assert (said(loop), loop.returncode) == ([], 0) and content(world.tree) == before
+
+
+def test_an_undo_file_in_another_folder_after_a_kill(world, folder, monkeypatch):
+    """Of a real tree one lock tells where it is, whatever folder and name the next loop has."""
+    monkeypatch.setattr(record, "FOLDER", str(folder / "run"))
+    monkeypatch.setattr(holding, "is_real", lambda root: True)
+    for name in ("one", "two"):
+        (folder / name).mkdir(mode=0o700)
+    root = safe_files.Root(str(world.tree))
+
+    def begin(undo):
+        with ExitStack() as stack:
+            words = argparse.Namespace(undo=undo and str(folder / undo), source=str(world.tree))
+            holding.locked(root, words, stack).put("limits stand")
+
+    # (a kill leaves the file, and no lock)
+    begin("one/undo")
+    for undo in ("two/undo", "one/other", "run/undo", None):
+        with pytest.raises(HostFault, match=f"the undo file {folder}/one/undo: File exists"):
+            begin(undo)
+    (folder / "one/undo").unlink()
+    begin("two/undo")
+    with pytest.raises(HostFault, match=f"the undo file {folder}/two/undo: File exists"):
+        begin(None)
 
 
 def test_a_loop_says_what_it_holds(ctl, world, folder):

@@ -93,6 +93,20 @@ def test_folders_on_the_way(folder, write):
         assert not list((folder / "open/mine").iterdir())
 
 
+@each_trusted
+@pytest.mark.parametrize("at", range(4))
+def test_folders_above_the_last(folder, write, at):
+    """However far above: each folder of the way is looked at, that of the root too."""
+    names = ["a", "b", "c", "d"]
+    (folder / "/".join(names) / "mine").mkdir(parents=True, mode=0o755)
+    way = folder / "/".join(names[:at + 1])
+    way.chmod(0o777)
+    with pytest.raises(HostFault, match=f"/{names[at]}: other users may change this folder"):
+        write(folder / "/".join(names) / "mine")
+    way.chmod(0o755)
+    write(folder / "/".join(names) / "mine")
+
+
 @as_root
 @each_trusted
 def test_folders_of_another_user(folder, write):

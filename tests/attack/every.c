@@ -248,7 +248,7 @@ static uint64_t attack(const struct call *call, uint64_t seed, int refuses, uint
     struct word words[MOST_WORDS];
     struct chance chance = {seed * 0x2545F4914F6CDD1Dull + (uint64_t)(call - calls), 0};
     chance.is_tame = next(&chance) % 2;
-    char *before = malloc(COPY), *after = malloc(COPY);
+    char *before = malloc(COPY), *after = malloc(COPY), *now = malloc(COPY);
     make(call, words, &chance);
     size_t size = (size_t)(copy_of(call, words, before) - before);
     guard_refused = guard_asked = 0;
@@ -259,6 +259,9 @@ static uint64_t attack(const struct call *call, uint64_t seed, int refuses, uint
         fail(call, seed, "what it may read alone is changed");
     if (call->has_faults && answer && !tells_row(call) && !is_kept(call, words, before, 1))
         fail(call, seed, "it refuses, and has written");
+    char name[ARBITER_NAME_ROOM];
+    if (call->has_faults && answer && !arbiter_name((uint32_t)answer, name, sizeof name))
+        fail(call, seed, "its answer is none of the list");
     if (guard_held)
         fail(call, seed, "it keeps memory");
     copy_of(call, words, after);
@@ -272,7 +275,7 @@ static uint64_t attack(const struct call *call, uint64_t seed, int refuses, uint
         guard_asked = 0;
         uint64_t other = call->function(words);
         ++*made;
-        int is_as_before = other == answer && (copy_of(call, words, before + COPY / 2), !memcmp(before + COPY / 2, after, size));
+        int is_as_before = other == answer && (copy_of(call, words, now), !memcmp(now, after, size));
         if (!(other == OUT_OF_MEMORY && (is_kept(call, words, before, 1) || tells_row(call))) && !is_as_before)
             fail(call, seed, "an allocation that is refused changes its answer");
         if (guard_held)
@@ -281,6 +284,7 @@ static uint64_t attack(const struct call *call, uint64_t seed, int refuses, uint
     drop(call, words);
     free(before);
     free(after);
+    free(now);
     return digest;
 }
 
