@@ -18,3 +18,4 @@ mod Served
 mod Shares
 mod Totals
 mod TraceRuns
+mod Turns

@@ -1,5 +1,6 @@
 -- The files of definitions.
 pub mod Accepted
+pub mod Example
 pub mod Faults
 pub mod Input
 pub mod Replay

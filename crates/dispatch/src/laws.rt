@@ -7,6 +7,7 @@ ghost use Rattle.dispatch.specs.Steps.{RefusalIsExact};
 ghost use Rattle.dispatch.specs.Replay.{AcceptsExactly};
 ghost use Rattle.dispatch.specs.Accepted.{TraceIsARun};
 ghost use Rattle.dispatch.specs.Windows.{OwedIsBounded, WindowsAreServed};
+ghost use Rattle.dispatch.specs.Example.{PremisesAreMet};
 
 /// No leaf gets far ahead of one that waits throughout, whatever the others do.
 ///
@@ -79,6 +80,12 @@ pub fn owed_is_bounded()
 /// that is owed more than its credit has a task that waits whenever a processor picks.
 pub fn windows_are_served()
     ensures { WindowsAreServed }
+{}
+
+/// Runs of any length meet the premises of [`windows_are_served`]: two leaves of half a processor
+/// take turns.
+pub fn premises_are_met()
+    ensures { PremisesAreMet }
 {}
 
 /// An event is refused if and only if the rule does not allow it, or a number has no room.

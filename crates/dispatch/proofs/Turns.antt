@@ -1,0 +1,155 @@
+-- Two leaves of half a processor take turns, and the premises hold at each event.
+use Rattle.std.proofs.Common.{◌≡◌, ℕ, zero, suc, ◌+◌, ◌-◌, ◌*◌, ◌<◌, ◌≤◌, List, [], ◌∷◌, true}
+use Rattle.std.proofs.Common.{Option, None, Some, refl, arith, inl, inr}
+use Rattle.dispatch.specs.declared.reservation.Account.{Account}
+use Rattle.dispatch.specs.declared.reservation.Step.{Step}
+use Rattle.dispatch.specs.declared.reservation.Step.TheVariants.{Wake, Pass, Pick, End}
+use Rattle.dispatch.specs.Reservation.{Reservations, account_at, after, Waits, IsDue, MayPick}
+use Rattle.dispatch.specs.Reservation.{IsNoLater}
+use Rattle.dispatch.specs.Windows.{WaitsBeyondCredit, HasTasksForGuarantees, IsFairRun, IsAtRest}
+use Rattle.dispatch.specs.Windows.{FitsHost}
+use Rattle.dispatch.specs.Example.{halves, turns, PremisesAreMet}
+
+-- ---- a round
+
+module _ (c u d v : ℕ) where
+  abbrev s0 : Reservations
+  s0 = halves c u d v
+
+  abbrev s1 : Reservations
+  s1 = after s0 (Pick 0 0)
+
+  abbrev s2 : Reservations
+  s2 = after s1 (Pass 2)
+
+  abbrev s3 : Reservations
+  s3 = after s2 (End 0 2 true)
+
+  abbrev s4 : Reservations
+  s4 = after s3 (Pick 0 1)
+
+  abbrev s5 : Reservations
+  s5 = after s4 (Pass 2)
+
+  -- the first leaf's turn
+  first_due : IsDue s0 (account_at s0 0)
+  first_due = record { owes = omega arith; behind = omega arith }
+
+  first_each : (k : ℕ) → Waits s0 k → IsDue s0 (account_at s0 k)
+      → IsDue s0 (account_at s0 0) × IsNoLater s0 (account_at s0 0) (account_at s0 k)
+  first_each zero waits due = (first_due, λ ahead back owes. owes)
+  first_each (suc zero) waits due = (first_due, λ ahead back owes. owes)
+  first_each (suc (suc k)) waits due = absurd (let clash : ⊥ = omega (arith, waits) in clash)
+
+  first_pick : MayPick s0 0 0
+  first_pick = record {
+    free = refl;
+    known = omega arith;
+    waits = omega arith;
+    due = first_each;
+    shares = λ none k waits. absurd (none 0 (omega arith) first_due);
+  }
+
+  first_beyond : WaitsBeyondCredit s0
+  first_beyond zero past = omega arith
+  first_beyond (suc zero) past = omega arith
+  first_beyond (suc (suc k)) past = absurd (let clash : ⊥ = omega (arith, past) in clash)
+
+  first_tasks : HasTasksForGuarantees s0
+  first_tasks zero waits = omega arith
+  first_tasks (suc zero) waits = omega arith
+  first_tasks (suc (suc k)) waits = omega arith
+
+  first_passes : WaitsBeyondCredit s1
+  first_passes zero past = absurd (let clash : ⊥ = omega (arith, past) in clash)
+  first_passes (suc zero) past = omega arith
+  first_passes (suc (suc k)) past = absurd (let clash : ⊥ = omega (arith, past) in clash)
+
+  -- the second leaf's turn
+  second_due : IsDue s3 (account_at s3 1)
+  second_due = record { owes = omega arith; behind = omega arith }
+
+  second_each : (k : ℕ) → Waits s3 k → IsDue s3 (account_at s3 k)
+      → IsDue s3 (account_at s3 1) × IsNoLater s3 (account_at s3 1) (account_at s3 k)
+  second_each zero waits due =
+      let behind = due.behind in
+      absurd (let clash : ⊥ = omega (arith, behind) in clash)
+  second_each (suc zero) waits due = (second_due, λ ahead back owes. owes)
+  second_each (suc (suc k)) waits due = absurd (let clash : ⊥ = omega (arith, waits) in clash)
+
+  second_pick : MayPick s3 0 1
+  second_pick = record {
+    free = refl;
+    known = omega arith;
+    waits = omega arith;
+    due = second_each;
+    shares = λ none k waits. absurd (none 1 (omega arith) second_due);
+  }
+
+  second_beyond : WaitsBeyondCredit s3
+  second_beyond zero past = omega arith
+  second_beyond (suc zero) past = omega arith
+  second_beyond (suc (suc k)) past = absurd (let clash : ⊥ = omega (arith, past) in clash)
+
+  second_tasks : HasTasksForGuarantees s3
+  second_tasks zero waits = omega arith
+  second_tasks (suc zero) waits = omega arith
+  second_tasks (suc (suc k)) waits = omega arith
+
+  second_passes : WaitsBeyondCredit s4
+  second_passes zero past = omega arith
+  second_passes (suc zero) past = absurd (let clash : ⊥ = omega (arith, past) in clash)
+  second_passes (suc (suc k)) past = absurd (let clash : ⊥ = omega (arith, past) in clash)
+
+  one_round : (es : List Step)
+      → IsFairRun (halves (c + 2 + 2 - 2) (u + 2) (d + 2 + 2 - 2) (v + 2)) es
+      → IsFairRun s0 (Pick 0 0 ∷ Pass 2 ∷ End 0 2 true ∷ Pick 0 1 ∷ Pass 2 ∷ End 0 2 true ∷ es)
+  one_round es rest = (
+    first_pick,
+    (first_beyond, first_tasks),
+    (
+      tt,
+      (inl (tt, tt), first_passes, (omega arith, tt)),
+      (
+        record { run = _; runs = refl; known = omega arith },
+        (omega arith, tt),
+        (
+          second_pick,
+          (second_beyond, second_tasks),
+          (
+            tt,
+            (inl (tt, tt), second_passes, (omega arith, tt)),
+            (record { run = _; runs = refl; known = omega arith }, (omega arith, tt), rest),
+          ),
+        ),
+      ),
+    ),
+  )
+
+-- ---- all rounds
+
+all_rounds : (rounds c u d v : ℕ) → IsFairRun (halves c u d v) (turns rounds)
+all_rounds zero c u d v = tt
+all_rounds (suc rounds) c u d v =
+    one_round c u d v (turns rounds)
+    (all_rounds rounds (c + 2 + 2 - 2) (u + 2) (d + 2 + 2 - 2) (v + 2))
+
+at_rest : IsAtRest (halves 0 0 0 0)
+at_rest = record { idle = (refl, tt); running = running; owed = owed } where
+  running : (k : ℕ) → (account_at (halves 0 0 0 0) k).share.running ≡ 0
+  running zero = omega arith
+  running (suc zero) = omega arith
+  running (suc (suc k)) = omega arith
+
+  owed : (k : ℕ) → (account_at (halves 0 0 0 0) k).owed
+      ≤ 1048576 * 2 + (account_at (halves 0 0 0 0) k).guarantee * 2
+  owed zero = omega arith
+  owed (suc zero) = omega arith
+  owed (suc (suc k)) = omega arith
+
+pub premises_are_met : PremisesAreMet
+premises_are_met rounds = (
+  at_rest,
+  record { some = omega arith; guarantees = omega arith; slack = omega arith },
+  all_rounds rounds 0 0 0 0,
+)

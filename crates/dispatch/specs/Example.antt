@@ -1,0 +1,44 @@
+-- A run that meets the premises of the law of windows: two leaves of half a processor take turns.
+use Rattle.std.specs.Prelude.{ℕ, zero, suc, true, List, [], ◌∷◌, None}
+use Rattle.dispatch.specs.declared.reservation.Account.{Account}
+use Rattle.dispatch.specs.declared.reservation.Step.{Step}
+use Rattle.dispatch.specs.declared.reservation.Step.TheVariants.{Wake, Pass, Pick, End}
+use Rattle.dispatch.specs.Reservation.{Reservations}
+use Rattle.dispatch.specs.Windows.{IsAtRest, FitsHost, IsFairRun}
+
+-- a leaf of half a processor with a task that waits, which was charged and used so much
+abbrev pub half : ℕ → ℕ → Account
+half charged used = record {
+  share = record {
+    amount = 1;
+    charged = charged;
+    used = used;
+    waiting = 1;
+    running = 0;
+  };
+  guarantee = 524288;
+  owed = 2097152;
+}
+
+-- one processor, a quantum and a credit of two nanoseconds, and two such leaves
+abbrev pub halves : ℕ → ℕ → ℕ → ℕ → Reservations
+halves charged used other_charged other_used = record {
+  slice = 2;
+  quantum = 2;
+  slack = 0;
+  credit = 2;
+  level = (0, 1);
+  accounts = half charged used ∷ half other_charged other_used ∷ [];
+  processors = None ∷ [];
+}
+
+-- each has the processor for a quantum, and so on for so many rounds
+abbrev pub turns : ℕ → List Step
+turns zero = []
+turns (suc rounds) =
+    Pick 0 0 ∷ Pass 2 ∷ End 0 2 true ∷ Pick 0 1 ∷ Pass 2 ∷ End 0 2 true ∷ turns rounds
+
+-- The premises are met by a run of any length.
+abbrev pub PremisesAreMet : Type 0
+PremisesAreMet = (rounds : ℕ) → IsAtRest (halves 0 0 0 0) × FitsHost (halves 0 0 0 0)
+    × IsFairRun (halves 0 0 0 0) (turns rounds)
