@@ -267,10 +267,11 @@ TABLE = (
            " source says, else this machine's for cgroups, systemd and containers, else 1)", "N",
            is_number=True),
     Option(("--period",), "period", "host", (*DEMAND, "hold"), "period, such as 100ms (default"
-           " 100ms)", "TIME",
+           " 1s, less above 64 CPUs; of a script or host file what it says)", "TIME",
            helps={"hold": "period of the limits, 100ms or 1s (default 1s)"}),
-    Option(("--slice",), "slice", "host", (*DEMAND, "hold"), "slice, such as 1ms (default: what the"
-           " source says, else 1ms, or 5ms for scripts)", "TIME"),
+    Option(("--slice",), "slice", "host", (*DEMAND, "hold"), "slice, such as 1ms (default"
+           " 1ms; of a script or host file what it says)", "TIME",
+           helps={"hold": "slice, such as 1ms (default 1ms, of many CPUs 10ms)"}),
     Option(("--library",), "library", "host", (*READ, "hold"), "the C library (default: the first"
            " that is found)", "PATH"),
 )

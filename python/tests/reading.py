@@ -45,4 +45,4 @@ def lines(data, name, engine, host=None):
 
 
 def host_file(data, name="F", kind="toml"):
-    return hostfile.model_of(data, name, kind == "toml")
+    return hostfile.model_of(data, name, kind == "toml", Planner(), options_of())

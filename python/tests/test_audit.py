@@ -17,7 +17,7 @@ from arbiter_host.audit import answer, causes, intervals, ranges
 from arbiter_host.audit.intervals import Cell, Interval
 from arbiter_host.base.demands import CounterReading
 from arbiter_host.base.faults import HostFault
-from arbiter_host.base.model import Group, Model, fine
+from arbiter_host.base.model import Group, Model, host_of
 from arbiter_host.sources import task_times, readings, prometheus
 from laboratory import firm, kept
 from places import PACKAGE
@@ -130,16 +130,11 @@ def test_slices_that_are_asked_for(ctl, folder):
     """With slices of 10m the plan of 833.3m is cut at 500m, and 1204m are planned as 1210m."""
     found = copies(folder, 2)
     trees.group2(found[1] / "batch", 100, "max 100000", 0, usec(12.04), 2)
-    data, _ = audited(ctl, *found, "--read", "x10s", "--cpus", "2", "--slice", "1ms")
+    data, _ = audited(ctl, *found, "--read", "x10s", "--cpus", "2", "--period", "100ms")
     assert data["host"]["period_usec"] == 100000
     batch = by_group(data)["batch"]
     assert batch["plan_millicpu"] == [1210] and batch["worst"]["off_hundredths"] == -0.6
     assert batch["cause"] == causes.SLICE
-
-
-def test_a_great_host_has_the_slices_of_its_source(calls):
-    assert fine(calls, Host(64, 100000, 1000)) == Host(64, SECOND, 1000)
-    assert fine(calls, Host(65, 100000, 1000)) == Host(65, 500000, 1000)
 
 
 # holes
@@ -352,7 +347,7 @@ def test_placement_is_asked_of_the_model_with_periods_of_a_tenth(monkeypatch):
     outlooks = causes.Outlooks(found)
     for place in (1, 1, 0):
         causes.cause_of(found, place, "a", outlooks)
-    assert [each.host for each in asked] == [Host(2, 100000, 1000)] * 2
+    assert [placement.shape_of(each).period for each in asked] == [0.1] * 2
     assert [(each.groups["a"].demand, each.groups["a"].tasks) for each in asked] == [
         (800, 1), (700, 1)]
     assert list(outlooks.why_not) == ["too many groups, tasks and CPUs"]
@@ -567,7 +562,7 @@ def kept_audit(engine, name):
     found = kept.kept()
     runs = [run for run in found["runs"] if run["host"] == name]
     model = firm.host_of(found["hosts"][name])
-    model = model.with_host(fine(engine.library, model.host))
+    model = model.with_host(host_of(engine.library, model.host.processors))
     seen = [kept_look(at, model, runs) for at in range(len(runs) + 1)]
     return intervals.audited(engine, seen, "psi", set(), lambda: None), [
         {path: 100 * (had - share) for path, (share, had) in run["groups"].items()}

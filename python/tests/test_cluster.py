@@ -25,7 +25,7 @@ def test_each_node_is_a_row(ctl):
     found, err = planned(ctl, "-", given=CLUSTER.read_bytes())
     one = found["hosts"][0]
     assert [(each["host"], each["cpus"], each["groups"], each["served"])
-            for each in found["hosts"]] == [("n1", 4, 17, 195), ("n2", 2, 6, 50)]
+            for each in found["hosts"]] == [("n1", 4, 17, 1950), ("n2", 2, 6, 500)]
     whole = json.loads(ctl.run("explain", FIXTURES / "pods.json", FIXTURES / "node.json", "-o",
                                "json")[0])
     assert (one["served"], one["wanted"], one["groups"]) == (
@@ -56,7 +56,7 @@ def test_pending_pods_are_placed(ctl):
 def test_a_pod_weighs_on_its_class(ctl, folder):
     """A pod of 1000m beside one of 500m: burstable has 1500m, 1536 shares, weight 59.
 
-    Both ask for all of 2 CPUs. By 1024 and 512 shares their weights are 39 and 20: 132 of 200.
+    Both ask for all of 2 CPUs. By 1024 and 512 shares their weights are 39 and 20: 1322 of 2000.
     """
     pod = [each for each in json.loads(CLUSTER.read_text())["items"]
            if each["metadata"]["name"] == "job-1"]
@@ -65,7 +65,7 @@ def test_a_pod_weighs_on_its_class(ctl, folder):
                                *NEEDS, "-o", "json")[0])
     by = {host["host"]: host["pods"][0] for host in found["hosts"]}
     assert "it requests 1000m, and 3500m less the 3200m" in by["n1"]["why"]
-    assert (by["n2"]["gets"], by["n2"]["lost"]) == (132, 132)
+    assert (by["n2"]["gets"], by["n2"]["lost"]) == (1322, 1322)
     out, _ = ctl.run("place", CLUSTER, "--pod", folder / "job.json", *NEEDS)
     assert ("job.json: hosts that give it all without a loss to others: 1 of 2; that cannot take"
             " it: 1, as n1: it requests 1000m, and 3500m less the 3200m of others are there\n"
@@ -83,7 +83,7 @@ def test_one_more_pod_of_a_deployment(ctl, folder):
     found = json.loads(ctl.run("place", CLUSTER, "--pod", folder / "made.json", *NEEDS, "-o",
                                "json")[0])
     by = {host["host"]: host["pods"][0] for host in found["hosts"]}
-    assert "3500m less the 3200m" in by["n1"]["why"] and by["n2"]["gets"] == 100
+    assert "3500m less the 3200m" in by["n1"]["why"] and by["n2"]["gets"] == 1000
     name, = (each["name"] for each in spec["containers"])
     out, _ = ctl.run("apply", folder / "made.json", "--cpus", "2", "--set",
                      f"team/jobs/{name}.request=500m", "-o", "kubectl")

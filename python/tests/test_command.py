@@ -136,7 +136,7 @@ def test_head_line_is_the_host(ctl, folder):
     made = ctl.run("export", folder / "t", "--cpus", "16", "--want", "busy")[0]
     (folder / "s").write_text(made)
     plain, err = ctl.run("explain", folder / "s")
-    assert err == "" and plain.startswith("16 CPUs, period 100 ms, slice 1 ms")
+    assert err == "" and plain.startswith("16 CPUs, period 1000 ms, slice 1 ms")
     assert plain == ctl.run("explain", folder / "s", "--cpus", "16", "--slice", "1ms")[0]
     _, err = ctl.run("explain", folder / "s", "--cpus", "2")
     assert "differ from its head line: arbiter run --processors 16" in err
@@ -217,7 +217,7 @@ def test_diff_of_pods_and_their_node(ctl, files):
     out, _ = ctl.run("diff", *files, *HALF, "-o", "json")
     changed = {each["group"]: each for each in json.loads(out)["changed"]}
     assert set(changed) == {".", "kubepods", "kubepods/prod:db-0", "kubepods/prod:db-0/postgres"}
-    assert "1.45 of 4.00 CPUs" in ctl.run("diff", *files, *HALF)[0]
+    assert "1.450 of 4.000 CPUs" in ctl.run("diff", *files, *HALF)[0]
 
 
 def test_diff_of_two_nodes(ctl, folder):

@@ -214,10 +214,11 @@ def two_pods(folder, limit=None, allocatable="2"):
 
 
 def needed(ctl, *words):
-    """The settings of people alone in the answer of `tune`, by name, and what the group gets."""
+    """The settings of people alone in the answer of `tune`, by name, and what the group gets, with
+    slices of 10m."""
     group, amount, *source = words
-    ended = ctl.ended("tune", *source, "--goal", f"{group}={amount}", "--want", "busy", "-o",
-                      "json")
+    ended = ctl.ended("tune", *source, "--goal", f"{group}={amount}", "--want", "busy", "--period",
+                      "100ms", "-o", "json")
     found = json.loads(ended.stdout)
     return ({each["name"]: each for each in found["alone"] if each["owned"]},
             found["goals"][0]["now_millicpu"])
@@ -236,7 +237,7 @@ def test_the_least_request(ctl, folder):
     out, _ = ctl.run("tune", folder / "n.json", "--goal", "x/a/c=1cpu", "--want", "busy")
     # The weight of the one container of a pod decides nothing.
     assert "no weight reaches it" in out
-    assert "\nrequest          100m   285m  kubepods/burstable/x:b/c -0.50\n" in out
+    assert "\nrequest          100m   285m  kubepods/burstable/x:b/c -0.500\n" in out
 
 
 def test_a_request_that_the_node_has_not(ctl, folder):
@@ -281,8 +282,8 @@ def test_one_thousandth_less_does_not_reach(ctl, amount):
     asked = int(amount[:-1])
 
     def gets(request):
-        out, _ = ctl.run("diff", PODS, NODE, "--want", "busy", "-o", "json", "--set",
-                         f"prod/web-7c9f/nginx.request={request}m")
+        out, _ = ctl.run("diff", PODS, NODE, "--want", "busy", "--period", "100ms", "-o", "json",
+                         "--set", f"prod/web-7c9f/nginx.request={request}m")
         (found,) = [each["gets"]["millicpu"] for each in json.loads(out)["after"]["groups"]
                     if each["group"] == f"{WEB}/nginx"]
         return found

@@ -43,7 +43,7 @@ def written(ctl, folder, form, *words):
 def test_jobs_of_a_queue():
     """Two CPUs of four for train, one for each of the others. Held and pending ones have none."""
     model = reading.jobs(files("squeue.json", "sinfo.json"), None)
-    assert model.host == HOST
+    assert model.host == Host(4, 1000000, 1000)
     assert rows(model) == {TRAIN: (2000, 2), LOOSE: (1000, 1), SWEEP: (1000, 1)}
     assert model.groups[SWEEP].place == f"{slurm.TOP}/job_5"
     assert model.notes == [

@@ -30,12 +30,15 @@ def host_file(folder, *groups, cpus=1, slice_="5ms"):
     tables = "".join(f'[groups."{path}"]\nweight = {weight}\n'
                      + (f'demand = "{demand}m"\n' if demand else "")
                      for path, weight, demand in groups)
-    (folder / "host.toml").write_text(f'[host]\ncpus = {cpus}\nslice = "{slice_}"\n{tables}')
+    (folder / "host.toml").write_text(f'[host]\ncpus = {cpus}\nperiod = "100ms"\n'
+                                      f'slice = "{slice_}"\n{tables}')
     return folder / "host.toml"
 
 
 def asked(ctl, source, *goals, words=()):
-    """What `tune -o json` answers to goals. Status 6 says that nothing was found."""
+    """What `tune -o json` answers to goals. Status 6 says that nothing was found. What tells no
+    period has one of 100 ms."""
+    words = [*(("--period", "100ms") if source.suffix in (".show", ".json") else ()), *words]
     named = [word for goal in goals for word in ("--goal", goal)]
     ended = ctl.ended("tune", source, *named, *words, "-o", "json")
     found = json.loads(ended.stdout)

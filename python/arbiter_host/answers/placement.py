@@ -16,6 +16,9 @@ MOST_RUNS, LEAST_RUNS = 16, 8
 MOST_WORK = 400_000
 MOST_TASKS = 512
 MOST_PROCESSORS = 64
+# Longest time, in seconds, in which the model lets each task do its work: whatever is planned for,
+# a task that sleeps does so within a tenth of a second.
+LONGEST = 0.1
 # Greatest difference of two runs, in CPUs, at which groups are firm where no limit binds.
 FIRM = 0.015
 # What is added at each end of a range, in CPUs, and the part of a limit that may not be reached.
@@ -63,7 +66,7 @@ def leaves(model: Model) -> list[Group]:
 
 def shape_of(model: Model) -> Shape:
     """The shape of a host of which all is known."""
-    period, nodes = model.host.period_us / 1e6, {".": Branch(".")}
+    period, nodes = min(model.host.period_us / 1e6, LONGEST), {".": Branch(".")}
     for path, group in model.groups.items():
         quota = math.inf if group.quota is None else group.quota / 1e6
         nodes[path] = Branch(path, float(group.weight), nodes[parent_path(path)], quota,

@@ -12,7 +12,6 @@ from __future__ import annotations
 from collections.abc import Iterator, Sequence
 from fractions import Fraction
 
-from arbiter import Host
 from arbiter_host.answers import placement
 from arbiter_host.answers.placement import Outlook
 from arbiter_host.audit.intervals import Interval, with_demands
@@ -47,8 +46,6 @@ class Outlooks:
                 self.why_not[why] = None
                 return Outlook({})
             model = with_demands(interval.model, interval.cells)
-            # The model of placement knows tasks that work in each tenth of a second.
-            model.host = Host(model.host.processors, 100000, 1000)
             outlook = self.by_place[place] = placement.outlook(model)
             self.why_not |= {outlook.why_not: None} if outlook.why_not else {}
         return self.by_place[place]

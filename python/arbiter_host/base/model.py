@@ -23,8 +23,10 @@ MAX_DEPTH = 64
 # Namespace, pod and container of a group; empty where it is of none.
 PodNames = tuple[str, str, str]
 NO_POD = ("", "", "")
-# Periods of measured use, the one with the finest slices first.
-FINE = (units.MAX_PERIOD, 500000, 200000)
+# Microseconds of the slice, and of the periods that are tried in turn, where none is asked for: a
+# slice is a thousandth of a CPU on up to 64 CPUs.
+SLICE = 1000
+PERIODS = (units.MAX_PERIOD, 500000, 200000, units.DEFAULT_PERIOD)
 
 
 def checked(host: Host) -> Host:
@@ -40,17 +42,32 @@ def checked(host: Host) -> Host:
     return host
 
 
-def fine(library: Library, host: Host, sample: int = 0) -> Host:
-    """A host of as many CPUs with slices of 1 ms and a period of 1 s, or else the longest that can
-    be planned and divides a sample of so many microseconds. Use is in microseconds: a slice of 10m
-    would hide what is below it."""
-    for period in FINE:
+def host_of(library: Library, cpus: int, period: int | None = None, slice_: int | None = None,
+            sample: int = 0) -> Host:
+    """The host of so many CPUs that is planned, with the period and the slice that are asked for.
+
+    The default slice is SLICE. The default period is the longest of PERIODS whose slices the
+    planner takes, and which divides a sample of so many microseconds (0: any does).
+    """
+    slice_us = SLICE if slice_ is None else slice_
+    for each in PERIODS if period is None else ():
         with suppress(HostFault):
-            if sample % period == 0:
-                finer = Host(host.processors, period, 1000)
-                planned(library, finer)
-                return finer
+            if sample % each == 0:
+                host = checked(Host(cpus, each, slice_us))
+                planned(library, host)
+                return host
+    host = checked(Host(cpus, units.DEFAULT_PERIOD if period is None else period, slice_us))
+    planned(library, host)
     return host
+
+
+def with_cpus(host: Host, cpus: int) -> Host:
+    """The host with so many CPUs. Its period becomes a shorter one of PERIODS where it has more
+    slices than the planner takes."""
+    shorter = [host.period_us, *(each for each in PERIODS if each < host.period_us)]
+    return next((after for after in (replace(host, processors=cpus, period_us=period)
+                                     for period in shorter if period % host.slice_us == 0)
+                 if after.capacity <= MAX_CAPACITY), replace(host, processors=cpus))
 
 
 def planned(library: Library, host: Host) -> Host:

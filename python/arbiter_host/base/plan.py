@@ -113,6 +113,8 @@ class PlannedGroup:
     active: int
     children: list[PlannedGroup] = field(default_factory=list)
     depth: int = 0
+    # Whether it has no slice because a tie gave it to a sibling of its weight, or of a group above.
+    is_passed_over: bool = False
 
     @property
     def title(self) -> str:
@@ -121,8 +123,8 @@ class PlannedGroup:
 
     @property
     def is_starved(self) -> bool:
-        """Whether it wants something and gets nothing."""
-        return self.want > 0 and self.gets == 0
+        """Whether it wants something and gets nothing, as do its equals."""
+        return self.want > 0 and self.gets == 0 and not self.is_passed_over
 
     @property
     def is_throttled(self) -> bool:
@@ -290,7 +292,17 @@ def planned_of(model: Model, answer: Answer) -> list[PlannedGroup]:
         above = groups[group.parent or 0]
         above.children.append(group)
         group.depth = above.depth + 1
+    pass_over(groups)
     return groups
+
+
+def pass_over(groups: Sequence[PlannedGroup]) -> None:
+    """Marks the groups without a slice of whose siblings one of the same weight has one, and all
+    below them. A tie of less than a slice each is no starving: a host gives equals the same."""
+    served = {(group.parent, group.weight) for group in groups[1:] if group.gets}
+    for group in groups[1:]:
+        group.is_passed_over = not group.gets and group.limit != 0 and (
+            (group.parent, group.weight) in served or groups[group.parent or 0].is_passed_over)
 
 
 def plan_of(engine: Engine, model: Model, rows: Sequence[Row] | Columns) -> Plan:

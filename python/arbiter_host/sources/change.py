@@ -8,7 +8,7 @@ from dataclasses import replace
 from arbiter import Host
 from arbiter_host.base import demands, faults, names, output, owned, units
 from arbiter_host.base.faults import HostFault, UsageFault
-from arbiter_host.base.model import Group, Model, check_settings, checked
+from arbiter_host.base.model import Group, Model, check_settings, checked, with_cpus
 from arbiter_host.base.owned import Owned, Setting
 from arbiter_host.sources import hostfile
 
@@ -110,13 +110,17 @@ def on_host(model: Model, host: Host) -> Model:
 
 def on_named_host(model: Model, words: Sequence[str]) -> Model:
     """The model on another host, by words such as `.cpus=8`."""
-    host = model.host
+    host, cpus = model.host, model.host.processors
     for word in words:
         key, _, value = word[1:].partition("=")
         with naming(word):
-            host = replace(host, **{hostfile.HOST_KEYS[key]: hostfile.whole(taken(key, value))
-                                    if key == "cpus" else units.parse_time(value)})
-    return on_host(model, checked(host))
+            if key == "cpus":
+                cpus = hostfile.whole(taken(key, value))
+            else:
+                host = replace(host, **{hostfile.HOST_KEYS[key]: units.parse_time(value)})
+    is_fixed = any(not word.startswith(".cpus=") for word in words)
+    return on_host(model, checked(replace(host, processors=cpus) if is_fixed
+                                  else with_cpus(host, cpus)))
 
 
 def changed(model: Model, words: Sequence[str]) -> Model:

@@ -16,14 +16,13 @@ import json
 import re
 import tomllib
 from collections.abc import Callable, Mapping, Sequence
-from dataclasses import replace
 from fractions import Fraction
 from typing import Any
 
 from arbiter import Host, Library
 from arbiter_host.base import names, units
 from arbiter_host.base.faults import HostFault, naming
-from arbiter_host.base.model import Group, Model, check_count, check_settings, checked
+from arbiter_host.base.model import Group, Model, check_count, check_settings
 from arbiter_host.base.output import json_text
 from arbiter_host.sources.data import decoded
 from arbiter_host.sources.register import is_json
@@ -162,15 +161,16 @@ def add(model: Model, group: Group) -> None:
     model.add(group)
 
 
-def read_host(entry: Any) -> Host:
-    """The table `host`."""
+def read_host(entry: Any, library: Library, options: SourceOptions) -> Host:
+    """The table `host`, with what is asked for in its place."""
     numbers: dict[str, int] = {}
 
     def take(key: str, value: Any) -> None:
         numbers[HOST_KEYS[key]] = whole(value) if key == "cpus" else time(value)
 
     take_keys(entry, HOST_KEYS, "host is a table", take)
-    return checked(replace(Host(), **numbers))
+    return options.host(library, numbers.get("processors", 1), numbers.get("period_us"),
+                        numbers.get("slice_us"))
 
 
 def tables_in(entry: Any) -> tuple[Any, dict[str, Any]]:
@@ -188,13 +188,14 @@ def tables_in(entry: Any) -> tuple[Any, dict[str, Any]]:
     return entry.get("host", {}), groups
 
 
-def model_of(data: bytes, name: str, is_toml: bool) -> Model:
-    """The model of a host file."""
+def model_of(data: bytes, name: str, is_toml: bool, library: Library,
+             options: SourceOptions) -> Model:
+    """The model of a host file, with what is asked for in place of its host."""
     entry = parsed(decoded(data, name, MAX_BYTES), name, is_toml)
     with naming(name):
         host, groups = tables_in(entry)
         with naming("host"):
-            model = Model(read_host(host), names_host="host" in entry)
+            model = Model(read_host(host, library, options), names_host="host" in entry)
         check_count(len(groups), f"{len(groups)} groups")
         for path, each in groups.items():
             with naming(names.shown(path)):
@@ -210,10 +211,9 @@ def model_of(data: bytes, name: str, is_toml: bool) -> Model:
 
 
 def read(files: Sequence[File], library: Library, options: SourceOptions) -> Model:
-    """The model of a host file, with what is asked for in place of its host."""
+    """The model of a host file, with what is asked for in place of its host and its demands."""
     name, data = only(files, "host file")
-    model = model_of(data, name, not is_json(data))
-    model = model.with_host(options.host(library, model.host)) if options.names_host else model
+    model = model_of(data, name, not is_json(data), library, options)
     return options.with_demands(model, "host file")
 
 

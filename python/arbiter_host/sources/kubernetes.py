@@ -14,7 +14,7 @@ from dataclasses import dataclass, replace
 from fractions import Fraction
 from typing import Any
 
-from arbiter import Host, Library
+from arbiter import Library
 from arbiter_host.base import demands, names, search, units
 from arbiter_host.base.demands import Measured, Place
 from arbiter_host.base.faults import HostFault, NoHost
@@ -446,7 +446,7 @@ def read(files: Sequence[File], library: Library, options: SourceOptions) -> Mod
                              for key in ("capacity", "allocatable"))
     if not capacity and options.cpus is None:
         raise NoHost("number of CPUs unknown: pass the node's JSON or --cpus")
-    host = options.host(library, Host(max((capacity or 0) // 1000, 1), units.DEFAULT_PERIOD, 1000))
+    host = options.host(library, max((capacity or 0) // 1000, 1))
     pods = pods_on(items, text_field(node, "metadata", "name") if node else options.node, notes)
     notes += [] if pods else ["no pod is in these files that has not ended"]
     if node is None:

@@ -133,7 +133,7 @@ def read_tree(options: SourceOptions, paths: Sequence[str], library: Library) ->
     if options.times.number == 1 and len(paths) == 1 and want in demands.OF_USE:
         raise UsageFault(f"--want {want}: use is measured from one reading to the next: --read"
                          " 2x1s")
-    return cgroups.read(paths, replace(options, want=want).machine(library), options.times, want)
+    return cgroups.read(paths, options.machine(library), options.times, want)
 
 
 def read_files(options: SourceOptions, kind: str, files: Sequence[File],

@@ -128,7 +128,9 @@ def read(files: Sequence[File], library: Library, options: SourceOptions) -> Mod
     """The model at the end of a script, with what is asked for in place of what it tells."""
     name, data = only(files, "script")
     told = head_host(script_lines(data))
-    host = options.host(library, told or Host()) if options.names_host else None
+    of = told or Host()
+    host = (options.host(library, of.processors, of.period_us, of.slice_us)
+            if options.names_host else None)
     return options.with_demands(model_of(data, name, library, host), "script")
 
 

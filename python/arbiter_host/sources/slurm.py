@@ -17,7 +17,7 @@ from dataclasses import dataclass, field, replace
 from fractions import Fraction
 from typing import Any
 
-from arbiter import Host, Library
+from arbiter import Library
 from arbiter_host.base import demands, names, units
 from arbiter_host.base.demands import CounterReading, Measured
 from arbiter_host.base.faults import HostFault, NoHost, naming
@@ -283,12 +283,12 @@ def node_of(nodes: Sequence[dict[str, Any]], jobs: Iterable[SlurmJob]) -> str:
     return next(iter(known), "")
 
 
-def host_of(nodes: Sequence[dict[str, Any]], name: str) -> Host:
-    """The host of a node: the CPUs that jobs may have."""
+def cpus_of(nodes: Sequence[dict[str, Any]], name: str) -> int:
+    """The CPUs of a node that jobs may have."""
     for each in nodes:
         cpus = number(each, "effective_cpus") or number(each, "cpus")
         if text_field(each, "name") == name and cpus:
-            return Host(cpus, units.DEFAULT_PERIOD, 1000)
+            return cpus
     raise NoHost("number of CPUs unknown: pass `sinfo --json`, `scontrol show node --json` or"
                  " --cpus")
 
@@ -369,10 +369,8 @@ def read(files: Sequence[File], library: Library, options: SourceOptions) -> Mod
     node = options.node or (text_field(nodes[0], "name") if len(nodes) == 1 else "")
     jobs, left, others = jobs_of(parts, node)
     name = node or node_of(nodes, jobs.values())
-    told = Host() if options.cpus is not None else host_of(nodes, name)
+    host = options.host(library, 1 if options.cpus is not None else cpus_of(nodes, name))
     want = options.want or ("usage" if parts["sacct"] else "request")
-    host = replace(options, want=want).host(
-        library, Host(told.processors, units.DEFAULT_PERIOD, 1000))
     model = Model(host, names_host=options.cpus is None)
     here = on_node(jobs.values(), name)
     if parts["sacct"] and not options.want:

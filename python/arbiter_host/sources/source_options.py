@@ -10,7 +10,7 @@ from typing import TYPE_CHECKING
 from arbiter import Host, Library
 from arbiter_host.base import demands, units
 from arbiter_host.base.faults import UsageFault
-from arbiter_host.base.model import Model, checked, fine, planned
+from arbiter_host.base.model import PERIODS, SLICE, Model, host_of
 from arbiter_host.sources.times import Times
 
 if TYPE_CHECKING:
@@ -50,7 +50,7 @@ class UseOptions:
     @property
     def host(self) -> Host:
         """A host for amounts in slices."""
-        return Host(1, self.period or units.DEFAULT_PERIOD, self.slice or 1000)
+        return Host(1, self.period or PERIODS[0], self.slice or SLICE)
 
 
 @dataclass(frozen=True)
@@ -99,27 +99,25 @@ class SourceOptions:
         """Whether a part of the host is asked for."""
         return not self.cpus == self.period == self.slice is None
 
-    def host(self, library: Library, told: Host) -> Host:
-        """The host that a source tells, with what is asked for in its place. Use is planned by
-        slices as fine as can be."""
-        host = checked(Host(told.processors if self.cpus is None else self.cpus,
-                            told.period_us if self.period is None else self.period,
-                            told.slice_us if self.slice is None else self.slice))
-        planned(library, host)
-        return self.of_use(library, host) if self.want in demands.OF_USE else host
+    def host(self, library: Library, cpus: int, period: int | None = None,
+             slice_: int | None = None) -> Host:
+        """The host that a source tells, with what is asked for in its place."""
+        return host_of(library, cpus if self.cpus is None else self.cpus,
+                       period if self.period is None else self.period,
+                       slice_ if self.slice is None else self.slice)
 
     def of_use(self, library: Library, host: Host, sample: int = 0) -> Host:
-        """A host for use in samples of so many microseconds (0: of any time): with slices as fine
-        as can be, unless others are asked for."""
-        return fine(library, host, sample) if self.period is self.slice is None else host
+        """A host for use in samples of so many microseconds (0: of any time), whatever its source
+        says of its period and slice."""
+        return host_of(library, host.processors, self.period, self.slice, sample)
 
     def machine(self, library: Library) -> Host:
-        """This machine with slices of 1 ms, with what is asked for in its place."""
-        return self.host(library, Host(os.cpu_count() or 1, units.DEFAULT_PERIOD, 1000))
+        """This machine, with what is asked for in its place."""
+        return self.host(library, os.cpu_count() or 1)
 
     def of_samples(self, library: Library, kind: str, model: Model, unit: str,
                    sample: int) -> Model:
-        """The model for samples of what was used: with slices as fine as can be, unless the source
+        """The model for samples of what was used, whose period divides a sample, unless the source
         says its period itself or the demands are counted in it."""
         if kind in ("script", "toml", "json") or unit in ("slices", "us"):
             return model

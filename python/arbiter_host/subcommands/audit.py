@@ -60,7 +60,7 @@ def of_trees(asked: argparse.Namespace, library: Library) -> list[TreeReading]:
             raise UsageFault(f"{shown(folder)}: no folder: a source that is no tree takes --used")
     options.check(asked, "cgroup")
     times = times_of(asked, len(folders) == 1)
-    host = source_options(asked, want="usage", times=times).machine(library)
+    host = source_options(asked, times=times).machine(library)
     seen = readings.readings_of(folders, host, times, has_threads=True)
     return intervals.collected(seen, times.number or 0 if len(folders) == 1 else len(folders))
 

@@ -176,7 +176,7 @@ def machine(asked: argparse.Namespace, root: safe_files.Root, library: Library) 
     fine = Host(there or 1, PERIOD, SLICE)
     if (asked.cpus or fine.processors) * period > MAX_CAPACITY * SLICE:
         fine = replace(fine, slice_us=10 * SLICE)
-    host = host_of(asked).host(library, fine)
+    host = host_of(asked).host(library, fine.processors, fine.period_us, fine.slice_us)
     if is_real(root) and there is not None and host.processors > there:
         raise UsageFault(f"--cpus {host.processors}: this machine has {there}")
     return host

@@ -114,7 +114,7 @@ def run(options: argparse.Namespace) -> None:
     for name, model in models:
         load.warn(model, name)
     advice = recommend.recommended(by, [
-        SeenHost(change.on_host(model, source.of_use(by.library, model.host)), *each)
+        SeenHost(model, *each)
         for (_, model), each in zip(models, zip(uses, chosen_of(options, models)))], rule)
     for before, after in advice.plans:
         change.warned(before.model, after.model)

@@ -10,7 +10,6 @@ import shlex
 import sys
 import time
 from collections.abc import Callable, Sequence
-from dataclasses import replace
 from typing import TYPE_CHECKING
 
 from arbiter_host import options
@@ -48,8 +47,7 @@ def reader(asked: argparse.Namespace, wanted: Sequence[top.Condition],
     if len(paths) == 1 and os.path.isdir(paths[0]) and asked.kind in (None, "cgroup"):
         options.check(asked, "cgroup")
         want = asked.want or "psi"
-        host = replace(source, want=want).machine(by.library)
-        tree = readings.Tree(paths[0], host, time.monotonic)
+        tree = readings.Tree(paths[0], source.machine(by.library), time.monotonic)
         ask = functools.partial(pod_names, source, asked.pod) if asked.pod else None
         return top.Watched(by, tree, want, ask, warn).round, 1
     if "-" in paths:
