@@ -752,7 +752,7 @@ def test_test_of_the_checked_build(copy, failures):
     last = (f"{11 - failures} passed, {failures} failed on the checked build; not proved: {crates}"
             f" crates, nor that their {edits} wrong bodies are refused")
     same((status, out.split("\n")[-2]), (int(failures > 0), last), f"{out}{err}")
-    asked = [line for line in copy.log() if line.startswith(("rt ", "python "))]
+    asked = [line for line in copy.log() if line.startswith(("rt ", "python -m"))]
     same([line[:42] for line in asked], ["python -m pytest tests python/tests --check"[:42]], "what runs")
 
 
