@@ -1,4 +1,4 @@
-"""Figures of answers that a stranger reads: none comes from rounding, and equals are shown equal."""
+"""Figures of answers that a stranger reads: none comes from rounding, and equals look equal."""
 import json
 import random
 import re

@@ -435,7 +435,7 @@ def test_names_of_a_tree(folder, engine):
 
 
 @pytest.mark.parametrize("name, text", [
-    ("h.toml", '[host]\ncpus = 2\nslice = "1ms"\n[groups.a]\nmax = "30%"\ndemand = "1m"\n'
+    ("h.toml", '[host]\ncpus = 2\nperiod = "100ms"\n[groups.a]\nmax = "30%"\ndemand = "1m"\n'
      '[groups."b/c"]\ntasks = 1\n'),
     ("h.script", "# arbiter run --processors 2 --slice 1000\nmkdir a\nwrite a cpu.max 30000\n"
      "demand a 1\nmkdir b\nmkdir b/c\n# tasks 1\ndemand b/c 0\n"),
