@@ -58,6 +58,58 @@ ALLOWED = {
         HEAD + "wake 1 1\npick 0 1\nwake 0 1\npick 1 0\nend 1 40 1\nwake 1 1\npick 1 1\n", 3),
     "a leaf that comes later": (HEAD + "wake 0 1\npick 0 0\nleaf 2 7\nwake 2 1\npick 1 2\n", 2),
 }
+
+
+# One processor, a quantum and a credit of 4 ns, and two leaves of half of it.
+HALVES = ("processors 1\nslice 4\nterms 4 0 4\nleaf 0 1 524288\nleaf 1 1 524288\n"
+          "wake 0 1\nwake 1 1\n")
+TURN = "pick 0 {0}\npass 4\nend 0 4 1\n"
+EARLIER = "not allowed: a leaf that is due has an earlier deadline"
+HOLD = "premises: hold at each of {0} events\n"
+FAIL = "premises: fail first at line {0}, in all at {1} of {2} events\n"
+# What each is owed in ns, at first 0; a pick takes 4, and each ns brings 1/2.
+RESERVED = {
+    "either of two that are due alike": (HALVES + TURN.format(1), 1, HOLD.format(5)),
+    # leaf 0 is at -2 then and leaf 1 at 2; after its turn both are at 0
+    "turns": (HALVES + (TURN.format(0) + TURN.format(1)) * 3, 6, HOLD.format(20)),
+    # leaf 0 ends after 1 ns and is given back 3 of 4: it is at -0.5, and leaf 1 at 0.5
+    "what was not used comes back": (
+        HALVES + "pick 0 0\npass 1\nend 0 1 1\n" + TURN.format(1), 2, HOLD.format(8)),
+    # leaf 1 sleeps after its turn, and is owed 2 at most: one quantum later it is due no more
+    "a sleeper keeps its credit alone": (
+        HALVES + TURN.format(0) + "pick 0 1\npass 4\nend 0 4 0\n" + TURN.format(0) * 9
+        + "wake 1 1\n" + TURN.format(1) + TURN.format(0), 13, HOLD.format(42)),
+    "a plan that keeps the guarantees": (
+        HALVES + TURN.format(0) + "level\ngive 0 7 524288\ngive 1 3 524288\n" + TURN.format(1), 2,
+        HOLD.format(11)),
+    "a plan with another guarantee": (
+        HALVES + TURN.format(0) + "level\ngive 0 7 524287\n" + TURN.format(1), 2,
+        FAIL.format(12, 1, 10)),
+    "a processor that idles": (
+        HALVES + "pass 3\n" + TURN.format(1), 1, FAIL.format(8, 1, 6)),
+    "a run beyond its quantum": (
+        HALVES + "pick 0 0\npass 5\nend 0 5 1\n", 1, FAIL.format(9, 2, 5)),
+    "a task that leaves": (HALVES + "leave 1\n" + TURN.format(0), 1, HOLD.format(6)),
+    "a limit that stops": (HALVES + "cut 1\n" + TURN.format(0), 1, HOLD.format(6)),
+}
+
+
+# A trace with terms that is refused: the line, and why.
+WRONG = {
+    "the other is due": (HALVES + TURN.format(0) + "pick 0 0\n", 11, EARLIER),
+    # both are due, leaf 1 at 2 and leaf 0 at 0.5 of 4
+    "a later deadline": (
+        HALVES + "pick 0 0\npass 4\nend 0 4 1\npass 4\npick 0 0\n", 12, EARLIER),
+    "terms twice": (HALVES.replace("leaf 0", "terms 4 0 4\nleaf 0"), 4, "error 40 BadLine"),
+    "terms behind a leaf": ("leaf 0 1\nterms 4 0 4\n", 2, "error 40 BadLine"),
+    "no quantum": ("terms 0 0 4\n", 1, "error 41 BadField"),
+    "a term too great": ("terms 4 0 4000000001\n", 1, "error 41 BadField"),
+    "no task to leave": (HALVES + "leave 0\nleave 0\n", 9,
+                         "not allowed: no task of the leaf waits"),
+    "an amount of 0": (HALVES + "level\ngive 0 0 5\n", 9, "error 41 BadField"),
+    "no such leaf": (HALVES + "cut 2\n", 8, "error 20 NotFound"),
+    "time beyond all numbers": (HALVES + "pass 18446744073709551615\n", 8, "error 41 BadField"),
+}
 REFUSED = {
     "the second least": (HEAD + "wake 0 3\nwake 1 2\npick 0 1\npick 1 1\n", 8, LESSER),
     "not what was given back": (
@@ -102,6 +154,20 @@ REFUSED = {
 @pytest.mark.parametrize("text, picks", ALLOWED.values(), ids=list(ALLOWED))
 def test_allowed(dispatch, text, picks):
     same(replayed(dispatch, text), (0, f"allowed: {picks} picks\n"))
+
+
+@pytest.mark.parametrize("case", RESERVED)
+def test_reserved(dispatch: Program, case: str) -> None:
+    """Each pick of a trace with guarantees is allowed, and where the premises fail is told."""
+    text, picks, premises = RESERVED[case]
+    same(replayed(dispatch, text), (0, f"allowed: {picks} picks\n{premises}"))
+
+
+@pytest.mark.parametrize("case", WRONG)
+def test_reserved_wrong(dispatch: Program, case: str) -> None:
+    """The first line is told that a trace with guarantees may not have."""
+    text, line, why = WRONG[case]
+    same(replayed(dispatch, text), (3, f"line {line}: {why}\n"))
 
 
 @pytest.mark.parametrize("text, line, reason", REFUSED.values(), ids=list(REFUSED))

@@ -116,18 +116,18 @@ of_known P s i f ok none some = by_case (found s.accounts i) where
 
 -- ---- time
 
-both_tests : (a b : Bool) → (a && b) ≡ true → (a ≡ true) × (b ≡ true)
+pub both_tests : (a b : Bool) → (a && b) ≡ true → (a ≡ true) × (b ≡ true)
 both_tests true b both = (refl, both)
 both_tests false b both = absurd (cc both)
 
-rooms_of : {X : Type 0} (p : X → Bool) (P : X → Type 0) → ((x : X) → p x ≡ true → P x)
+pub rooms_of : {X : Type 0} (p : X → Bool) (P : X → Type 0) → ((x : X) → p x ≡ true → P x)
     → (xs : List X) → list_all p xs ≡ true → AllByRecursion P xs
 rooms_of p P sound [] all = tt
 rooms_of p P sound (x ∷ xs) all =
     let parts = both_tests (p x) (list_all p xs) all in
     (sound x parts.0, rooms_of p P sound xs parts.1)
 
-all_room : {X : Type 0} (p : X → Bool) (P : X → Type 0) → ((x : X) → P x → p x ≡ true)
+pub all_room : {X : Type 0} (p : X → Bool) (P : X → Type 0) → ((x : X) → P x → p x ≡ true)
     → (xs : List X) → AllByRecursion P xs → list_all p xs ≡ true
 all_room p P complete [] all = refl
 all_room p P complete (x ∷ xs) all =

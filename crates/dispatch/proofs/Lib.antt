@@ -5,6 +5,7 @@ mod Counts
 mod Deadlines
 mod Demands
 mod Exact
+mod Fair
 mod Gains
 mod Happens
 mod Leads
@@ -16,6 +17,7 @@ mod Mapped
 mod Plans
 mod Served
 mod Shares
+mod Told
 mod Totals
 mod TraceRuns
 mod Turns

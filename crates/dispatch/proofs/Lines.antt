@@ -25,7 +25,7 @@ use Rattle.dispatch.specs.Reservation.{Reservations}
 abbrev pub parts : List ℕ → List (List ℕ)
 parts text = slice_split (λ b. b == 10) text
 
-parts_some : (text : List ℕ) → (length (parts text) == 0) ≡ false
+pub parts_some : (text : List ℕ) → (length (parts text) == 0) ≡ false
 parts_some text =
     ne_eqb (length (parts text)) 0
     (λ e. omega (arith, e, length-slice_split (λ b. b == 10) text))

@@ -3,6 +3,7 @@ pub mod Accepted
 pub mod Example
 pub mod Faults
 pub mod Input
+pub mod Premises
 pub mod Replay
 pub mod Reservation
 pub mod Rule

@@ -23,8 +23,8 @@ fn quantum(terms: Terms) -> u64
     WHOLE * u64::from(terms.quantum)
 }
 
-// Number of tasks that wait or run.
-fn tasks(account: Account) -> u128
+/// Number of tasks that wait or run.
+pub fn tasks(account: Account) -> u128
     ensures { result ≡ tasks_of account }
 {
     u128::from(account.share.waiting) + u128::from(account.share.running)
@@ -37,8 +37,8 @@ fn rate(account: Account) -> u64
     (tasks(account) * u128::from(WHOLE)).min(u128::from(account.guarantee)) as u64
 }
 
-// What is kept of a guarantee that nobody wants.
-fn credit(terms: Terms, account: Account) -> u128
+/// What is kept of a guarantee that nobody wants.
+pub fn credit(terms: Terms, account: Account) -> u128
     ensures { result ≡ credit_in terms account }
 {
     u128::from(quantum(terms)) + u128::from(account.guarantee) * u128::from(terms.credit)

@@ -8,6 +8,7 @@ ghost use Rattle.dispatch.specs.Replay.{AcceptsExactly};
 ghost use Rattle.dispatch.specs.Accepted.{TraceIsARun};
 ghost use Rattle.dispatch.specs.Windows.{OwedIsBounded, WindowsAreServed};
 ghost use Rattle.dispatch.specs.Example.{PremisesAreMet};
+ghost use Rattle.dispatch.specs.Premises.{PremisesAreTold};
 
 /// No leaf gets far ahead of one that waits throughout, whatever the others do.
 ///
@@ -103,4 +104,9 @@ pub fn accepts_exactly()
 /// of it where their premises do.
 pub fn trace_is_a_run()
     ensures { TraceIsARun }
+{}
+
+/// What is told of a trace is so: the tests of the premises pass exactly where they hold.
+pub fn premises_are_told()
+    ensures { PremisesAreTold }
 {}

@@ -2,7 +2,8 @@
 //!
 //! Reads a trace on standard input, one event a line, and prints `allowed: N picks` or the first
 //! line that is refused. Ends with status 0 if each event is allowed, 3 if a line is refused, and 1
-//! if a read, a write or an allocation failed.
+//! if a read, a write or an allocation failed. Of a trace with guarantees whose events are allowed a
+//! second line tells where the premises of the law of windows fail.
 #![tactic(auto)]
 
 mod accounts;
@@ -12,10 +13,12 @@ mod input;
 mod laws;
 mod leaves;
 mod limits;
+mod premises;
 mod replay;
 mod reservation;
 mod scheduler;
 
+use premises::{Premises, put_premises, tell_premises};
 use replay::{Finding, put_finding, replay, status_of};
 use std::alloc::Global;
 use std::io;
@@ -23,16 +26,25 @@ use std::io::{Read, Write};
 use std::process::ExitCode;
 
 // Reads a trace to its end, and replays it.
-fn finding_on<R: Read>(alloc: Global, reader: &mut R) -> io::Result<Finding> {
+fn finding_on<R: Read>(alloc: Global, reader: &mut R) -> io::Result<(Finding, Premises)> {
     let mut text = Vec::new(alloc);
     reader.read_to_end(&mut text)?;
-    Ok(replay(alloc, text.as_slice())?)
+    let finding = replay(alloc, text.as_slice())?;
+    Ok((finding, tell_premises(alloc, text.as_slice())?))
 }
 
-// Prints the line of a finding.
-fn print_finding<W: Write>(alloc: Global, writer: &mut W, finding: Finding) -> io::Result<()> {
+// Prints the line of a finding, and that on the premises.
+fn print_finding<W: Write>(
+    alloc: Global,
+    writer: &mut W,
+    finding: Finding,
+    premises: Premises,
+) -> io::Result<()> {
     let mut answer = Vec::new(alloc);
     put_finding(finding, &mut answer)?;
+    if status_of(finding) == 0 && premises.has_terms {
+        put_premises(premises, &mut answer)?;
+    }
     writer.write_all(answer.as_slice())
 }
 
@@ -43,11 +55,11 @@ fn failed(rt: &impl Eprint, error: io::Error) -> ExitCode {
 }
 
 fn main(rt: HostRuntime) -> ExitCode {
-    let finding = match finding_on(rt.alloc(), &mut rt.reader()) {
-        Ok(finding) => finding,
+    let (finding, premises) = match finding_on(rt.alloc(), &mut rt.reader()) {
+        Ok(found) => found,
         Err(error) => return failed(&rt, error),
     };
-    match print_finding(rt.alloc(), &mut io::writer(&rt), finding) {
+    match print_finding(rt.alloc(), &mut io::writer(&rt), finding, premises) {
         Ok(()) => ExitCode::from(status_of(finding)),
         Err(error) => failed(&rt, error),
     }

@@ -142,8 +142,12 @@ fn make_event(scheduler: &mut Scheduler, event: Step) -> Option<LineFault>
     event_fault(scheduler.step(event))
 }
 
-// Follows a line that is read.
-fn follow(
+/// Follows a line that is read: its fault, if it has one.
+///
+/// # Errors
+///
+/// `AllocError` if an allocation failed.
+pub fn follow(
     alloc: Global,
     scheduler: &mut Scheduler,
     input: Input,

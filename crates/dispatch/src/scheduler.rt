@@ -6,12 +6,16 @@ ghost use Rattle.dispatch.specs.Reservation.{terms_of, aged, least_clock, greate
 ghost use Rattle.dispatch.specs.Reservation.{level_now, lesser_clock, greater_clock, least_known};
 ghost use Rattle.dispatch.specs.Steps.{allowed, happens, free_processor, run_of, new_account};
 ghost use Rattle.dispatch.specs.Steps.{age_fits};
+ghost use Rattle.dispatch.specs.Premises.{fits_host, is_fair};
 
 use crate::accounts::{
     account_cut, account_ended, account_given, account_left, account_picked, account_woken,
     all_owed_fit, new_account, paid_at, pass_all,
 };
 use crate::events::Refusal;
+use crate::premises::{
+    all_busy, all_have_tasks, all_still, all_wait_beyond, all_within, fit_in, has_guarantee,
+};
 use crate::reservation::{Account, Run, Step, Terms};
 use std::alloc::{AllocError, Global};
 use std::marker::Model;
@@ -450,6 +454,42 @@ impl Scheduler {
             } => self.give(leaf, amount, guarantee),
             Step::Leave(leaf) => self.leave(leaf),
             Step::Cut(leaf) => self.cut(leaf),
+        }
+    }
+
+    /// Whether the host has room for the guarantees, and the slack is not above the credit.
+    pub fn fits_host(&self) -> bool
+        ensures { result ≡ fits_host self.now }
+    {
+        let room = 1_048_576 * u128::from(self.processor_count());
+        self.processor_count() > 0 && (fit_in(room, &self.accounts) && !(self.credit < self.slack))
+    }
+
+    // Whether the premises hold while so many nanoseconds pass.
+    fn passes_fairly(&self, ns: u64) -> bool
+        ensures { result ≡ is_fair self.now (Step.Pass ns) }
+    {
+        (all_busy(&self.processors) || all_still(&self.accounts))
+            && (all_wait_beyond(self.terms(), &self.accounts)
+                && all_within(self.quantum, ns, &self.processors))
+    }
+
+    /// Whether the premises of the law of windows hold at an event.
+    pub fn is_fair(&self, step: Step) -> bool
+        ensures { result ≡ is_fair self.now step }
+    {
+        match step {
+            Step::Pass(ns) => self.passes_fairly(ns),
+            Step::Pick { .. } => {
+                all_wait_beyond(self.terms(), &self.accounts) && all_have_tasks(&self.accounts)
+            }
+            Step::End { .. } => all_within(self.quantum, 0, &self.processors),
+            Step::Give {
+                leaf,
+                guarantee,
+                ..
+            } => has_guarantee(guarantee, self.account(leaf)),
+            _ => true,
         }
     }
 }

@@ -1,0 +1,143 @@
+-- Where the premises of the law of windows fail in a trace.
+use Rattle.std.specs.Prelude.{◌≡◌, ℕ, ◌+◌, ◌-◌, ◌*◌, ◌^◌, ◌==◌, ◌&&◌, ◌||◌, ◌↔◌, not, nat_lt, min}
+use Rattle.std.specs.Prelude.{Bool, true, false, List, [], ◌∷◌, ◌++◌, length, Option, None, Some}
+use Rattle.std.specs.Prelude.{slice_get, if◌then◌else◌, Result, Ok, Err, codes}
+use Rattle.std.specs.List.{list_all, slice_split}
+use Rattle.std.specs.Fmt.{decimal}
+use Rattle.bw_text.specs.Words.{words}
+use Rattle.dispatch.specs.declared.fault.InputFault.{InputFault}
+use Rattle.dispatch.specs.declared.input.Input.{Input}
+use Rattle.dispatch.specs.declared.input.Input.TheVariants as lines
+use Rattle.dispatch.specs.declared.premises.Premises.{Premises}
+use Rattle.dispatch.specs.declared.replay.LineFault.{LineFault}
+use Rattle.dispatch.specs.declared.reservation.Account.{Account}
+use Rattle.dispatch.specs.declared.reservation.Run.{Run}
+use Rattle.dispatch.specs.declared.reservation.Step.{Step}
+use Rattle.dispatch.specs.declared.reservation.Step.TheVariants.{Pass, Wake, Pick, End, Level}
+use Rattle.dispatch.specs.declared.reservation.Step.TheVariants.{Give, Leave, Cut}
+use Rattle.dispatch.specs.declared.reservation.Terms.{Terms}
+use Rattle.dispatch.specs.Input.{input_of}
+use Rattle.dispatch.specs.Replay.{input_fault, input_after, nothing_set}
+use Rattle.dispatch.specs.Reservation.{Reservations, WHOLE, terms_of, credit_in, tasks_of}
+use Rattle.dispatch.specs.Windows.{FitsHost, IsFair}
+
+-- whether a leaf that is owed more than its credit has a task that waits
+abbrev pub waits_beyond : Terms → Account → Bool
+waits_beyond t a = not (nat_lt (credit_in t a) a.owed) || nat_lt 0 a.share.waiting
+
+-- whether a leaf that waits has as many tasks as its guarantee has processors
+abbrev pub has_tasks_for : Account → Bool
+has_tasks_for a = not (nat_lt 0 a.share.waiting) || not (nat_lt (tasks_of a * WHOLE) a.guarantee)
+
+-- whether no task of the leaf waits
+abbrev pub is_still : Account → Bool
+is_still a = not (nat_lt 0 a.share.waiting)
+
+-- whether the processor runs a task
+abbrev pub is_busy : Option Run → Bool
+is_busy None = false
+is_busy (Some run) = true
+
+-- whether the run takes no more than this, also if this much time passes
+abbrev pub is_within : ℕ → ℕ → Option Run → Bool
+is_within quantum ns None = true
+is_within quantum ns (Some run) = not (nat_lt quantum (run.age + ns))
+
+-- whether the leaf has this guarantee
+abbrev pub has_guarantee : ℕ → Option Account → Bool
+has_guarantee guarantee None = guarantee == 0
+has_guarantee guarantee (Some a) = guarantee == a.guarantee
+
+-- whether the premises hold at an event
+abbrev pub is_fair : Reservations → Step → Bool
+is_fair s (Pass ns) =
+    (list_all is_busy s.processors || list_all is_still s.accounts)
+    && (list_all (waits_beyond (terms_of s)) s.accounts
+    && list_all (is_within s.quantum ns) s.processors)
+is_fair s (Wake i tasks) = true
+is_fair s (Pick p i) =
+    list_all (waits_beyond (terms_of s)) s.accounts && list_all has_tasks_for s.accounts
+is_fair s (End p used remains) = list_all (is_within s.quantum 0) s.processors
+is_fair s Level = true
+is_fair s (Give i amount guarantee) = has_guarantee guarantee (slice_get s.accounts i)
+is_fair s (Leave i) = true
+is_fair s (Cut i) = true
+
+-- whether the guarantees add up to this at most
+abbrev pub fit_in : ℕ → List Account → Bool
+fit_in room [] = true
+fit_in room (a ∷ rest) =
+    if nat_lt room a.guarantee then false else fit_in (room - a.guarantee) rest
+
+-- whether the host has room for the guarantees
+abbrev pub fits_host : Reservations → Bool
+fits_host s =
+    nat_lt 0 (length s.processors)
+    && (fit_in (WHOLE * length s.processors) s.accounts && not (nat_lt s.credit s.slack))
+
+-- The tests tell exactly where the premises hold.
+pub record PremisesAreTold : Type 0 where
+  pub host : (s : Reservations) → (fits_host s ≡ true) ↔ FitsHost s
+  pub event : (s : Reservations) (e : Step) → (is_fair s e ≡ true) ↔ IsFair s e
+
+-- ---- of a trace
+
+-- one more, with a bound that no count of lines reaches
+abbrev pub one_more : ℕ → ℕ
+one_more n = min (n + 1) (2 ^ 64 - 1)
+
+-- the premises so far, and those at an event of the line n
+abbrev pub told_event : Premises → ℕ → Bool → Premises
+told_event p n holds =
+    if holds then record p { events = one_more p.events }
+    else record {
+      has_terms = p.has_terms;
+      events = one_more p.events;
+      unmet = one_more p.unmet;
+      first = if p.unmet == 0 then n else p.first;
+    }
+
+-- the premises so far, and those at an input: of an event, the host fits and the event is fair
+abbrev pub told : Reservations → ℕ → Premises → Input → Premises
+told s n p (lines.Event e) = told_event p n (fits_host s && is_fair s e)
+told s n p (lines.Terms q w c) = record p { has_terms = true }
+told s n p _ = p
+
+abbrev pub none_told : Premises
+none_told = record { has_terms = false; events = 0; unmet = 0; first = 0 }
+
+-- what follows a line that is read, if it has no fault
+abbrev pub told_at : Option LineFault → Premises → Premises → Premises
+told_at (Some f) here next = here
+told_at None here next = next
+
+abbrev pub told_line : Result Input InputFault → Premises → (Input → Premises) → Premises
+told_line (Err f) here next = here
+told_line (Ok i) here next = next i
+
+-- the premises from the line n on, up to the first line that is refused
+unfoldable pub premises_from : Reservations → ℕ → Premises → List (List ℕ) → Premises
+premises_from s n p [] = p
+premises_from s n p (part ∷ parts) =
+    if length parts == 0 then p
+    else told_line (input_of (words part)) p (λ i. told_at (input_fault s i) p
+    (premises_from (input_after s i) (n + 1) (told s n p i) parts))
+
+abbrev pub premises_of : List ℕ → Premises
+premises_of text = premises_from nothing_set 1 none_told (slice_split (λ b. b == 10) text)
+
+-- the line that is printed
+abbrev pub events_text : List ℕ → Premises → List ℕ
+events_text before p = (before ++ decimal p.events) ++ (codes " events" ++ 10 ∷ [])
+
+abbrev pub first_text : Premises → List ℕ
+first_text p =
+    (codes "premises: fail first at line " ++ decimal p.first)
+    ++ (codes ", in all at " ++ decimal p.unmet)
+
+abbrev pub unmet_text : Premises → List ℕ
+unmet_text p = first_text p ++ events_text (codes " of ") p
+
+abbrev pub premises_text : Premises → List ℕ
+premises_text p =
+    if p.unmet == 0 then events_text (codes "premises: hold at each of ") p else unmet_text p
