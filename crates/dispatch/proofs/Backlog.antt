@@ -16,14 +16,14 @@ use Rattle.dispatch.specs.Reservation.{Reservations, WHOLE, account_at, no_accou
 use Rattle.dispatch.specs.Reservation.{tasks_of, rate_of, credit_of, most_of, passed, aged, cut}
 use Rattle.dispatch.specs.Reservation.{paid_by, picked, ended, with_account, state_picked}
 use Rattle.dispatch.specs.Reservation.{state_ended, IsDue, OwesWithin, MayPick, Waits}
-use Rattle.dispatch.specs.Reservation.{settled_owed, after, Allows, left, capped, terms_of, Runs, woken, given, level_now}
+use Rattle.dispatch.specs.Reservation.{settled_owed, after, Allows, left, capped, terms_of, woken, given, level_now}
 use Rattle.dispatch.specs.declared.reservation.Step.{Step}
 use Rattle.dispatch.specs.declared.reservation.Step.TheVariants.{Pass, Wake, Pick, End, Level}
 use Rattle.dispatch.specs.declared.reservation.Step.TheVariants.{Give, Leave, Cut}
 use Rattle.dispatch.specs.Rule as shares
 use Rattle.dispatch.specs.Windows.{over_runs, of_run, RunsWithin, IsBusy, NoneWaits}
 use Rattle.dispatch.specs.Windows.{WaitsBeyondCredit, HasTasksForGuarantees, IsPrompt, IsFair}
-use Rattle.dispatch.specs.Windows.{IsFairRun, after_all, IsAtRest, FitsHost, back_of, owed_in_all}
+use Rattle.dispatch.specs.Windows.{IsFairRun, after_all, IsAtRest, FitsHost}
 use Rattle.dispatch.proofs.Counts.{length_set}
 use Rattle.dispatch.proofs.Demands.{demand, demand_less, demand_within, demand_later, demand_paid}
 use Rattle.dispatch.proofs.Demands.{demand_early, demand_back, demand_none}

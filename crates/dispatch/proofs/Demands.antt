@@ -1,8 +1,8 @@
 -- The work that a leaf may still ask for by a time: what it will be owed by then, if that is a
 -- quantum, with each of its runs as a quantum that may come back.
 use Rattle.std.proofs.Common.{◌≡◌, ℕ, zero, suc, ◌+◌, ◌-◌, ◌*◌, ◌<◌, ◌≤◌, ◌⊎◌, inl, inr, nat_lt}
-use Rattle.std.proofs.Common.{Bool, true, false, refl, ap, ◌∙◌, sym, min, arith, if◌then◌else◌}
-use Rattle.std.proofs.lemmas.Bool.{ltb-false, lt-ltb, le-ltb, ltb-true}
+use Rattle.std.proofs.Common.{Bool, true, false, refl, min, arith, if◌then◌else◌}
+use Rattle.std.proofs.lemmas.Bool.{ltb-false, ltb-true}
 
 -- Of a guarantee, a quantum, the credit of the guarantee, what is owed and a quantum more, a
 -- quantum for each run, and the guarantee until the time.

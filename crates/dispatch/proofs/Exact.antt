@@ -19,7 +19,7 @@ use Rattle.dispatch.specs.Rule.{number, ◌>>=◌, leaf_ended, without_value, wa
 use Rattle.dispatch.specs.Rule as shares
 use Rattle.dispatch.specs.Reservation.{Reservations, WHOLE, terms_of, account_at, no_account}
 use Rattle.dispatch.specs.Reservation.{quantum_in, rate_of, capped_owed, settled_owed, cut_if_less}
-use Rattle.dispatch.specs.Reservation.{woken_in, picked_in, ended_in, given_in, left_in, cut_in}
+use Rattle.dispatch.specs.Reservation.{woken_in, picked_in, given_in, left_in}
 use Rattle.dispatch.specs.Reservation.{passed_owed, IsDue, OwesWithin, IsNoLater, IsNoFurther}
 use Rattle.dispatch.specs.Reservation.{MayPick, Runs, Waits, Allows}
 use Rattle.dispatch.specs.Steps.{is_due, ahead, back, is_earlier, is_passed_over, owed_fits}

@@ -1,9 +1,9 @@
 -- The tests of the premises tell exactly where they hold.
-use Rattle.std.proofs.Common.{◌≡◌, ◌↔◌, ℕ, zero, suc, ◌+◌, ◌-◌, ◌*◌, ◌<◌, ◌≤◌, ◌==◌, ◌&&◌, ◌||◌}
+use Rattle.std.proofs.Common.{◌≡◌, ℕ, zero, suc, ◌+◌, ◌-◌, ◌*◌, ◌≤◌, ◌&&◌, ◌||◌}
 use Rattle.std.proofs.Common.{◌⊎◌, inl, inr, not, nat_lt, Bool, true, false, List, [], ◌∷◌, length}
-use Rattle.std.proofs.Common.{get_or, Option, None, Some, slice_get, refl, ap, sym, subst, ◌∙◌, arith}
+use Rattle.std.proofs.Common.{get_or, Option, None, Some, slice_get, refl, ap, ◌∙◌, arith}
 use Rattle.std.proofs.Common.{if◌then◌else◌}
-use Rattle.std.specs.List.{list_all, sum_by, AllByRecursion}
+use Rattle.std.specs.List.{list_all, sum_by}
 use Rattle.std.proofs.lemmas.Bool.{ltb-true, ltb-false, lt-ltb, le-ltb, eqb-true, eq-eqb}
 use Rattle.std.proofs.lemmas.List.Sums.{sum_by-cons}
 use Rattle.dispatch.specs.declared.reservation.Account.{Account}
@@ -14,7 +14,7 @@ use Rattle.dispatch.specs.declared.reservation.Step.TheVariants.{Give, Leave, Cu
 use Rattle.dispatch.specs.Premises.{waits_beyond, has_tasks_for, is_still, is_busy, is_within}
 use Rattle.dispatch.specs.Premises.{has_guarantee, is_fair, fit_in, fits_host, PremisesAreTold}
 use Rattle.dispatch.specs.Reservation.{Reservations, WHOLE, terms_of, account_at, no_account}
-use Rattle.dispatch.specs.Reservation.{credit_of, credit_in, tasks_of, Waits}
+use Rattle.dispatch.specs.Reservation.{credit_in, tasks_of}
 use Rattle.dispatch.specs.Windows.{FitsHost, IsFair, IsBusy, IsPrompt, NoneWaits, RunsWithin}
 use Rattle.dispatch.specs.Windows.{WaitsBeyondCredit, HasTasksForGuarantees}
 use Rattle.dispatch.proofs.Backlog.{by_order}

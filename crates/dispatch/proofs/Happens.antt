@@ -1,8 +1,8 @@
 -- The state after a pick and after an end, by the leaf that it changes.
 use Rattle.std.proofs.Common.{◌≡◌, ℕ, ◌<◌, ◌*◌, ◌^◌, ◌==◌, ◌&&◌, not, List, Bool, true, false, Option, Some, None}
 use Rattle.std.proofs.Common.{Result, Ok, Err, slice_get, slice_set, refl, ap, sym, subst, ◌∙◌}
-use Rattle.std.proofs.Common.{if◌then◌else◌, is_ok, nat_lt, min, [], ◌∷◌, zero, suc, length, get_or}
-use Rattle.std.proofs.Common.{map, arith, take, drop, ◌++◌}
+use Rattle.std.proofs.Common.{if◌then◌else◌, is_ok, nat_lt, [], ◌∷◌, zero, suc, length, get_or}
+use Rattle.std.proofs.Common.{map, arith, take, ◌++◌}
 use Rattle.std.proofs.Math.Seq.{take-append_seam}
 use Rattle.std.proofs.lemmas.List.{length-map}
 use Rattle.std.specs.List.{list_any, All}

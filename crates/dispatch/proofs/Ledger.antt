@@ -1,8 +1,8 @@
 -- The ledger of a leaf: what it is owed and what its runs would give back changes, at each event, by
 -- what its guarantee brings less what its tasks hold.
-use Rattle.std.proofs.Common.{◌≡◌, ◌≢◌, ℕ, zero, suc, ◌+◌, ◌-◌, ◌*◌, ◌<◌, ◌≤◌, ◌==◌, ◌⊎◌, inl, inr}
-use Rattle.std.proofs.Common.{List, [], ◌∷◌, ◌++◌, length, Bool, true, false, Option, None, Some}
-use Rattle.std.proofs.Common.{nat_lt, slice_get, slice_set, get_or, map, min, max, refl, ap, sym}
+use Rattle.std.proofs.Common.{◌≡◌, ◌≢◌, ℕ, zero, suc, ◌+◌, ◌-◌, ◌*◌, ◌<◌, ◌≤◌, ◌==◌, inl, inr}
+use Rattle.std.proofs.Common.{List, [], ◌∷◌, length, Bool, true, false, Option, None, Some}
+use Rattle.std.proofs.Common.{nat_lt, slice_get, map, min, max, refl, ap, sym}
 use Rattle.std.proofs.Common.{subst, ◌∙◌, arith, if◌then◌else◌}
 use Rattle.std.specs.List.{sum_by, AllByRecursion}
 use Rattle.std.proofs.Math.Nat.{mul-le-mul_right}
@@ -23,7 +23,7 @@ use Rattle.dispatch.specs.Rule as shares
 use Rattle.dispatch.specs.Windows.{over_runs, of_run, back_of, owed_in_all, RunsWithin, IsFair}
 use Rattle.dispatch.specs.Windows.{WantsAt, held_at}
 use Rattle.dispatch.proofs.Counts.{length_set}
-use Rattle.dispatch.proofs.Demands.{demand, Demand, demand_is}
+use Rattle.dispatch.proofs.Demands.{demand, demand_is}
 use Rattle.dispatch.proofs.Totals.{sum_set, one_of_sum}
 use Rattle.dispatch.proofs.Backlog.{Backlog, rest, one, demand_by, by_order, account_set, passed_at}
 

@@ -1,18 +1,17 @@
 -- What a leaf is owed is bounded, and each window of a run is served.
-use Rattle.std.proofs.Common.{◌≡◌, ℕ, zero, suc, ◌+◌, ◌*◌, ◌<◌, ◌≤◌, List, [], ◌∷◌, ◌++◌, length}
-use Rattle.std.proofs.Common.{min, refl, ap, sym, subst, ◌∙◌, arith, Bool, Option, None, Some}
+use Rattle.std.proofs.Common.{◌≡◌, ℕ, ◌+◌, ◌*◌, ◌<◌, ◌≤◌, List, [], ◌∷◌, ◌++◌, length}
+use Rattle.std.proofs.Common.{min, refl, ap, sym, ◌∙◌, arith, Bool, Option, None, Some}
 use Rattle.std.proofs.Common.{slice_get}
 use Rattle.std.proofs.lemmas.List.{length-map}
 use Rattle.dispatch.specs.declared.reservation.Run.{Run}
 use Rattle.dispatch.specs.Reservation.{state_ended, ended, passed, woken, picked, given, cut, left}
 use Rattle.dispatch.proofs.Counts.{length_set}
 use Rattle.std.proofs.Math.Nat.{mul-le-mul_right}
-use Rattle.dispatch.specs.declared.reservation.Account.{Account}
 use Rattle.dispatch.specs.declared.reservation.Step.{Step}
 use Rattle.dispatch.specs.declared.reservation.Step.TheVariants.{Pass, Wake, Pick, End, Level}
 use Rattle.dispatch.specs.declared.reservation.Step.TheVariants.{Give, Leave, Cut}
 use Rattle.dispatch.specs.Reservation.{Reservations, WHOLE, account_at, after, most_of, quantum_of}
-use Rattle.dispatch.specs.Windows.{after_all, IsFairRun, IsAtRest, FitsHost, owed_in_all, time_of}
+use Rattle.dispatch.specs.Windows.{after_all, IsFairRun, time_of}
 use Rattle.dispatch.specs.Windows.{held_in, Wants, OwedIsBounded, WindowsAreServed}
 use Rattle.dispatch.proofs.Backlog.{Backlog, backlog_at_rest, backlog_all, backlog_after, by_order}
 use Rattle.dispatch.proofs.Ledger.{bounded, IsKept, kept_after, time_at}

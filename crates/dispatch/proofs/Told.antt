@@ -1,5 +1,5 @@
 -- What is told of a text, by its first line.
-use Rattle.std.proofs.Common.{◌≡◌, ℕ, ◌+◌, ◌==◌, List, ◌∷◌, length, Bool, Option, None, Some}
+use Rattle.std.proofs.Common.{◌≡◌, ℕ, ◌+◌, List, ◌∷◌, Bool, Option, None, Some}
 use Rattle.std.proofs.Common.{Result, Ok, Err, ap, ◌∙◌, if◌then◌else◌}
 use Rattle.bw_text.specs.Words.{words}
 use Rattle.dispatch.specs.declared.fault.InputFault.{InputFault}

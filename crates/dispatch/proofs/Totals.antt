@@ -1,6 +1,6 @@
 -- Sums over a list, where one item or each item changes.
 use Rattle.std.proofs.Common.{◌≡◌, ◌≢◌, ℕ, zero, suc, ◌+◌, ◌*◌, ◌<◌, ◌≤◌, List, [], ◌∷◌, length}
-use Rattle.std.proofs.Common.{get_or, slice_get, slice_set, map, Option, Some, ap, arith}
+use Rattle.std.proofs.Common.{get_or, slice_get, slice_set, map, Some, ap, arith}
 use Rattle.std.specs.List.{sum_by}
 use Rattle.std.proofs.lemmas.List.Sums.{sum_by-cons}
 

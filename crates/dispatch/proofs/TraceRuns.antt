@@ -1,6 +1,6 @@
 -- An accepted trace whose events come last is a run that begins at rest.
-use Rattle.std.proofs.Common.{◌≡◌, ℕ, zero, suc, ◌+◌, ◌<◌, ◌≤◌, List, [], ◌∷◌, ◌++◌, map, length}
-use Rattle.std.proofs.Common.{get_or, replicate, Option, None, Some, refl, ap, sym, subst, ◌∙◌, arith}
+use Rattle.std.proofs.Common.{◌≡◌, ℕ, zero, suc, ◌≤◌, List, [], ◌∷◌, ◌++◌, map}
+use Rattle.std.proofs.Common.{get_or, replicate, Option, None, refl, ap, arith}
 use Rattle.std.specs.List.{AllByRecursion}
 use Rattle.dispatch.specs.declared.reservation.Account.{Account}
 use Rattle.dispatch.specs.declared.reservation.Run.{Run}
@@ -10,9 +10,9 @@ use Rattle.dispatch.specs.declared.input.Input.TheVariants as lines
 use Rattle.dispatch.specs.Accepted.{after_inputs, SetsUp, AllSetUp, TraceIsARun}
 use Rattle.dispatch.specs.Replay.{input_after, MayFollow, AllFollow, nothing_set}
 use Rattle.dispatch.specs.Reservation.{Reservations, account_at, no_account, after, quantum_of}
-use Rattle.dispatch.specs.Reservation.{credit_of, terms_of}
+use Rattle.dispatch.specs.Reservation.{terms_of}
 use Rattle.dispatch.specs.Steps.{new_account}
-use Rattle.dispatch.specs.Windows.{IsAtRest, IsRun}
+use Rattle.dispatch.specs.Windows.{IsRun}
 
 -- ---- lines
 

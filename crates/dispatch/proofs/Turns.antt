@@ -1,13 +1,11 @@
 -- Two leaves of half a processor take turns, and the premises hold at each event.
-use Rattle.std.proofs.Common.{◌≡◌, ℕ, zero, suc, ◌+◌, ◌-◌, ◌*◌, ◌<◌, ◌≤◌, List, [], ◌∷◌, true}
-use Rattle.std.proofs.Common.{Option, None, Some, refl, arith, inl, inr}
-use Rattle.dispatch.specs.declared.reservation.Account.{Account}
+use Rattle.std.proofs.Common.{◌≡◌, ℕ, zero, suc, ◌+◌, ◌-◌, ◌*◌, ◌≤◌, List, ◌∷◌, true}
+use Rattle.std.proofs.Common.{refl, arith, inl}
 use Rattle.dispatch.specs.declared.reservation.Step.{Step}
-use Rattle.dispatch.specs.declared.reservation.Step.TheVariants.{Wake, Pass, Pick, End}
+use Rattle.dispatch.specs.declared.reservation.Step.TheVariants.{Pass, Pick, End}
 use Rattle.dispatch.specs.Reservation.{Reservations, account_at, after, Waits, IsDue, MayPick}
 use Rattle.dispatch.specs.Reservation.{IsNoLater}
 use Rattle.dispatch.specs.Windows.{WaitsBeyondCredit, HasTasksForGuarantees, IsFairRun, IsAtRest}
-use Rattle.dispatch.specs.Windows.{FitsHost}
 use Rattle.dispatch.specs.Example.{halves, turns, PremisesAreMet}
 
 -- ---- a round

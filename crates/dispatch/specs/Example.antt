@@ -2,7 +2,7 @@
 use Rattle.std.specs.Prelude.{ℕ, zero, suc, true, List, [], ◌∷◌, None}
 use Rattle.dispatch.specs.declared.reservation.Account.{Account}
 use Rattle.dispatch.specs.declared.reservation.Step.{Step}
-use Rattle.dispatch.specs.declared.reservation.Step.TheVariants.{Wake, Pass, Pick, End}
+use Rattle.dispatch.specs.declared.reservation.Step.TheVariants.{Pass, Pick, End}
 use Rattle.dispatch.specs.Reservation.{Reservations}
 use Rattle.dispatch.specs.Windows.{IsAtRest, FitsHost, IsFairRun}
 

@@ -1,8 +1,8 @@
 -- The rule of reservations and shares: its state, the events that it allows, and the state after
 -- each. A leaf that is owed by its guarantee goes first, by deadlines; else clocks of shares decide.
-use Rattle.std.specs.Prelude.{◌≡◌, ℕ, ◌+◌, ◌-◌, ◌*◌, ◌/◌, ◌<◌, ◌≤◌, ◌==◌, nat_lt, min, max, Bool, true}
+use Rattle.std.specs.Prelude.{◌≡◌, ℕ, ◌+◌, ◌-◌, ◌*◌, ◌/◌, ◌<◌, ◌≤◌, ◌==◌, nat_lt, min, max, Bool}
 use Rattle.std.specs.Prelude.{List, [], ◌∷◌, length, get_or, map, Option, None, Some}
-use Rattle.std.specs.Prelude.{false, slice_get, slice_set, if◌then◌else◌}
+use Rattle.std.specs.Prelude.{slice_get, slice_set, if◌then◌else◌}
 use Rattle.dispatch.specs.declared.leaves.Leaf.{Leaf}
 use Rattle.dispatch.specs.declared.reservation.Account.{Account}
 use Rattle.dispatch.specs.declared.reservation.Terms.{Terms}

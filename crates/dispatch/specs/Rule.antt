@@ -1,9 +1,7 @@
 -- The rule of the dispatcher: its state, the events that the rule allows, and the state after each.
-use Rattle.std.specs.Prelude.{◌≡◌, ℕ, ◌+◌, ◌-◌, ◌*◌, ◌/◌, ◌<◌, ◌≤◌, ◌^◌, ◌==◌, ◌&&◌, ◌||◌, ◌↔◌, ◌⊎◌}
+use Rattle.std.specs.Prelude.{◌≡◌, ℕ, ◌+◌, ◌-◌, ◌*◌, ◌/◌, ◌<◌, ◌≤◌, ◌^◌, ◌&&◌, ◌||◌}
 use Rattle.std.specs.Prelude.{nat_lt, min, max, Bool, List, [], ◌∷◌, length, get_or, Option}
 use Rattle.std.specs.Prelude.{None, Some, slice_get, slice_set, if◌then◌else◌, Result, Ok, Err}
-use Rattle.std.specs.Prelude.{is_ok}
-use Rattle.std.specs.List.{list_any, All}
 use Rattle.dispatch.specs.declared.leaves.Leaf.{Leaf}
 use Rattle.dispatch.specs.declared.events.Event.{Event}
 use Rattle.dispatch.specs.declared.events.Event.TheVariants.{Wake, Pick, End}

@@ -1,6 +1,6 @@
 -- Which event is refused, and why: the rule of reservations as a program decides it.
 use Rattle.std.specs.Prelude.{◌≡◌, ℕ, ◌+◌, ◌-◌, ◌*◌, ◌/◌, ◌<◌, ◌^◌, ◌==◌, ◌&&◌, ◌||◌, ◌↔◌, not, nat_lt}
-use Rattle.std.specs.Prelude.{max, Bool, true, List, [], ◌∷◌, length, Option, None, Some, slice_get}
+use Rattle.std.specs.Prelude.{max, Bool, true, List, Option, None, Some, slice_get}
 use Rattle.std.specs.Prelude.{if◌then◌else◌, Result, Ok, Err, is_ok}
 use Rattle.std.specs.List.{list_any, list_all, All, AllByRecursion}
 use Rattle.dispatch.specs.declared.events.Refusal.{Refusal}

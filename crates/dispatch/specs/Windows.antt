@@ -1,8 +1,7 @@
 -- Runs of the rule of reservations, and what it promises of each window of time.
 use Rattle.std.specs.Prelude.{◌≡◌, ◌≢◌, ℕ, ◌+◌, ◌-◌, ◌*◌, ◌<◌, ◌≤◌, ◌==◌, ◌⊎◌, min, List, []}
-use Rattle.std.specs.Prelude.{◌∷◌, ◌++◌, length, Option, None, Some, slice_get, if◌then◌else◌}
+use Rattle.std.specs.Prelude.{◌∷◌, ◌++◌, length, Option, None, Some, if◌then◌else◌}
 use Rattle.std.specs.List.{sum_by, AllByRecursion}
-use Rattle.dispatch.specs.declared.reservation.Account.{Account}
 use Rattle.dispatch.specs.declared.reservation.Run.{Run}
 use Rattle.dispatch.specs.declared.reservation.Step.{Step}
 use Rattle.dispatch.specs.declared.reservation.Step.TheVariants.{Pass, Wake, Pick, End, Level}

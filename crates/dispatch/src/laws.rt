@@ -1,4 +1,8 @@
 //! Laws of the rule: each is the contract of a function that does nothing.
+//!
+//! The laws of leads, gains, shares, plans and lifts are of a model: the rule as it is where no leaf
+//! has a guarantee and no plan comes, by specs/Runs.antt. The others are of the rule that the
+//! program replays.
 ghost use Rattle.dispatch.specs.Runs.{LeadIsBounded, GainIsBounded, ShareIsKept};
 ghost use Rattle.dispatch.specs.Runs.{NoProcessorIdles};
 ghost use Rattle.dispatch.specs.Runs.{NoneIsPickedPastItsPlan, IsLiftedOnlyFromSleep};

@@ -1,6 +1,5 @@
 -- The goals of `pass_all` that are answered by hand.
-use Rattle.std.proofs.Common.{◌≡◌, ◌<◌, arith, subst, sym, true, length, ap, ◌∙◌, get_or}
-use Rattle.dispatch.specs.declared.reservation.Account.{Account}
+use Rattle.std.proofs.Common.{◌<◌, arith, length, ap, ◌∙◌}
 use Rattle.dispatch.specs.Reservation.{passed_in, no_account}
 use Rattle.dispatch.specs.Steps.{owed_fits}
 use Rattle.dispatch.proofs.Mapped.{as_it_was, one_more, passes}

@@ -1,9 +1,9 @@
 -- The goals of `tell_premises` that are answered by hand.
-use Rattle.std.proofs.Common.{rules, arith, sym, ap, ◌∙◌, ◌≡◌, ◌∷◌, ◌+◌, Some, None, Ok}
+use Rattle.std.proofs.Common.{rules, arith, sym, ap, ◌∙◌, ◌≡◌, ◌∷◌, ◌+◌, None, Ok}
 use Rattle.bw_text.specs.Words.{words}
 use Rattle.dispatch.specs.declared.premises.Premises.{Premises}
 use Rattle.dispatch.specs.Input.{input_of}
-use Rattle.dispatch.specs.Premises.{premises_from, told}
+use Rattle.dispatch.specs.Premises.{premises_from}
 use Rattle.dispatch.specs.Replay.{input_fault, input_after}
 use Rattle.dispatch.specs.Reservation.{Reservations}
 use Rattle.dispatch.proofs.Lines.{parts, line_bound, lines_go_on}

@@ -1,5 +1,5 @@
 -- The goals of `age_all` that are answered by hand.
-use Rattle.std.proofs.Common.{◌≡◌, ◌<◌, arith, None, true, length, ap, ◌∙◌}
+use Rattle.std.proofs.Common.{◌<◌, arith, None, length, ap, ◌∙◌}
 use Rattle.dispatch.specs.Reservation.{aged}
 use Rattle.dispatch.specs.Steps.{age_fits}
 use Rattle.dispatch.proofs.Mapped.{as_it_was, one_more, passes}

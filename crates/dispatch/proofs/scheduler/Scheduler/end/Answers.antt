@@ -1,8 +1,7 @@
 -- The goals of `end` that are answered by hand.
-use Rattle.std.proofs.Common.{rules, sym, ◌∙◌, ap, ◌≡◌, Ok, Some, None, slice_get, slice_set, subst}
-use Rattle.std.specs.List.{All}
-use Rattle.dispatch.specs.Reservation.{Reservations, terms_of, with_account, account_at}
-use Rattle.dispatch.specs.Steps.{account_woken, account_picked, account_ended, free_processor}
+use Rattle.std.proofs.Common.{rules, sym, ◌∙◌, ap, ◌≡◌, Ok, None, slice_get, slice_set}
+use Rattle.dispatch.specs.Reservation.{Reservations, terms_of}
+use Rattle.dispatch.specs.Steps.{account_ended}
 use Rattle.dispatch.specs.Steps.{run_of}
 use Rattle.dispatch.proofs.Happens.{end_happens, ended_amounts}
 use Rattle.dispatch.proofs.scheduler.Scheduler.end.Goals as goal

@@ -1,9 +1,8 @@
 -- The goals of `pick` that are answered by hand.
-use Rattle.std.proofs.Common.{rules, sym, ◌∙◌, ap, ◌≡◌, Ok, Some, None, slice_get, slice_set, subst, ℕ}
-use Rattle.std.specs.List.{All}
-use Rattle.dispatch.specs.Reservation.{Reservations, terms_of, with_account, account_at}
-use Rattle.dispatch.specs.Steps.{account_woken, account_picked, account_ended, free_processor}
-use Rattle.dispatch.specs.Steps.{run_of, paid_at}
+use Rattle.std.proofs.Common.{rules, sym, ◌∙◌, ap, ◌≡◌, Ok, Some, slice_get, slice_set, ℕ}
+use Rattle.dispatch.specs.Reservation.{Reservations, terms_of}
+use Rattle.dispatch.specs.Steps.{account_picked, free_processor}
+use Rattle.dispatch.specs.Steps.{paid_at}
 use Rattle.dispatch.proofs.Happens.{pick_happens, picked_amounts}
 use Rattle.dispatch.proofs.scheduler.Scheduler.pick.Goals as goal
 

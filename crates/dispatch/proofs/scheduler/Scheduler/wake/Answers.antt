@@ -1,9 +1,7 @@
 -- The goal of `wake` that is answered by hand.
-use Rattle.std.proofs.Common.{rules, sym, ◌∙◌, ap, ◌≡◌, Ok, Some, None, slice_get, slice_set, subst}
-use Rattle.std.specs.List.{All}
-use Rattle.dispatch.specs.Reservation.{Reservations, terms_of, with_account, account_at}
-use Rattle.dispatch.specs.Steps.{account_woken, account_picked, account_ended, free_processor}
-use Rattle.dispatch.specs.Steps.{run_of}
+use Rattle.std.proofs.Common.{rules, sym, ◌∙◌, ap, ◌≡◌, Ok, slice_get}
+use Rattle.dispatch.specs.Reservation.{Reservations, terms_of, with_account}
+use Rattle.dispatch.specs.Steps.{account_woken}
 use Rattle.dispatch.proofs.Happens.{wake_happens}
 use Rattle.dispatch.proofs.scheduler.Scheduler.wake.Goals as goal
 
