@@ -134,14 +134,14 @@ def test_bar_of_the_host(ctl):
     """Of 4 CPUs 1.95 are planned, 2.05 are left."""
     page, _ = ctl.run("explain", *PODS, "-o", "html")
     assert re.findall("<dt>(.*?)</dt><dd>(.*?)</dd>", page) == [
-        ("planned", "1.95"), ("left", "2.05"), ("capacity", "4.00"), ("wanted", "1.95")]
+        ("planned", "1.950"), ("left", "2.050"), ("capacity", "4.000"), ("wanted", "1.950")]
     assert 'class="get" style="width:48.75%"' in page
 
 
 def test_a_pod_and_its_one_container_are_one_row(ctl, engine):
     """Pause containers do not count. The row has the pod's weight, 79, the lower limit, and else
     the container's cells."""
-    page, _ = ctl.run("explain", *PODS, "--want", "busy", "-o", "html")
+    page, _ = ctl.run("explain", *PODS, "--want", "busy", "--period", "100ms", "-o", "html")
     rows = [row for row in rows_of(page) if "postgres" in row]
     assert rows == ["prod:db-0 / postgres 79 1.000 1.00 4.00 1.00 its own limit"]
     for limit, least in {None: "0.50", 50000: "0.50", 49000: "0.49"}.items():
@@ -169,7 +169,7 @@ def test_a_pod_and_its_one_container_are_one_row(ctl, engine):
 def test_a_shared_prefix_is_told_once(ctl):
     """The pods of one namespace stand below one class, whose path no row repeats."""
     page, _ = ctl.run("diff", *PODS, "--want", "busy", "--set", "prod/web*/nginx.request=500m",
-                      "-n", "prod", "-g", "kubepods/burstable", "-o", "html")
+                      "--period", "100ms", "-n", "prod", "-g", "kubepods/burstable", "-o", "html")
     changes = re.search('<details class="changes.*?</details>', page, re.S).group()
     assert "Below kubepods/burstable:" in changes
     rows = rows_of(changes)

@@ -531,7 +531,7 @@ def test_pods_and_files_agree(engine, folder):
 
 def test_pods(engine):
     model = pods(engine)
-    assert model.host == Host(4, 100000, 1000)
+    assert model.host == Host(4, 1000000, 1000)
     titles = {each.title: each for each in model.groups.values()}
     assert titles["prod/web-7c9f/nginx"].path == "kubepods/burstable/prod:web-7c9f/nginx"
     assert titles["prod/web-7c9f/nginx"].demand == 250
