@@ -20,11 +20,17 @@ typedef _Bool bool;
 
 #define PF_KTHREAD 0x00200000
 #define ENOMEM 12
+#define ENOSPC 28
 /* BPF_MAP_TYPE_CGRP_STORAGE, which headers of Linux 6.1 lack */
 #define STORAGE_OF_GROUPS 32
+/* (headers before Linux 6.7 lack it) */
+#ifndef BPF_F_TIMER_CPU_PIN
+#define BPF_F_TIMER_CPU_PIN 2
+#endif
 
 /* include/linux/sched/ext.h and kernel/sched/ext_internal.h */
 #define SCX_DSQ_LOCAL 0x8000000000000002ULL
+#define SCX_DSQ_LOCAL_ON 0xc000000000000000ULL
 #define SCX_ENQ_WAKEUP 1ULL
 #define SCX_ENQ_PREEMPT (1ULL << 32)
 #define SCX_DEQ_SLEEP 1ULL
@@ -115,6 +121,8 @@ struct sched_ext_ops {
     void (*disable)(struct task_struct *);
     s32 (*cgroup_init)(struct cgroup *, struct scx_cgroup_init_args *);
     void (*cgroup_move)(struct task_struct *, struct cgroup *, struct cgroup *);
+    void (*cpu_online)(s32);
+    void (*cpu_offline)(s32);
     s32 (*init)(void);
     void (*exit)(struct scx_exit_info *);
     u64 flags;
@@ -124,6 +132,8 @@ struct sched_ext_ops {
 
 extern s32 scx_bpf_select_cpu_dfl(struct task_struct *p, s32 prev, u64 flags, bool *is_idle) __ksym;
 extern void scx_bpf_dsq_insert(struct task_struct *p, u64 queue, u64 slice, u64 flags) __ksym;
+extern s32 scx_bpf_create_dsq(u64 queue, s32 node) __ksym;
+extern bool scx_bpf_dsq_move_to_local(u64 queue) __ksym;
 extern bool scx_bpf_task_set_slice(struct task_struct *p, u64 slice) __ksym;
 extern void scx_bpf_kick_cpu(s32 cpu, u64 flags) __ksym;
 extern s32 scx_bpf_task_cpu(const struct task_struct *p) __ksym;

@@ -1,19 +1,21 @@
 /* A scheduler that serves a plan: processors draw the slices that it gives the leaves.
  * SPDX-License-Identifier: GPL-2.0-only
  *
- * The rule (rule.h). Each leaf has a clock: what it was charged over its amount. A free CPU takes a
- * task of the leaf with the least clock of all that have a task waiting. That pick charges a whole
- * slice; what was not used is given back when the slice ends. So a leaf past its plan gets what
- * nobody else wants, and no CPU idles while a leaf that may run has a task that this CPU may take.
- * Sleep earns no credit: a leaf whose first task wakes is lifted to the least clock of those that
- * want, without what is charged in advance. A new plan is a common start: all clocks are equal.
+ * The rule (rule.h). Each leaf has a guarantee and a share. A free CPU takes a task of a leaf that is
+ * behind its guarantee, the one with the earliest deadline. If there is none it takes one of the
+ * leaf with the least clock, what it was charged over its amount. A pick pays in advance; what was
+ * not used is given back when the slice ends. So a leaf past its plan gets what nobody else wants,
+ * and no CPU idles while a leaf that may run has a task that this CPU may take. A new plan keeps
+ * what leaves are owed and their leads.
  *
  * Tasks wait in queues of this program (queues.h), so that a step of the rule is one section of the
- * lock. The kernel gets a task only when it is picked. A CPU picks its next task before the last
- * one has left, so it is two processors of the rule; else another CPU had to wait for a task that
- * is on its way. The leaf with the least clock is the root of a tree of winners, so a pick costs
- * the number of levels, whatever the number of leaves. Tasks that only some CPUs may run wait in
- * queues of their own, whose least clock is compared with that of the tree's root.
+ * lock (sections.h). The kernel gets a task only when it is picked. When a slice ends its task waits
+ * at once, though the kernel hands it over a moment later: another CPU may pick it meanwhile, and
+ * gets it then. The first leaves are roots of trees of winners, so a pick costs the number of
+ * levels, whatever the number of leaves and of tasks.
+ *
+ * Groups with a limit have budgets, along the whole path of a leaf. Tasks that have no number wait
+ * in a queue of the kernel's own and go last.
  */
 #include "kernel.h"
 #include <bpf/bpf_tracing.h>
@@ -21,6 +23,7 @@
 #include "plan.h"
 #include "rule.h"
 #include "queues.h"
+#include "sections.h"
 
 char _license[] SEC("license") = "GPL";
 /* The compiler tells a type whole only if there is one. */
@@ -29,16 +32,20 @@ struct cpumask no_cpus SEC(".bss.types") __attribute__((visibility("hidden")));
 /* Levels of groups that are looked at from a task's group up. */
 #define MOST_DEPTH 64
 /* How much longer a slice is whose task has to stay on its CPU. */
-#define MOMENT_NS (SLICE_NS / 6)
+#define MOMENT_NS (GIVEN_NS / 6)
 /* A number that is given again is the first of a list. */
 GUARDED u32 first_free, numbers;
 
 /* The loader writes these, and calls `take_plan`. */
 struct given given[MOST_LEAVES];
-volatile u32 rows = 1;
+struct limited limits[MOST_BUDGETS];
+volatile u32 rows = 1, budget_count = 1;
 /* It rises when the groups of the plan have changed. */
 volatile u32 tree = 1;
 u64 exit_kind, unplanned;
+/* The queue of tasks without a number, and how often a CPU takes one beside others that wait. */
+#define UNPLANNED 1
+#define UNPLANNED_NS 2000000ULL
 
 struct beat {
     struct bpf_timer timer;
@@ -49,6 +56,14 @@ struct {
     __type(key, u32);
     __type(value, struct beat);
 } beats SEC(".maps");
+
+/* Ends of slices that are shorter than a tick, of each CPU. */
+struct {
+    __uint(type, BPF_MAP_TYPE_ARRAY);
+    __uint(max_entries, MOST_CPUS);
+    __type(key, u32);
+    __type(value, struct beat);
+} alarms SEC(".maps");
 
 /* Rows by the numbers of groups. The loader writes them. */
 struct {
@@ -107,13 +122,6 @@ static __always_inline bool is_exempt(struct task_struct *p)
     return (p->flags & PF_KTHREAD) && p->nr_cpus_allowed == 1;
 }
 
-/* A heavier task of a leaf has longer turns. The bounds are those of the longest. */
-static __always_inline u64 slice_of(struct task_struct *p)
-{
-    u64 slice = SLICE_NS * p->scx.weight / 100;
-    return slice < SLICE_NS / 2 ? SLICE_NS / 2 : slice > 2 * SLICE_NS ? 2 * SLICE_NS : slice;
-}
-
 /* Whether the kernel keeps a task on its CPU for a moment. This program keeps the task that it
  * interrupts there, too. */
 static __always_inline bool is_kept(struct task_struct *p)
@@ -121,14 +129,12 @@ static __always_inline bool is_kept(struct task_struct *p)
     return p->migration_disabled > (bpf_get_current_task_btf() == p);
 }
 
-/* The queue in which a task waits. */
-static __always_inline u32 queue_of(struct task_struct *p, u32 row)
+/* The tree in which a task waits. */
+static __always_inline u32 tree_of(struct task_struct *p)
 {
-    bool is_bound = p->nr_cpus_allowed < cpus_online;
-
-    if (is_kept(p) || (is_bound && p->nr_cpus_allowed == 1))
-        return CPU_QUEUES + WITHIN(scx_bpf_task_cpu(p), MOST_CPUS);
-    return is_bound ? SOME_QUEUE : row;
+    if (is_kept(p) || p->nr_cpus_allowed == 1)
+        return cpus_there == 1 ? ALL_CPUS : CPU_TREES + WITHIN(scx_bpf_task_cpu(p), MOST_CPUS);
+    return p->nr_cpus_allowed < cpus_there ? SOME_CPUS : ALL_CPUS;
 }
 
 /* Keeps the CPUs that a task may use. */
@@ -178,14 +184,14 @@ static __always_inline u32 row_of(struct task_struct *p, u32 number)
     struct cgroup *group;
     u32 now = tree, row;
 
-    if (task->tree == now)
+    if (task->version == now)
         return task->row;
     group = scx_bpf_task_cgroup(p);
     if (!group)
         return task->row;
     row = row_of_group(group);
     bpf_cgroup_release(group);
-    task->tree = now;
+    task->version = now;
     return row;
 }
 
@@ -207,16 +213,30 @@ static __always_inline struct on_cpu *this_cpu(void)
     return on_cpu(bpf_get_smp_processor_id());
 }
 
-/* A task leaves its leaf for good, or goes past the plan. */
-static __always_inline void forget(struct task_struct *p, u32 number)
+/* A CPU that was noted in a section looks for a task. */
+static __always_inline void kick_noted(struct on_cpu *here)
 {
-    struct on_cpu *here = this_cpu();
+    if (here->picked_for < MOST_CPUS)
+        scx_bpf_kick_cpu(here->picked_for, SCX_KICK_PREEMPT);
+    if (here->kick < MOST_CPUS)
+        scx_bpf_kick_cpu(here->kick, here->interrupts ? SCX_KICK_PREEMPT : 0);
+}
+
+/* A task leaves its leaf for good, or goes past the plan. */
+static __noinline int forget(struct task_struct *p, u32 number)
+{
+    u32 own = bpf_get_smp_processor_id();
+    struct on_cpu *here = on_cpu(own);
     u64 now = bpf_ktime_get_ns(), runtime = p->se.sum_exec_runtime;
 
     bpf_spin_lock(&lock);
-    leave(here, number, runtime, now);
+    begin(here, own, now);
+    leave(here, number, runtime);
+    work_alone(here);
     bpf_spin_unlock(&lock);
     tell(here);
+    kick_noted(here);
+    return 0;
 }
 
 SEC("struct_ops/plan_select_cpu")
@@ -233,23 +253,32 @@ static __always_inline bool is_extended(struct task_struct *p, u32 number)
 {
     struct task *task = task_at(number);
 
-    if (!is_kept(p) || task->is_extended || task->state != RUNS || task->tree != tree)
+    if (!is_kept(p) || task->is_extended || task->state != RUNS || task->version != tree)
         return false;
     task->is_extended = 1;
     return true;
 }
 
+/* A task without a number waits in a queue of the kernel's own, and goes last. */
+static __always_inline void wait_unplanned(struct task_struct *p, u64 flags)
+{
+    scx_bpf_dsq_insert(p, UNPLANNED, TURN_NS, flags);
+    scx_bpf_kick_cpu(scx_bpf_task_cpu(p), SCX_KICK_IDLE);
+}
+
 SEC("struct_ops/plan_enqueue")
 void BPF_PROG(plan_enqueue, struct task_struct *p, u64 flags)
 {
-    struct on_cpu *here = this_cpu();
-    u32 number = number_of(p), row, queue, own, other = MOST_CPUS;
-    u64 now = bpf_ktime_get_ns(), runtime = p->se.sum_exec_runtime;
+    u32 own = bpf_get_smp_processor_id(), number = number_of(p), row, waits_for, cpu;
+    struct on_cpu *here = on_cpu(own);
+    u64 now = bpf_ktime_get_ns(), runtime = p->se.sum_exec_runtime, slice;
 
-    if (!number || is_exempt(p)) {
-        if (number && task_at(number)->state != AWAY)
-            forget(p, number);
-        scx_bpf_dsq_insert(p, SCX_DSQ_LOCAL, SLICE_NS, flags | SCX_ENQ_PREEMPT);
+    if (is_exempt(p)) {
+        scx_bpf_dsq_insert(p, SCX_DSQ_LOCAL, GIVEN_NS, flags | SCX_ENQ_PREEMPT);
+        return;
+    }
+    if (!number) {
+        wait_unplanned(p, flags);
         return;
     }
     if (is_extended(p, number)) {
@@ -257,55 +286,71 @@ void BPF_PROG(plan_enqueue, struct task_struct *p, u64 flags)
         return;
     }
     row = row_of(p, number);
-    queue = queue_of(p, row);
-    own = scx_bpf_task_cpu(p);
-    if (queue == SOME_QUEUE)
+    waits_for = tree_of(p);
+    cpu = scx_bpf_task_cpu(p);
+    if (waits_for == SOME_CPUS)
         copy_mask(p, number);
+    task_at(number)->weight = p->scx.weight;
 
     bpf_spin_lock(&lock);
-    arrive(here, number, row, runtime, now);
-    push(here, number, queue, now);
-    play(row);
-    own = idle_for(number, own);
-    if (own == MOST_CPUS && (flags & SCX_ENQ_WAKEUP))
-        other = ahead_of(number);
+    begin(here, own, now);
+    come(here, number, row, waits_for, runtime);
+    work(here, own);
+    cpu = came(here, cpu, flags & SCX_ENQ_WAKEUP);
+    slice = on_cpu(cpu)->slice_ns;
     bpf_spin_unlock(&lock);
 
     tell(here);
-    if (own < MOST_CPUS)
-        scx_bpf_kick_cpu(own, 0);
-    else if (other < MOST_CPUS)
-        scx_bpf_kick_cpu(other, SCX_KICK_PREEMPT);
+    if (cpu < MOST_CPUS)
+        scx_bpf_dsq_insert(p, SCX_DSQ_LOCAL_ON | cpu, slice, flags);
+    else
+        kick_noted(here);
 }
 
 /* The kernel takes a task back to change it, or to move it. */
 SEC("struct_ops/plan_dequeue")
 void BPF_PROG(plan_dequeue, struct task_struct *p, u64 flags)
 {
-    struct on_cpu *here = this_cpu();
-    u32 number = number_of(p);
-    struct task *task = task_at(number);
+    u32 own = bpf_get_smp_processor_id(), number = number_of(p);
+    struct on_cpu *here = on_cpu(own);
+    u64 now = bpf_ktime_get_ns();
 
     if (!number)
         return;
     bpf_spin_lock(&lock);
-    if (task->state == QUEUED) {
-        take_out(here, number);
-        set_ready(task, false);
-        play(task->row);
-    }
+    begin(here, own, now);
+    withdraw(here, number);
+    work_alone(here);
     bpf_spin_unlock(&lock);
     tell(here);
 }
 
 /* Hands a picked task to the CPU on which this runs. The kernel waits until it has arrived. */
-static __always_inline void hand_over(u32 number)
+static __always_inline void hand_over(u32 number, u64 slice)
 {
     struct holder *holder = bpf_map_lookup_elem(&holders, &number);
     struct task_struct *p = holder ? holder->task : 0;
 
     if (p)
-        scx_bpf_dsq_insert(p, SCX_DSQ_LOCAL, slice_of(p), 0);
+        scx_bpf_dsq_insert(p, SCX_DSQ_LOCAL, slice, 0);
+}
+
+/* Ends a slice that is shorter than a tick. */
+static __always_inline void set_alarm(u32 cpu, u64 slice)
+{
+    struct beat *alarm = bpf_map_lookup_elem(&alarms, &cpu);
+
+    if (slice < GIVEN_NS && alarm)
+        bpf_timer_start(&alarm->timer, slice, BPF_F_TIMER_CPU_PIN);
+}
+
+/* Whether a CPU takes a task without a number before others. */
+static __always_inline bool is_unplanned_next(struct on_cpu *on, u64 now)
+{
+    if (!unplanned || now < on->unplanned_ns)
+        return false;
+    on->unplanned_ns = now + UNPLANNED_NS;
+    return scx_bpf_dsq_move_to_local(UNPLANNED);
 }
 
 /* The slice of the task before ends when the kernel hands it over, unless it goes on. */
@@ -313,8 +358,8 @@ SEC("struct_ops/plan_dispatch")
 void BPF_PROG(plan_dispatch, s32 cpu, struct task_struct *prev)
 {
     struct on_cpu *on = on_cpu(cpu);
-    u32 before = 0, found;
-    u64 now = bpf_ktime_get_ns(), runtime = 0;
+    u32 before = 0, found, waits_for = ALL_CPUS;
+    u64 now = bpf_ktime_get_ns(), runtime = 0, slice;
 
     if (prev && (prev->scx.flags & SCX_TASK_QUEUED) && !is_exempt(prev))
         before = number_of(prev);
@@ -322,35 +367,41 @@ void BPF_PROG(plan_dispatch, s32 cpu, struct task_struct *prev)
         scx_bpf_task_set_slice(prev, MOMENT_NS);
         return;
     }
+    if (is_unplanned_next(on, now))
+        return;
     if (before) {
         runtime = prev->se.sum_exec_runtime;
-        /* one that was moved comes to its new leaf when it is handed over */
-        if (task_at(before)->tree != tree || task_at(before)->state != RUNS)
-            before = 0;
+        waits_for = tree_of(prev);
+        if (waits_for == SOME_CPUS)
+            copy_mask(prev, before);
     }
     bpf_spin_lock(&lock);
-    found = choose(cpu, now);
-    if (before && goes_on(before, found, runtime, now)) {
-        arrive(on, before, task_at(before)->row, runtime, now);
-        found = before;
-    }
-    if (found)
-        run(on, found, cpu, now);
-    set_idle(on, !found);
+    begin(on, cpu, now);
+    take_next(on, before, task_at(before)->version == tree, runtime, waits_for);
+    work(on, cpu);
+    found = took_next(on);
+    slice = on->slice_ns;
     bpf_spin_unlock(&lock);
 
     tell(on);
-    if (found && found == before)
-        scx_bpf_task_set_slice(prev, slice_of(prev));
+    kick_noted(on);
+    if (!found && unplanned)
+        scx_bpf_dsq_move_to_local(UNPLANNED);
+    /* (read anew: else the verifier followed all above once more for each of its kinds) */
+    prev = (struct task_struct *)ctx[1];
+    if (found && found == on->about && prev)
+        scx_bpf_task_set_slice(prev, slice);
     else if (found)
-        hand_over(found);
+        hand_over(found, slice);
+    if (found)
+        set_alarm(cpu, slice);
 }
 
 SEC("struct_ops/plan_running")
 void BPF_PROG(plan_running, struct task_struct *p)
 {
-    struct on_cpu *here = this_cpu();
-    u32 number = number_of(p), row, cpu;
+    u32 own = bpf_get_smp_processor_id(), number = number_of(p), row, cpu;
+    struct on_cpu *here = on_cpu(own);
     u64 now = bpf_ktime_get_ns(), runtime = p->se.sum_exec_runtime;
 
     if (!number || is_exempt(p) || task_at(number)->state == RUNS)
@@ -359,8 +410,9 @@ void BPF_PROG(plan_running, struct task_struct *p)
     row = row_of(p, number);
     cpu = scx_bpf_task_cpu(p);
     bpf_spin_lock(&lock);
-    arrive(here, number, row, runtime, now);
-    run(here, number, cpu, now);
+    begin(here, own, now);
+    start_on(here, number, row, cpu, runtime);
+    work(here, own);
     bpf_spin_unlock(&lock);
     tell(here);
 }
@@ -394,7 +446,7 @@ static __always_inline u32 take_number(void)
     bpf_spin_lock(&lock);
     number = first_free;
     if (number)
-        first_free = task_at(number)->next;
+        first_free = task_at(number)->newer;
     else if (numbers < MOST_TASKS)
         number = numbers++;
     bpf_spin_unlock(&lock);
@@ -416,7 +468,8 @@ s32 BPF_PROG(plan_init_task, struct task_struct *p, struct scx_init_task_args *a
     holder = bpf_map_lookup_elem(&holders, &number);
     if (!number || !holder) {
         unplanned++;
-        return 0;
+        /* (where tasks that are there are too many nothing is taken) */
+        return args->fork ? 0 : -ENOSPC;
     }
     own = bpf_task_acquire(p);
     if (!own)
@@ -425,7 +478,9 @@ s32 BPF_PROG(plan_init_task, struct task_struct *p, struct scx_init_task_args *a
     if (own)
         bpf_task_release(own);
     task_at(number)->state = AWAY;
-    task_at(number)->row = task_at(number)->tree = 0;
+    task_at(number)->row = task_at(number)->version = 0;
+    task_at(number)->clock = 0;
+    task_at(number)->mask_tree = MOST_MASKS;
     return 0;
 }
 
@@ -436,14 +491,14 @@ void BPF_PROG(plan_exit_task, struct task_struct *p, struct scx_exit_task_args *
     struct holder *holder = bpf_map_lookup_elem(&holders, &number);
     struct task_struct *own;
 
+    /* (it has left its leaf: it slept, or was disabled) */
     if (!number || !holder)
         return;
-    forget(p, number);
     own = bpf_kptr_xchg(&holder->task, 0);
     if (own)
         bpf_task_release(own);
     bpf_spin_lock(&lock);
-    task_at(number)->next = first_free;
+    task_at(number)->newer = first_free;
     first_free = number;
     bpf_spin_unlock(&lock);
     bpf_task_storage_delete(&task_numbers, p);
@@ -473,71 +528,120 @@ s32 BPF_PROG(plan_cgroup_init, struct cgroup *group, struct scx_cgroup_init_args
 SEC("struct_ops/plan_cgroup_move")
 void BPF_PROG(plan_cgroup_move, struct task_struct *p, struct cgroup *from, struct cgroup *to)
 {
-    task_at(number_of(p))->tree = 0;
+    task_at(number_of(p))->version = 0;
 }
 
-/* At the end of a period of limits: leaves that were stopped may run again, as far as they have not
- * spent more than the limit. Returns whether one of them is free. */
-static __always_inline bool begin_period(u32 row)
+/* A CPU that goes has no task of another one's choice left. Its own ones the kernel moves. */
+SEC("struct_ops/plan_cpu_offline")
+void BPF_PROG(plan_cpu_offline, s32 cpu)
 {
-    struct on_cpu *here = this_cpu();
-    struct leaf *leaf = leaf_of(row);
-    bool was_stopped;
+    u32 own = bpf_get_smp_processor_id();
+    struct on_cpu *here = on_cpu(own);
+    u64 now = bpf_ktime_get_ns();
 
-    if (!leaf->limit_ns)
-        return false;
     bpf_spin_lock(&lock);
-    was_stopped = leaf->is_stopped;
-    leaf->spent_ns -= leaf->spent_ns < leaf->limit_ns ? leaf->spent_ns : leaf->limit_ns;
-    leaf->is_stopped = leaf->spent_ns >= leaf->limit_ns;
-    if (was_stopped && !leaf->is_stopped)
-        note(here, EVENT_STOP, row, 0, 0, false);
-    play(row);
+    begin(here, own, now);
+    put_back(here, cpu);
+    work_alone(here);
+    set_idle(on_cpu(cpu), false);
     bpf_spin_unlock(&lock);
     tell(here);
-    return was_stopped && !leaf->is_stopped;
+}
+
+/* The kernel ends a scheduler that does not say that it goes on. */
+SEC("struct_ops/plan_cpu_online")
+void BPF_PROG(plan_cpu_online, s32 cpu)
+{
+}
+
+/* A new period of a group with a limit, if it has one. Returns whether a leaf may run again. */
+static __noinline bool begin_period(u32 number, bool is_plan)
+{
+    struct on_cpu *here = this_cpu();
+    u64 now = bpf_ktime_get_ns();
+    bool is_free = false;
+    u32 times;
+
+    bpf_for(times, 0, MOST_LEAVES) {
+        bool is_more;
+        bpf_spin_lock(&lock);
+        pass(now);
+        is_more = (times || is_plan || refill(number)) && take_back(here, number);
+        bpf_spin_unlock(&lock);
+        tell(here);
+        if (!is_more)
+            break;
+        is_free = true;
+    }
+    return is_free;
 }
 
 static int on_beat(void *map, int *key, struct beat *beat)
 {
-    u64 now = bpf_ktime_get_ns();
     bool is_free = false, is_full = false;
-    u32 row, cpu;
+    u32 each;
 
-    bpf_for(row, 0, rows) {
-        struct leaf *leaf = leaf_of(row);
-        is_free |= begin_period(row);
-        is_full |= leaf->charged > MOST_CHARGE;
-        if (leaf->ready > 0 && is_late(queue_at(row)->first, now))
-            late_row = row;
-    }
+    bpf_for(each, 1, budget_count)
+        is_free |= begin_period(each, false);
+    bpf_for(each, 0, rows)
+        is_full |= leaf_of(each)->charged > MOST_CHARGE;
     if (is_full) {
         bpf_spin_lock(&lock);
-        start_clocks(rows);
+        set_back(rows);
         bpf_spin_unlock(&lock);
     }
     if (is_free) {
-        bpf_for(cpu, 0, cpus_there)
-            scx_bpf_kick_cpu(cpu, SCX_KICK_IDLE);
+        bpf_for(each, 0, cpus_there)
+            scx_bpf_kick_cpu(each, SCX_KICK_IDLE);
     }
     bpf_timer_start(&beat->timer, LIMIT_PERIOD_NS, 0);
     return 0;
 }
 
-/* Takes the amounts and limits that the loader wrote: a common start of all clocks. */
+static int on_alarm(void *map, int *cpu, struct beat *alarm)
+{
+    scx_bpf_kick_cpu(*cpu, SCX_KICK_PREEMPT);
+    return 0;
+}
+
+/* Takes a limit that the loader wrote. One that comes has a whole period left. */
+static __always_inline void take_limit(u32 number)
+{
+    struct budget *budget = budget_of(number);
+    struct limited *limit = &limits[WITHIN(number, MOST_BUDGETS)];
+
+    begin_period(number, true);
+    bpf_spin_lock(&lock);
+    if (!budget->limit_ns)
+        budget->left_ns = limit->limit_ns;
+    budget->limit_ns = limit->limit_ns;
+    budget->burst_ns = limit->burst_ns;
+    budget->above = limit->above;
+    bpf_spin_unlock(&lock);
+}
+
+/* Takes the limits, amounts and guarantees that the loader wrote. */
 static __noinline int start(void)
 {
-    u32 row;
+    struct on_cpu *here = this_cpu();
+    u64 now = bpf_ktime_get_ns();
+    u32 each;
 
+    bpf_for(each, 1, budget_count)
+        take_limit(each);
     bpf_spin_lock(&lock);
-    bpf_for(row, 0, rows) {
-        struct leaf *leaf = leaf_of(row);
-        struct given *each = &given[WITHIN(row, MOST_LEAVES)];
-        leaf->amount = each->amount ? each->amount : 1;
-        leaf->limit_ns = each->limit_ns;
-        leaf->is_stopped = leaf->is_stopped && leaf->limit_ns;
+    pass(now);
+    find_level();
+    note(here, EVENT_LEVEL, 0, 0, 0, 0);
+    bpf_spin_unlock(&lock);
+    bpf_for(each, 0, rows) {
+        bpf_spin_lock(&lock);
+        take_given(here, &given[WITHIN(each, MOST_LEAVES)], each);
+        bpf_spin_unlock(&lock);
+        tell(here);
     }
-    start_clocks(rows);
+    bpf_spin_lock(&lock);
+    find_greatest(rows);
     bpf_spin_unlock(&lock);
     return 0;
 }
@@ -548,20 +652,36 @@ int take_plan(void *context)
     return start();
 }
 
+/* The timers of all CPUs. */
+static __always_inline int init_alarms(void)
+{
+    u32 cpu;
+
+    bpf_for(cpu, 0, cpus_there) {
+        struct beat *alarm = bpf_map_lookup_elem(&alarms, &cpu);
+        if (!alarm)
+            return -ENOMEM;
+        bpf_timer_init(&alarm->timer, &alarms, 1);
+        bpf_timer_set_callback(&alarm->timer, on_alarm);
+    }
+    return 0;
+}
+
 SEC("struct_ops.s/plan_init")
 s32 BPF_PROG(plan_init)
 {
-    u32 key = 0, node;
-    struct beat *beat = bpf_map_lookup_elem(&beats, &key);
+    u32 key = 0;
+    struct beat *beat;
 
-    bpf_for(node, 0, 2 * MOST_LEAVES)
-        winners[WITHIN(node, 2 * MOST_LEAVES)] = NOBODY;
+    clear_trees();
     /* (what was before has left its leaf, and given its number back) */
     numbers = 1;
     first_free = 0;
-    if (!beat)
-        return -ENOMEM;
+    unplanned = 0;
     start();
+    beat = bpf_map_lookup_elem(&beats, &key);
+    if (!beat || init_alarms() || scx_bpf_create_dsq(UNPLANNED, -1))
+        return -ENOMEM;
     bpf_timer_init(&beat->timer, &beats, 1);
     bpf_timer_set_callback(&beat->timer, on_beat);
     return bpf_timer_start(&beat->timer, LIMIT_PERIOD_NS, 0);
@@ -570,12 +690,17 @@ s32 BPF_PROG(plan_init)
 SEC("struct_ops/plan_exit")
 void BPF_PROG(plan_exit, struct scx_exit_info *info)
 {
-    u32 key = 0;
+    u32 key = 0, cpu;
     struct beat *beat = bpf_map_lookup_elem(&beats, &key);
 
     exit_kind = info->kind;
     if (beat)
         bpf_timer_cancel(&beat->timer);
+    bpf_for(cpu, 0, cpus_there) {
+        beat = bpf_map_lookup_elem(&alarms, &cpu);
+        if (beat)
+            bpf_timer_cancel(&beat->timer);
+    }
 }
 
 SEC(".struct_ops.link")
@@ -593,6 +718,8 @@ struct sched_ext_ops plan_ops = {
     .disable = (void *)plan_disable,
     .cgroup_init = (void *)plan_cgroup_init,
     .cgroup_move = (void *)plan_cgroup_move,
+    .cpu_online = (void *)plan_cpu_online,
+    .cpu_offline = (void *)plan_cpu_offline,
     .init = (void *)plan_init,
     .exit = (void *)plan_exit,
     .flags = SCX_OPS_KEEP_BUILTIN_IDLE | SCX_OPS_ENQ_LAST | SCX_OPS_ENQ_EXITING

@@ -1,26 +1,35 @@
 /* Tasks by number, and the queues in which they wait.
  * SPDX-License-Identifier: GPL-2.0-only
  *
- * A queue is a list of numbers of tasks, the first of which waits for longest: one for each leaf,
- * one for each CPU with the tasks that it alone may run, and one of tasks that may run on some
- * CPUs. All of this file runs with `lock`, but `copy_mask`.
+ * A task waits in a tree of winners: that of all CPUs, of the one that it may use, or of a mask.
+ * There the tasks of a leaf are a heap by their own clocks: what a task used over its weight. So a
+ * search is over leaves, whatever the number of tasks. All of this file runs with `lock`.
  */
 #ifndef ARBITER_QUEUES_H
 #define ARBITER_QUEUES_H
 #include "rule.h"
 
-#define CPU_QUEUES MOST_LEAVES
-#define SOME_QUEUE (CPU_QUEUES + MOST_CPUS)
-#define MOST_QUEUES (2 * MOST_LEAVES)
 #define WORDS (MOST_CPUS / 64)
-/* Tasks of a CPU's queue, and of that of some CPUs, that a pick looks at. */
-#define MOST_LOOKS 64
-/* The kernel ends a scheduler whose task waits for 20 s. One that waits for half of it goes first.
- */
+/* Twice the longest right spine of a heap of all tasks. */
+#define MOST_SPINE 40
+/* The kernel ends a scheduler whose task waits for 20 s. One that waits for half of it has a short
+ * turn, of each CPU one in this time. It is charged as any. */
 #define TIMEOUT_MS 20000
 #define LONGEST_WAIT_NS 10000000000ULL
+#define TURN_NS 50000ULL
+#define TURNS_NS 500000ULL
+/* The least slice where a limit leaves less: a timer ends it. */
+#define LEAST_SLICE_NS 250000ULL
+/* Who wakes interrupts a task of its leaf that is ahead by this. */
+#define AHEAD_NS (SLICE_NS / 3)
 /* A leaf that is behind by as much when it wakes is no sleeper, which gains by a lead. */
-#define LONG_SLEEP_NS (16 * SLICE_NS)
+#define LONG_SLEEP_NS 48000000ULL
+#define DEFAULT_WEIGHT 100
+/* Slices that are cut at a waking. Stages of a section: each leaf may be made due, or put aside. */
+#define MOST_CUTS 4
+#define MOST_STAGES (4 * MOST_LEAVES)
+/* In place of a tree: that of a task's mask. */
+#define SOME_CPUS MOST_TREES
 
 enum state {
     AWAY,
@@ -33,29 +42,35 @@ enum state {
 
 /* A task. Number 0 is none. */
 struct task {
-    /* Its neighbours in its queue, and that queue. */
-    u32 next;
-    u32 previous;
-    u32 queue;
+    /* Its place in a heap: those after it, and the one before; the right spine below it. */
+    u32 left;
+    u32 right;
+    u32 parent;
+    u32 rank;
+    /* Its neighbours by age in its tree. */
+    u32 older;
+    u32 newer;
+    /* The tree in which it waits. */
+    u32 tree;
     /* Its leaf, which holds for a version of the tree of groups. */
     u32 row;
-    u32 tree;
+    u32 version;
     u32 state;
-    /* The processor of the rule that picked it. */
-    u32 processor;
-    /* Whether it is one of the ready tasks of its leaf. */
-    u32 is_ready;
+    /* The CPU that picked it. */
+    u32 cpu;
     /* Whether its slice was made longer. */
     u32 is_extended;
-    u32 pad;
+    /* Whether its slice has ended and the kernel has not handed it over yet. */
+    u32 is_passing;
+    /* The tree of its mask when that was looked for last. */
+    u32 mask_tree;
     u64 since_ns;
-    /* How much of its time was charged. */
+    /* How much of its time was charged, and that over its weight. */
     u64 charged_ns;
-};
-
-struct queue {
-    u32 first;
-    u32 last;
+    u64 clock;
+    u64 weight;
+    /* What was paid for it in advance. */
+    u64 paid;
 };
 
 struct mask {
@@ -63,339 +78,378 @@ struct mask {
 };
 
 /* (a map that the loader does not read) */
-#define HIDDEN SEC(".bss.tasks") __attribute__((visibility("hidden"), aligned(8)))
-HIDDEN struct task tasks[MOST_TASKS];
-HIDDEN struct queue queues[MOST_QUEUES];
-HIDDEN struct mask masks[MOST_TASKS];
-/* A leaf whose first task has waited for too long, or `NOBODY`. */
-u32 late_row = NOBODY;
-/* Tasks that were picked out of turn. */
-u64 rescued;
+#define OF_TASKS SEC(".bss.tasks") __attribute__((visibility("hidden"), aligned(8)))
+OF_TASKS struct task tasks[MOST_TASKS];
+OF_TASKS struct mask masks[MOST_TASKS];
+/* The masks of trees; none is empty. */
+OF_TASKS struct mask tree_masks[MOST_MASKS + 1];
+/* Turns of tasks that waited for long, and picks of one CPU for another. */
+u64 late_turns, handed_over;
 
 static __always_inline struct task *task_at(u32 number)
 {
     return &tasks[WITHIN(number, MOST_TASKS)];
 }
 
-static __always_inline struct queue *queue_at(u32 number)
+/* ---- Heaps */
+
+static __always_inline u32 rank_of(u32 number)
 {
-    return &queues[WITHIN(number, MOST_QUEUES)];
+    return number ? task_at(number)->rank : 0;
 }
 
-/* Counts whether a task is ready: any CPU may take it. */
-static __always_inline void set_ready(struct task *task, bool is_ready)
+/* Sets a task's rank: its right spine is the shorter one. Returns whether the rank changed. */
+static __always_inline bool set_rank(u32 number)
 {
-    leaf_of(task->row)->ready += is_ready - task->is_ready;
-    task->is_ready = is_ready;
+    struct task *task = task_at(number);
+    u32 before = task->rank, left = task->left;
+
+    if (rank_of(left) < rank_of(task->right)) {
+        task->left = task->right;
+        task->right = left;
+    }
+    task->rank = rank_of(task->right) + 1;
+    return task->rank != before;
 }
+
+/* Sets what is after a task, or the first one of a heap. */
+static __always_inline void hang(u32 *first, u32 above, u32 number)
+{
+    if (above)
+        task_at(above)->right = number;
+    else
+        *first = number;
+    if (number)
+        task_at(number)->parent = above;
+}
+
+/* The first task of two heaps made one. */
+static __noinline u32 merge(u32 one, u32 other)
+{
+    u32 first = 0, above = 0, step;
+
+    bpf_for(step, 0, MOST_SPINE) {
+        u32 least = one;
+        if (!one || !other)
+            break;
+        if (task_at(other)->clock < task_at(one)->clock) {
+            least = other;
+            other = one;
+        }
+        hang(&first, above, least);
+        above = least;
+        one = task_at(least)->right;
+    }
+    hang(&first, above, one ? one : other);
+    bpf_for(step, 0, MOST_SPINE) {
+        if (!above)
+            break;
+        set_rank(above);
+        above = task_at(above)->parent;
+    }
+    return first;
+}
+
+/* Takes a task out of a heap. */
+static __always_inline void unhang(u32 *first, u32 number)
+{
+    struct task *task = task_at(number);
+    u32 below = merge(task->left, task->right), above = task->parent, step;
+
+    if (below)
+        task_at(below)->parent = above;
+    if (!above)
+        *first = below;
+    else if (task_at(above)->left == number)
+        task_at(above)->left = below;
+    else
+        task_at(above)->right = below;
+    bpf_for(step, 0, MOST_SPINE) {
+        if (!above || !set_rank(above))
+            break;
+        above = task_at(above)->parent;
+    }
+}
+
+/* ---- Queues */
 
 /* Notes that a task waits for some CPUs, or no longer. */
-static __always_inline void note_bound(struct on_cpu *here, u32 number, u32 at, bool waits)
+static __always_inline void note_bound(struct on_cpu *here, u32 number, u32 tree, bool waits)
 {
     u64 some = 1;
 
-    if (!has_trace || at < CPU_QUEUES)
+    if (tree == ALL_CPUS)
         return;
-    some = at == SOME_QUEUE ? masks[WITHIN(number, MOST_TASKS)].words[0]
-                            : some << ((at - CPU_QUEUES) % 64);
+    bound += waits ? 1 : -1;
+    if (!has_trace)
+        return;
+    some = tree >= MASK_TREES ? tree_masks[WITHIN(tree - MASK_TREES, MOST_MASKS + 1)].words[0]
+                              : some << ((tree - CPU_TREES) % 64);
     note(here, EVENT_BOUND, task_at(number)->row, 0, some, waits);
 }
 
-/* Puts a task that is counted at the end of a queue. */
-static __always_inline void push(struct on_cpu *here, u32 number, u32 at, u64 now)
+/* Puts a task that is counted into a tree. The caller plays its leaf. */
+static __noinline int push(struct on_cpu *here, u32 number, u32 at)
 {
     struct task *task = task_at(number);
-    struct queue *queue = queue_at(at);
+    struct tree *tree;
+    u32 *head;
 
-    task->queue = at;
-    task->next = 0;
-    task->previous = queue->last;
-    if (queue->last)
-        task_at(queue->last)->next = number;
+    if (at >= MOST_TREES)
+        return 0;
+    tree = tree_at(at);
+    head = head_of(at, task->row);
+    task->tree = at;
+    task->left = task->right = task->parent = 0;
+    task->rank = 1;
+    *head = merge(*head, number);
+    task->newer = 0;
+    task->older = tree->newest;
+    if (tree->newest)
+        task_at(tree->newest)->newer = number;
     else
-        queue->first = number;
-    queue->last = number;
+        tree->oldest = number;
+    tree->newest = number;
+    tree->waiting++;
+    *word_of(task->row, at / 64) |= 1ULL << (at % 64);
     task->state = QUEUED;
-    task->since_ns = now;
-    set_ready(task, at < CPU_QUEUES);
+    task->since_ns = time_ns;
     note_bound(here, number, at, true);
+    return 0;
 }
 
-/* Takes a task out of its queue. It is counted still. */
-static __always_inline void take_out(struct on_cpu *here, u32 number)
+/* Takes a task out of its tree. It is counted still. The caller plays its leaf. */
+static __noinline int take_out(struct on_cpu *here, u32 number)
 {
     struct task *task = task_at(number);
-    struct queue *queue = queue_at(task->queue);
+    u32 at = task->tree;
+    struct tree *tree;
 
-    if (task->previous)
-        task_at(task->previous)->next = task->next;
+    if (at >= MOST_TREES)
+        return 0;
+    tree = tree_at(at);
+    unhang(head_of(at, task->row), number);
+    if (task->older)
+        task_at(task->older)->newer = task->newer;
     else
-        queue->first = task->next;
-    if (task->next)
-        task_at(task->next)->previous = task->previous;
+        tree->oldest = task->newer;
+    if (task->newer)
+        task_at(task->newer)->older = task->older;
     else
-        queue->last = task->previous;
+        tree->newest = task->older;
+    tree->waiting--;
     task->state = ARRIVING;
-    note_bound(here, number, task->queue, false);
+    note_bound(here, number, at, false);
+    return 0;
 }
 
 /* What a task used since it was charged last. Of a slice that was cut a moment too much may be
  * charged. */
 static __always_inline u64 used_by(struct task *task, u64 runtime)
 {
-    u64 used = runtime > task->charged_ns ? runtime - task->charged_ns : 0;
+    return runtime > task->charged_ns ? runtime - task->charged_ns : 0;
+}
+
+/* What a use is on the clock of a task. */
+static __always_inline u64 on_clock(struct task *task, u64 used)
+{
+    return used * DEFAULT_WEIGHT / (task->weight ? task->weight : DEFAULT_WEIGHT);
+}
+
+/* The end of a task's slice. */
+static __always_inline void end(struct on_cpu *here, u32 number, u64 used, bool remains)
+{
+    struct task *task = task_at(number);
+    struct on_cpu *on = on_cpu(task->cpu);
 
     task->charged_ns += used;
-    return used;
-}
-
-/* Whether a CPU's task may be picked again, which has used so much of its slice: no task waits for
- * this CPU, and its leaf is at no limit. One that another class of tasks holds up is no such. */
-static __always_inline bool may_cut(u32 cpu, struct leaf *leaf, u64 used)
-{
-    return used < 2 * SLICE_NS && !queue_at(CPU_QUEUES + cpu)->first && !queue_at(SOME_QUEUE)->first
-           && !leaf->is_stopped && !(leaf->limit_ns && leaf->spent_ns + used >= leaf->limit_ns);
-}
-
-/* Charges what a CPU's task has used of its slice so far: the slice ends, and the task is picked
- * again. If the rule does not allow that, it goes on as it was. */
-static __always_inline bool cut(struct on_cpu *here, u32 cpu, u64 now)
-{
-    struct on_cpu *on = on_cpu(cpu);
-    u32 row = on->row;
-    struct leaf *leaf = leaf_of(row);
-    u64 used = now - on->since_ns, before = leaf->charged;
-    bool is_cut;
-
-    if (!may_cut(cpu, leaf, used))
-        return false;
-    leaf->charged += used - SLICE_NS;
-    play(row);
-    is_cut = !is_first(winners[1], row);
-    leaf->charged = before;
-    if (is_cut) {
-        leaf->charged += used;
-        leaf->used_ns += used;
-        task_at(on->task)->charged_ns += used;
-        on->since_ns = now;
-        note(here, EVENT_END, row, 2 * cpu + on->seat, used, true);
-        spend(here, row, used);
-        note(here, EVENT_PICK, row, 2 * cpu + on->seat, 0, 0);
-    }
-    play(row);
-    return is_cut;
-}
-
-/* The CPU whose task began before now, of the leaf with the least settled clock; `MOST_CPUS` if
- * there is none, or if a leaf that waits has a lesser one. */
-static __always_inline u32 least_uncut(u64 now)
-{
-    u32 found = MOST_CPUS, cpu;
-    struct leaf *least = leaf_of(winners[1]);
-    bool is_found = winners[1] < NOBODY;
-
-    bpf_for(cpu, 0, cpus_there) {
-        struct on_cpu *on = on_cpu(cpu);
-        struct leaf *leaf = leaf_of(on->row);
-        if (!on->task || on->since_ns >= now
-            || (is_found && is_less(settled(least), least->amount, settled(leaf), leaf->amount)))
-            continue;
-        least = leaf;
-        is_found = true;
-        found = cpu;
-    }
-    return found;
-}
-
-/* A leaf that wakes begins at the least clock of those that want. Before, what their slices have
- * used is charged, or it were ahead by as much. */
-static __noinline int cut_slices(struct on_cpu *here, u64 now)
-{
-    u32 times;
-
-    bpf_for(times, 0, MOST_CUTS) {
-        u32 cpu = least_uncut(now);
-        if (cpu == MOST_CPUS || !cut(here, cpu, now))
-            break;
-    }
-    return 0;
-}
-
-/* A task wants to run. The first one of a leaf lifts it: not over what others have used, or each
- * waking would cost it a slice. */
-static __always_inline void wake(struct on_cpu *here, u32 row, u64 now)
-{
-    struct leaf *leaf = leaf_of(row);
-
-    if (leaf->there++ == 0) {
-        u64 charge = level(leaf);
-        if (charge > leaf->charged + LONG_SLEEP_NS) {
-            cut_slices(here, now);
-            charge = level(leaf);
-        }
-        if (leaf->charged < charge)
-            leaf->charged = charge;
-    }
-    note(here, EVENT_WAKE, row, 0, 0, 0);
+    task->clock += on_clock(task, used);
+    end_slice(here, task->row, task->cpu, used, task->paid, remains);
+    if (on->handed == number)
+        on->handed = 0;
+    if (on->task == number)
+        on->task = 0;
 }
 
 /* A task wants nothing more of its leaf: it sleeps, or leaves. */
-static __noinline int leave(struct on_cpu *here, u32 number, u64 runtime, u64 now)
+static __always_inline void leave_leaf(struct on_cpu *here, u32 number, u64 runtime)
 {
     struct task *task = task_at(number);
-    u32 row = task->row;
+    struct leaf *leaf = leaf_of(task->row);
 
     if (task->state == RUNS) {
-        end(here, number, row, task->processor, used_by(task, runtime), false);
+        end(here, number, used_by(task, runtime), false);
     } else if (task->state != AWAY) {
+        u64 before;
         if (task->state == QUEUED)
             take_out(here, number);
-        set_ready(task, false);
-        count_waiting(leaf_of(row), now, -1);
-        leaf_of(row)->there--;
+        settle(leaf);
+        before = rate_of(leaf);
+        count_waiting(leaf, -1);
+        leaf->there--;
+        if (rate_of(leaf) < before)
+            cut_to_credit(leaf);
+        note(here, EVENT_LEAVE, task->row, 0, 0, 0);
     }
     task->state = AWAY;
-    return play(row);
+    task->is_passing = 0;
 }
 
-/* A task of a leaf wants to run: it wakes, or its slice ends. */
-static __noinline int arrive(struct on_cpu *here, u32 number, u32 row, u64 runtime, u64 now)
+/* A task of its leaf wants to run: it wakes, or its slice ends. */
+static __always_inline void arrive(struct on_cpu *here, u32 number, u64 runtime)
 {
     struct task *task = task_at(number);
+    struct leaf *leaf = leaf_of(task->row);
 
-    if (task->row != row)
-        leave(here, number, runtime, now);
-    task->row = row;
     if (task->state == QUEUED)
         take_out(here, number);
-    if (task->state == RUNS)
-        end(here, number, row, task->processor, used_by(task, runtime), true);
-    else if (task->state == AWAY)
-        wake(here, row, now);
-    else
-        return 0;
-    count_waiting(leaf_of(row), now, 1);
+    if (task->state == RUNS) {
+        end(here, number, used_by(task, runtime), true);
+        count_waiting(leaf, 1);
+    } else if (task->state == AWAY) {
+        wake(here, task->row);
+        count_waiting(leaf, 1);
+        /* who slept is not behind others of its leaf */
+        if (task->clock < leaf->task_clock)
+            task->clock = leaf->task_clock;
+    }
     task->state = ARRIVING;
+}
+
+/* A CPU takes a task, wherever it is: for a slice of as much as limits above it leave. */
+static __always_inline void run(struct on_cpu *here, u32 number, u32 cpu, bool is_due,
+                bool is_late)
+{
+    struct task *task = task_at(number);
+    struct leaf *leaf = leaf_of(task->row);
+    struct on_cpu *on = on_cpu(cpu);
+    u64 slice = left_above(leaf);
+
+    if (task->state == QUEUED)
+        take_out(here, number);
+    count_waiting(leaf, -1);
+    on->task = number;
+    on->row = task->row;
+    on->since_ns = time_ns;
+    on->is_due = is_due;
+    on->slice_ns = is_late ? TURN_NS : (s64)slice < (s64)LEAST_SLICE_NS ? LEAST_SLICE_NS : slice;
+    on->deadline_ns = leaf->deadline_ns;
+    if (task->clock > leaf->task_clock)
+        leaf->task_clock = task->clock;
+    leaf->due_picks += is_due;
+    task->cpu = cpu;
+    task->paid = pay(here, task->row, cpu);
+    task->state = RUNS;
+    task->is_extended = 0;
+}
+
+/* ---- Choices */
+
+static __always_inline bool is_late(u32 number)
+{
+    return number && time_ns > task_at(number)->since_ns + LONGEST_WAIT_NS;
+}
+
+/* Whether a CPU may take a task of a tree. */
+static __always_inline bool is_open(u32 tree, u32 cpu)
+{
+    return tree == ALL_CPUS || tree == CPU_TREES + cpu
+           || (tree >= MASK_TREES && on_cpu(cpu)->masks >> (tree - MASK_TREES) & 1);
+}
+
+/* Looks at a tree for what may be picked. (What was found is no local value: the verifier would
+ * follow each of those.) */
+static __noinline int look_at(struct on_cpu *here, u32 number)
+{
+    struct tree *tree = tree_at(number);
+    u32 due = tree->winners[1].due, first = tree->winners[1].first, oldest = tree->oldest;
+
+    if (!tree->waiting)
+        return 0;
+    if (time_ns >= on_cpu(here->cpu)->late_ns && is_late(oldest))
+        here->best.late = oldest;
+    if (is_earlier(due, here->best.due)) {
+        here->best.due = due;
+        here->best.due_tree = number;
+    }
+    if (is_first(first, here->best.first)) {
+        here->best.first = first;
+        here->best.first_tree = number;
+    }
     return 0;
 }
 
-/* A CPU takes a task, wherever it is. */
-static __always_inline void run(struct on_cpu *here, u32 number, u32 cpu, u64 now)
+/* Looks at all trees of a CPU that is picked for. */
+static __noinline int look(struct on_cpu *here)
 {
-    struct task *task = task_at(number);
-    u32 row = task->row;
+    u64 left = on_cpu(here->cpu)->masks;
+    u32 each;
 
-    if (task->state == QUEUED)
-        take_out(here, number);
-    set_ready(task, false);
-    count_waiting(leaf_of(row), now, -1);
-    task->processor = charge(here, number, row, cpu, now);
-    task->state = RUNS;
-    task->is_extended = 0;
-    play(row);
-}
-
-static __always_inline bool may_run(u32 number, u32 cpu)
-{
-    struct mask *mask = &masks[WITHIN(number, MOST_TASKS)];
-    return mask->words[WITHIN(cpu / 64, WORDS)] >> (cpu % 64) & 1;
-}
-
-static __always_inline bool is_late(u32 number, u64 now)
-{
-    return number && now > task_at(number)->since_ns + LONGEST_WAIT_NS;
-}
-
-/* Of a queue the task that a CPU may run whose leaf has the least clock, or one that has waited for
- * too long; 0 if there is none. */
-static __noinline u32 least_in(u32 queue, u32 cpu, u64 now)
-{
-    u32 number = queue_at(queue)->first, found = 0, best = NOBODY, looks;
-
-    bpf_for(looks, 0, MOST_LOOKS) {
-        struct task *task = task_at(number);
-        if (!number)
-            break;
-        if (queue != SOME_QUEUE || may_run(number, cpu)) {
-            if (is_late(number, now))
-                return number;
-            if (!leaf_of(task->row)->is_stopped && is_first(task->row, best)) {
-                best = task->row;
-                found = number;
-            }
+    here->best = (struct best){ .due = NOBODY, .first = NOBODY };
+    bpf_for(each, 0, 2 + MOST_MASKS) {
+        u32 number = each ? CPU_TREES + here->cpu : ALL_CPUS;
+        if (each >= 2) {
+            if (!left)
+                break;
+            number = MASK_TREES + lowest(left);
+            left &= left - 1;
         }
-        number = task->next;
+        look_at(here, number);
+        if (!bound)
+            break;
     }
-    return found;
+    return 0;
 }
 
-/* The one of two tasks that is picked first: the first of them if their clocks are equal. */
-static __always_inline u32 first_of(u32 one, u32 other)
+/* Whether a task whose slice has ended goes on in the place of the one that was chosen: it waits
+ * too, but in no tree yet. Tasks of one leaf go by their own clocks. */
+static __noinline bool goes_on(struct on_cpu *here, u32 number, u32 other)
 {
-    if (!one || !other)
-        return one ? one : other;
-    return is_first(task_at(other)->row, task_at(one)->row) ? other : one;
-}
+    struct task *task = task_at(number), *next = task_at(other);
+    struct leaf *leaf = leaf_of(task->row), *its = leaf_of(next->row);
 
-/* A task that has waited for too long and goes out of turn, or 0: `bound`, or one of a leaf. */
-static __always_inline u32 rescue(u32 bound, u64 now)
-{
-    u32 found = is_late(bound, now) ? bound : 0;
-
-    if (!found && late_row < NOBODY) {
-        found = queue_at(late_row)->first;
-        late_row = NOBODY;
-    }
-    rescued += found != 0;
-    return found;
-}
-
-/* Chooses a task that waits for a CPU, of a leaf with the least clock; 0 if there is none. */
-static __noinline u32 choose(u32 cpu, u64 now)
-{
-    u32 row = winners[1], bound, found;
-
-    bound = first_of(least_in(CPU_QUEUES + cpu, cpu, now), least_in(SOME_QUEUE, cpu, now));
-    found = rescue(bound, now);
-    if (found)
-        return found;
-    return first_of(row < NOBODY ? queue_at(row)->first : 0, bound);
-}
-
-/* Whether the task whose slice ends goes on in the place of another one: when it has ended, its
- * leaf's clock is less. Tasks of one leaf take turns. */
-static __noinline bool goes_on(u32 number, u32 other, u64 runtime, u64 now)
-{
-    struct task *task = task_at(number);
-    u32 row = task->row, other_row = task_at(other)->row;
-    struct leaf *leaf = leaf_of(row), *next = leaf_of(other_row);
-    u64 used = runtime > task->charged_ns ? runtime - task->charged_ns : 0;
-
-    if (leaf->is_stopped || (leaf->limit_ns && leaf->spent_ns + used >= leaf->limit_ns))
+    if (leaf->is_aside)
         return false;
     if (!other)
         return true;
-    return row != other_row && !is_late(other, now)
-           && is_less(leaf->charged + used - SLICE_NS, leaf->amount, next->charged, next->amount);
+    if (here->chosen_late)
+        return false;
+    if (leaf == its)
+        return task->clock <= next->clock;
+    if (leaf->is_due != here->chosen_due)
+        return leaf->is_due;
+    if (leaf->is_due)
+        return leaf->deadline_ns <= its->deadline_ns;
+    return !is_less(its->charged, its->amount, leaf->charged, leaf->amount);
 }
 
-/* Whether a CPU may take a task of a queue. */
-static __always_inline bool is_open(u32 number, u32 queue, u32 cpu)
+/* A CPU that takes a due task in the place of one whose slice ends and that is not due: one whose
+ * task was picked as no due one, of a leaf that is further ahead. Else a leaf that may use a whole
+ * CPU of its share could never catch up. `MOST_CPUS` if there is none. */
+static __noinline u32 gives_way(u32 cpu, u32 number, u32 due)
 {
-    return queue < CPU_QUEUES || queue == CPU_QUEUES + cpu
-           || (queue == SOME_QUEUE && may_run(number, cpu));
+    u32 most = task_at(number)->row, tree = task_at(due)->tree, found = MOST_CPUS, each;
+
+    bpf_for(each, 0, cpus_there) {
+        struct on_cpu *on = on_cpu(each);
+        if (each == cpu || !on->task || on->is_due || on->handed || !is_open(tree, each)
+            || !is_settled_less(most, on->row))
+            continue;
+        most = on->row;
+        found = each;
+    }
+    return found;
 }
 
 /* An idle CPU for a task that has come: `own` if it is one. `MOST_CPUS` if there is none. */
 static __noinline u32 idle_for(u32 number, u32 own)
 {
-    u32 queue = task_at(number)->queue, found = MOST_CPUS, cpu;
+    u32 tree = task_at(number)->tree, found = MOST_CPUS, cpu;
 
     if (!idle_cpus)
         return MOST_CPUS;
     bpf_for(cpu, 0, cpus_there) {
-        if (on_cpu(cpu)->is_idle && (found == MOST_CPUS || cpu == own)
-            && is_open(number, queue, cpu))
+        if (on_cpu(cpu)->is_idle && (found == MOST_CPUS || cpu == own) && is_open(tree, cpu))
             found = cpu;
     }
     if (found < MOST_CPUS)
@@ -403,18 +457,130 @@ static __noinline u32 idle_for(u32 number, u32 own)
     return found;
 }
 
-/* The CPU whose leaf is furthest ahead of that of a task that wakes; `MOST_CPUS` if none is. */
+/* How much a CPU's task has to give way to one that wakes: 0 for not at all. */
+static __always_inline u32 weakness(struct on_cpu *on, struct task *task, struct leaf *leaf,
+                    bool is_due)
+{
+    struct task *its = task_at(on->task);
+
+    if (on->row == task->row)
+        return its->clock + on_clock(its, time_ns - on->since_ns) >= task->clock + AHEAD_NS;
+    if (is_due && on->is_due)
+        return on->deadline_ns > leaf->deadline_ns + (s64)SLICE_NS ? 2 : 0;
+    if (is_due)
+        return 4;
+    return !on->is_due && is_first(task->row, on->row) ? 3 : 0;
+}
+
+/* The CPU whose task gives way to one that wakes; `MOST_CPUS` if none does. */
 static __noinline u32 ahead_of(u32 number)
 {
-    u32 queue = task_at(number)->queue, most = task_at(number)->row, found = MOST_CPUS, cpu;
+    struct task *task = task_at(number);
+    struct leaf *leaf = leaf_of(task->row);
+    bool is_due = leaf->due_ns <= (s64)time_ns;
+    u32 found = MOST_CPUS, worst = NOBODY, most = 0, cpu;
 
+    if (leaf->is_aside || spent_above(leaf))
+        return MOST_CPUS;
     bpf_for(cpu, 0, cpus_there) {
         struct on_cpu *on = on_cpu(cpu);
-        if (!on->task || !is_first(most, on->row) || !is_open(number, queue, cpu))
+        u32 now;
+        if (!on->task || on->handed || !is_open(task->tree, cpu))
             continue;
-        most = on->row;
+        now = weakness(on, task, leaf, is_due);
+        if (now < most || !now || (now == most && !is_first(worst, on->row)))
+            continue;
+        most = now;
+        worst = on->row;
         found = cpu;
     }
     return found;
+}
+
+/* ---- Masks */
+
+static __always_inline u64 *mask_of(u32 number, u32 word)
+{
+    return &masks[WITHIN(number, MOST_TASKS)].words[WITHIN(word, WORDS)];
+}
+
+static __always_inline u64 *mask_of_tree(u32 at, u32 word)
+{
+    return &tree_masks[WITHIN(at, MOST_MASKS + 1)].words[WITHIN(word, WORDS)];
+}
+
+static __always_inline bool has_cpu(u32 number, u32 cpu)
+{
+    return *mask_of(number, cpu / 64) >> (cpu % 64) & 1;
+}
+
+/* Whether a tree is that of a task's mask. */
+static __always_inline bool is_tree_of(u32 at, u32 number)
+{
+    u32 word;
+
+    bpf_for(word, 0, WORDS) {
+        if (64 * word >= cpus_there)
+            break;
+        if (*mask_of_tree(at, word) != *mask_of(number, word))
+            return false;
+    }
+    return true;
+}
+
+/* Gives a tree to another mask: the CPUs of it look there. */
+static __always_inline void set_mask(u32 at, u32 number)
+{
+    u32 each;
+
+    bpf_for(each, 0, WORDS)
+        *mask_of_tree(at, each) = *mask_of(number, each);
+    bpf_for(each, 0, cpus_there) {
+        u64 bit = 1ULL << at;
+        struct on_cpu *on = on_cpu(each);
+        on->masks = has_cpu(number, each) ? on->masks | bit : on->masks & ~bit;
+    }
+}
+
+/* The tree of a mask: its own, or a free one that it is given. `MOST_MASKS` if there is none. */
+static __noinline u32 tree_of_mask(u32 number)
+{
+    u32 found = MOST_MASKS, at;
+
+    bpf_for(at, 0, MOST_MASKS) {
+        if (is_tree_of(at, number))
+            return at;
+        if (found == MOST_MASKS && !tree_at(MASK_TREES + at)->waiting)
+            found = at;
+    }
+    if (found < MOST_MASKS)
+        set_mask(found, number);
+    return found;
+}
+
+/* Of the CPUs of a mask one that idles, else the one for which the fewest tasks wait. */
+static __noinline u32 least_of_mask(u32 number)
+{
+    u32 found = 0, least = ~0U, cpu;
+
+    bpf_for(cpu, 0, cpus_there) {
+        u32 waiting = tree_at(CPU_TREES + cpu)->waiting + !on_cpu(cpu)->is_idle;
+        if (!has_cpu(number, cpu) || waiting >= least)
+            continue;
+        least = waiting;
+        found = cpu;
+    }
+    return CPU_TREES + found;
+}
+
+/* The tree in which a task waits whose mask has some CPUs. A mask that has no tree waits at one of
+ * its CPUs, chosen anew each time. */
+static __noinline u32 tree_for(u32 number)
+{
+    struct task *task = task_at(number);
+
+    if (task->mask_tree >= MOST_MASKS || !is_tree_of(task->mask_tree, number))
+        task->mask_tree = tree_of_mask(number);
+    return task->mask_tree < MOST_MASKS ? MASK_TREES + task->mask_tree : least_of_mask(number);
 }
 #endif

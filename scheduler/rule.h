@@ -1,9 +1,14 @@
-/* The rule of the scheduler: clocks of leaves, and a tree that has the least one.
+/* The rule of the scheduler: guarantees first, then shares.
  * SPDX-License-Identifier: GPL-2.0-only
  *
- * Each leaf is charged nanoseconds: a whole slice at a pick, less what was not used when the slice
- * ends. Its clock is what it was charged over its amount. The numbers are those of crates/dispatch,
- * digit by digit, so that a trace of steps can be replayed there.
+ * A leaf has a guarantee and a share. What it is owed of its guarantee rises in time while it
+ * wants, and falls by a quantum at a pick; the end gives back what was not used. It is due when it
+ * is behind by the slack. Due leaves go by the earliest deadline. If none is due, the least clock
+ * decides: what a leaf was charged over its amount. The numbers are those of crates/dispatch, digit
+ * by digit, so that a trace of steps can be replayed there.
+ *
+ * What is owed is kept as `held`, which is never below 0: a quantum more than the lag, so that
+ * service beyond the guarantee is not held against a leaf.
  *
  * All of this file runs with `lock`.
  */
@@ -13,24 +18,66 @@
 #include "plan.h"
 
 #define NOBODY MOST_LEAVES
+/* Trees of winners: of tasks that all CPUs may take, of those of a CPU, and of those of a mask. */
+#define ALL_CPUS 0
+#define CPU_TREES 1
+#define MASK_TREES (CPU_TREES + MOST_CPUS)
+#define MOST_MASKS 63
+#define MOST_TREES (MASK_TREES + MOST_MASKS)
+#define TREE_WORDS (MOST_TREES / 64)
+#define NEVER (1LL << 62)
+/* What is held may be this long without a step of the leaf and not overflow: some seconds. */
+#define LONG_NS (1ULL << 33)
 
 const volatile bool has_trace;
 const volatile u32 cpus_there = 1, cpus_online = 1;
 
 struct leaf leaves[MOST_LEAVES];
+struct budget budgets[MOST_BUDGETS];
 struct on_cpu cpus[MOST_CPUS];
 
-/* It guards the leaves, the CPUs, the winners and the queues. */
+/* It guards the leaves, the CPUs, the trees and the queues. */
 #define GUARDED SEC(".bss.guarded") __attribute__((visibility("hidden"), aligned(8)))
 GUARDED struct bpf_spin_lock lock;
-/* Of each node of the tree the row with the least clock of those below it; node 1 is the root. */
-GUARDED u16 winners[2 * MOST_LEAVES];
-/* The greatest clock at the end of a slice: a charge and an amount. */
-GUARDED u64 greatest_charge, greatest_amount;
+/* The time of the rule: it never goes back. */
+GUARDED u64 time_ns;
+/* The greatest clock at the end of a slice, and the level at a new plan: a charge and an amount. */
+GUARDED u64 greatest_charge, greatest_amount, level_charge, level_amount;
 /* The number of steps of the rule. */
 GUARDED u64 steps;
-/* The number of CPUs that found nobody. */
-GUARDED s32 idle_cpus;
+/* The number of CPUs that found nobody, and of tasks that wait for some CPUs alone. */
+GUARDED s32 idle_cpus, bound;
+/* Of each node of the tree the row that is due first of those below it that are not yet; node 1 is
+ * the root. */
+GUARDED u16 soonest[2 * MOST_LEAVES];
+
+/* Of each node of a tree the rows below it with the earliest deadline, of those that are due, and
+ * with the least clock. */
+struct winner {
+    u16 due;
+    u16 first;
+};
+
+struct tree {
+    struct winner winners[2 * MOST_LEAVES];
+    /* The first task of each leaf that waits here. */
+    u32 heads[MOST_LEAVES];
+    /* The tasks that wait here, by age. */
+    u32 oldest;
+    u32 newest;
+    u32 waiting;
+    u32 pad;
+};
+
+/* The trees in which tasks of a leaf wait. */
+struct places_of_leaf {
+    u64 words[TREE_WORDS];
+};
+
+/* (a map that the loader does not read) */
+#define HIDDEN SEC(".bss.trees") __attribute__((visibility("hidden"), aligned(8)))
+HIDDEN struct tree trees[MOST_TREES];
+HIDDEN struct places_of_leaf waits_in[MOST_LEAVES];
 
 /* An index that the verifier knows to be in bounds: the compiler drops a mask that it can prove. */
 #ifndef WITHIN
@@ -41,15 +88,57 @@ GUARDED s32 idle_cpus;
         in_;                                                                                       \
     })
 #endif
+/* The same for a bound that is no power of two: one beyond it is 0. */
+#ifndef BELOW
+#define BELOW(index, most)                                                                         \
+    ({                                                                                             \
+        u64 in_ = (index);                                                                         \
+        asm volatile("if %0 < %1 goto +1\n%0 = 0" : "+r"(in_) : "i"(most));                        \
+        in_;                                                                                       \
+    })
+#endif
 
 static __always_inline struct leaf *leaf_of(u32 row)
 {
     return &leaves[WITHIN(row, MOST_LEAVES)];
 }
 
+static __always_inline struct budget *budget_of(u32 number)
+{
+    return &budgets[WITHIN(number, MOST_BUDGETS)];
+}
+
 static __always_inline struct on_cpu *on_cpu(u32 cpu)
 {
     return &cpus[WITHIN(cpu, MOST_CPUS)];
+}
+
+static __always_inline struct tree *tree_at(u32 number)
+{
+    return &trees[BELOW(number, MOST_TREES)];
+}
+
+/* Places of the lowest bit, by the top six bits of its product with `DE_BRUIJN`. (A search by
+ * branches were a known number on each of 64 paths, all of which the verifier would follow.) */
+#define DE_BRUIJN 0x03f79d71b4cb0a89ULL
+static const u8 places_of_bits[64] = {
+    0,  1,  48, 2,  57, 49, 28, 3,  61, 58, 50, 42, 38, 29, 17, 4,  62, 55, 59, 36, 53, 51,
+    43, 22, 45, 39, 33, 30, 24, 18, 12, 5,  63, 47, 56, 27, 60, 41, 37, 16, 54, 35, 52, 21,
+    44, 32, 23, 11, 46, 26, 40, 15, 34, 20, 31, 10, 25, 14, 19, 9,  13, 8,  7,  6
+};
+
+/* The place of the lowest bit that is set. */
+static __always_inline u32 lowest(u64 bits)
+{
+    return places_of_bits[WITHIN((bits & -bits) * DE_BRUIJN >> 58, 64)];
+}
+
+/* The time of the rule at a step: a CPU may have read its clock before another one. */
+static __always_inline u64 pass(u64 now)
+{
+    if (now > time_ns)
+        time_ns = now;
+    return time_ns;
 }
 
 /* Notes whether a CPU has found nobody. Who comes then wakes it. */
@@ -58,6 +147,33 @@ static __always_inline void set_idle(struct on_cpu *on, bool is_idle)
     idle_cpus += is_idle - on->is_idle;
     on->is_idle = is_idle;
 }
+
+/* Notes a step of a trace, to be told when the lock is free. */
+static __always_inline void note_more(struct on_cpu *here, u32 kind, u32 row, u32 cpu, u64 used,
+                      u32 remains, u64 guarantee)
+{
+    u32 at = here->steps;
+
+    if (!has_trace)
+        return;
+    here->noted[WITHIN(at, MOST_STEPS)] = (struct event){ .at = ++steps,
+                                  .ns = time_ns,
+                                  .used_ns = used,
+                                  .guarantee = guarantee,
+                                  .kind = kind,
+                                  .row = row,
+                                  .cpu = cpu,
+                                  .remains = remains };
+    here->steps = at + 1;
+}
+
+static __always_inline void note(struct on_cpu *here, u32 kind, u32 row, u32 cpu, u64 used,
+                 u32 remains)
+{
+    note_more(here, kind, row, cpu, used, remains, 0);
+}
+
+/* ---- Shares: clocks */
 
 /* Whether one clock is less than another. The products have up to 96 bits. */
 static __always_inline bool is_less(u64 charge, u64 amount, u64 other_charge, u64 other_amount)
@@ -69,7 +185,7 @@ static __always_inline bool is_less(u64 charge, u64 amount, u64 other_charge, u6
     return high != other_high ? high < other_high : (u32)low < (u32)other_low;
 }
 
-/* Whether a row is picked before another one. */
+/* Whether a row has a lesser clock than another one. */
 static __always_inline bool is_first(u32 row, u32 other)
 {
     struct leaf *one = leaf_of(row), *two = leaf_of(other);
@@ -78,43 +194,18 @@ static __always_inline bool is_first(u32 row, u32 other)
            && (other >= NOBODY || is_less(one->charged, one->amount, two->charged, two->amount));
 }
 
-/* Sets the winners above a row whose clock or count has changed. */
-static __noinline int play(u32 row)
-{
-    struct leaf *leaf = leaf_of(row);
-    u64 node = WITHIN(row, MOST_LEAVES) + MOST_LEAVES;
-    u32 best = leaf->ready > 0 && !leaf->is_stopped ? row : NOBODY, level;
-
-    winners[WITHIN(node, 2 * MOST_LEAVES)] = best;
-    bpf_for(level, 0, LEVELS) {
-        u32 other = winners[WITHIN(node ^ 1, 2 * MOST_LEAVES)];
-        best = winners[WITHIN(node, 2 * MOST_LEAVES)];
-        if (is_first(other, best))
-            best = other;
-        node >>= 1;
-        /* what is above stays if another row wins here, as before */
-        if (winners[WITHIN(node, 2 * MOST_LEAVES)] == best && best != row)
-            break;
-        winners[WITHIN(node, 2 * MOST_LEAVES)] = best;
-    }
-    return 0;
-}
-
-/* Counts what a leaf's tasks waited up to now, and then more or fewer that wait. */
-static __always_inline void count_waiting(struct leaf *leaf, u64 now, s32 more)
-{
-    if (leaf->waiting > 0 && now > leaf->until_ns) {
-        leaf->some_ns += now - leaf->until_ns;
-        leaf->waited_ns += (now - leaf->until_ns) * leaf->waiting;
-    }
-    leaf->until_ns = now;
-    leaf->waiting += more;
-}
-
 /* A leaf's charge without the slices that are charged in advance: it may be no less. */
 static __always_inline u64 settled(struct leaf *leaf)
 {
     return leaf->charged - leaf->running * SLICE_NS;
+}
+
+/* Whether a row has a lesser settled clock than another one. */
+static __always_inline bool is_settled_less(u32 row, u32 other)
+{
+    struct leaf *one = leaf_of(row), *two = leaf_of(other);
+
+    return is_less(settled(one), one->amount, settled(two), two->amount);
 }
 
 /* What a clock is as a charge to a leaf of some amount, rounded down. */
@@ -123,91 +214,367 @@ static __always_inline u64 as_charge(u64 amount, u64 charge, u64 of)
     return charge / of * amount + charge % of * amount / of;
 }
 
-/* The clock of all, as a charge to a leaf: the least settled clock of the leaves that want, because
- * a task of theirs waits or runs. Where nobody wants it is the greatest clock: what was used on an
- * idle host counts no longer. */
-static __noinline u64 level(struct leaf *leaf)
-{
-    u32 first = winners[1], cpu;
-    bool is_found = first < NOBODY;
-    u64 charge = is_found ? settled(leaf_of(first)) : greatest_charge;
-    u64 amount = is_found ? leaf_of(first)->amount : greatest_amount;
+/* ---- Guarantees: what a leaf is owed, when it is due, and its deadline */
 
-    bpf_for(cpu, 0, 2 * cpus_there) {
-        struct on_cpu *on = on_cpu(cpu / 2);
-        bool is_left = cpu % 2;
-        struct leaf *other = leaf_of(is_left ? on->left_row : on->row);
-        if (!(is_left ? on->left_task : on->task))
-            continue;
-        if (!is_found || is_less(settled(other), other->amount, charge, amount)) {
-            charge = settled(other);
-            amount = other->amount;
-            is_found = true;
-        }
+/* The CPUs of its guarantee that the tasks of a leaf can use now. */
+static __always_inline u64 rate_of(struct leaf *leaf)
+{
+    u64 most = leaf->there * ONE_CPU;
+    return most < leaf->guarantee ? most : leaf->guarantee;
+}
+
+/* What a leaf that wants nothing keeps, and the most that it may hold. */
+static __always_inline u64 credit_of(struct leaf *leaf)
+{
+    return QUANTUM_NS * ONE_CPU + leaf->guarantee * CREDIT_NS;
+}
+
+static __always_inline u64 most_held(struct leaf *leaf)
+{
+    return 2ULL * cpus_there * QUANTUM_NS * ONE_CPU + leaf->guarantee * CREDIT_NS;
+}
+
+/* What is owed at a rate in a time, or more than a leaf may hold. */
+static __always_inline u64 owed(u64 rate, u64 passed)
+{
+    return passed > LONG_NS && rate && passed > (1ULL << 62) / rate ? 1ULL << 62 : rate * passed;
+}
+
+/* Brings what a leaf holds up to date: before a step of it. */
+static __always_inline void settle(struct leaf *leaf)
+{
+    u64 passed = time_ns - leaf->at_ns, credit = credit_of(leaf), most = most_held(leaf);
+
+    leaf->at_ns = time_ns;
+    if (leaf->there > 0) {
+        leaf->held += owed(rate_of(leaf), passed);
+    } else if (leaf->held < credit) {
+        leaf->held += owed(leaf->guarantee, passed);
+        if (leaf->held > credit)
+            leaf->held = credit;
     }
-    return as_charge(leaf->amount, charge, amount);
+    if (leaf->held > most)
+        leaf->held = most;
 }
 
-/* Notes a step of a trace, to be told when the lock is free. */
-static __always_inline void note(struct on_cpu *here, u32 kind, u32 row, u32 cpu, u64 used,
-                 u32 remains)
+/* What is left of what a leaf holds beyond its credit is gone. */
+static __always_inline void cut_to_credit(struct leaf *leaf)
 {
-    u32 at = here->steps;
+    u64 credit = credit_of(leaf);
 
-    if (!has_trace)
-        return;
-    here->noted[WITHIN(at, MOST_STEPS)] = (struct event){
-        .at = ++steps, .used_ns = used, .kind = kind, .row = row, .cpu = cpu, .remains = remains };
-    here->steps = at + 1;
+    if (leaf->held > credit)
+        leaf->held = credit;
 }
 
-/* A pick for a CPU: charges a slice. Returns the processor of the rule. */
-static __always_inline u32 charge(struct on_cpu *here, u32 task, u32 row, u32 cpu, u64 now)
+/* When a leaf will hold so much, at its rate: now or in the past, if it does. */
+static __always_inline s64 time_of(struct leaf *leaf, u64 much, u64 rate)
+{
+    if (leaf->held >= much)
+        return (s64)leaf->at_ns - (s64)((leaf->held - much) / rate);
+    return leaf->at_ns + (much - leaf->held + rate - 1) / rate;
+}
+
+/* Sets when a leaf is due, and its deadline: after a step of it. */
+static __always_inline void set_times(struct leaf *leaf)
+{
+    u64 rate = rate_of(leaf);
+
+    leaf->due_ns = leaf->deadline_ns = NEVER;
+    if (rate) {
+        leaf->due_ns = time_of(leaf, QUANTUM_NS * ONE_CPU + rate * SLACK_NS, rate);
+        leaf->deadline_ns = time_of(leaf, 2 * QUANTUM_NS * ONE_CPU, rate);
+    }
+    leaf->is_due = leaf->due_ns <= (s64)time_ns;
+}
+
+/* ---- Trees of winners */
+
+static __always_inline bool is_sooner(u32 row, u32 other)
+{
+    return row < NOBODY && (other >= NOBODY || leaf_of(row)->due_ns < leaf_of(other)->due_ns);
+}
+
+static __always_inline bool is_earlier(u32 row, u32 other)
+{
+    return row < NOBODY
+           && (other >= NOBODY || leaf_of(row)->deadline_ns < leaf_of(other)->deadline_ns);
+}
+
+/* Sets the soonest rows above one whose time has changed. */
+static __noinline int play_soonest(u32 row)
 {
     struct leaf *leaf = leaf_of(row);
-    struct on_cpu *on = on_cpu(cpu);
+    u64 node = WITHIN(row, MOST_LEAVES) + MOST_LEAVES;
+    bool is_in = leaf->waiting > 0 && !leaf->is_aside && !leaf->is_due;
+    u32 best = is_in && leaf->guarantee ? row : NOBODY, level;
 
+    soonest[WITHIN(node, 2 * MOST_LEAVES)] = best;
+    bpf_for(level, 0, LEVELS) {
+        u32 other = soonest[WITHIN(node ^ 1, 2 * MOST_LEAVES)];
+        best = soonest[WITHIN(node, 2 * MOST_LEAVES)];
+        if (is_sooner(other, best))
+            best = other;
+        node >>= 1;
+        /* what is above stays if another row wins here, as before */
+        if (soonest[WITHIN(node, 2 * MOST_LEAVES)] == best && best != row)
+            break;
+        soonest[WITHIN(node, 2 * MOST_LEAVES)] = best;
+    }
+    return 0;
+}
+
+/* A node of a tree. (A loop that keeps a pointer to a tree is one that the verifier refuses.) */
+static __always_inline struct winner *winner_at(u32 number, u64 node)
+{
+    return &tree_at(number)->winners[WITHIN(node, 2 * MOST_LEAVES)];
+}
+
+/* The first task of a leaf that waits in a tree. */
+static __always_inline u32 *head_of(u32 number, u32 row)
+{
+    return &tree_at(number)->heads[WITHIN(row, MOST_LEAVES)];
+}
+
+/* Sets the winners of a tree above a row whose times, clock or tasks have changed. */
+static __noinline int play(u32 number, u32 row)
+{
+    struct leaf *leaf = leaf_of(row);
+    u64 node = WITHIN(row, MOST_LEAVES) + MOST_LEAVES;
+    bool is_in;
+    u32 level;
+
+    if (number >= MOST_TREES)
+        return 0;
+    is_in = *head_of(number, row) && !leaf->is_aside;
+    *winner_at(number, node) = (struct winner){ .due = is_in && leaf->is_due ? row : NOBODY,
+                            .first = is_in ? row : NOBODY };
+    bpf_for(level, 0, LEVELS) {
+        struct winner best = *winner_at(number, node), other = *winner_at(number, node ^ 1);
+        struct winner *above;
+        if (is_earlier(other.due, best.due))
+            best.due = other.due;
+        if (is_first(other.first, best.first))
+            best.first = other.first;
+        node >>= 1;
+        above = winner_at(number, node);
+        if (above->due == best.due && above->first == best.first && best.due != row
+            && best.first != row)
+            break;
+        *above = best;
+    }
+    return 0;
+}
+
+static __always_inline u64 *word_of(u32 row, u32 word)
+{
+    return &waits_in[WITHIN(row, MOST_LEAVES)].words[BELOW(word, TREE_WORDS)];
+}
+
+/* Sets the winners of all trees in which a leaf waits, or did. */
+static __noinline int play_trees(u32 row)
+{
+    u32 word;
+
+    bpf_for(word, 0, TREE_WORDS) {
+        u64 left = *word_of(row, word);
+        u32 each;
+        bpf_for(each, 0, 64) {
+            u32 at;
+            if (!left)
+                break;
+            at = lowest(left);
+            play(64 * word + at, row);
+            if (!*head_of(64 * word + at, row))
+                *word_of(row, word) &= ~(1ULL << at);
+            left &= left - 1;
+        }
+    }
+    return 0;
+}
+
+/* After a step of a leaf. */
+static __noinline int play_leaf(u32 row)
+{
+    set_times(leaf_of(row));
+    play_soonest(row);
+    return play_trees(row);
+}
+
+/* No row waits anywhere, and all clocks are 0. */
+static __noinline int clear_trees(void)
+{
+    u32 number, node;
+
+    greatest_charge = 0;
+    greatest_amount = 1;
+
+    bpf_for(node, 0, 2 * MOST_LEAVES)
+        soonest[WITHIN(node, 2 * MOST_LEAVES)] = NOBODY;
+    bpf_for(number, 0, MOST_TREES) {
+        if (number >= CPU_TREES + cpus_there && number < MASK_TREES)
+            continue;
+        bpf_for(node, 0, 2 * MOST_LEAVES)
+            *winner_at(number, node) = (struct winner){ .due = NOBODY, .first = NOBODY };
+    }
+    return 0;
+}
+
+/* ---- Steps of a leaf */
+
+/* Counts what a leaf's tasks waited up to now, and then more or fewer that wait. */
+static __always_inline void count_waiting(struct leaf *leaf, s32 more)
+{
+    if (leaf->waiting > 0 && time_ns > leaf->until_ns) {
+        leaf->some_ns += time_ns - leaf->until_ns;
+        leaf->waited_ns += (time_ns - leaf->until_ns) * leaf->waiting;
+    }
+    leaf->until_ns = time_ns;
+    leaf->waiting += more;
+}
+
+/* The least of a clock and the settled one of a leaf. */
+static __always_inline void take_lesser(struct leaf *leaf, bool *is_found, u64 *charge,
+                    u64 *amount)
+{
+    if (*is_found && !is_less(settled(leaf), leaf->amount, *charge, *amount))
+        return;
+    *charge = settled(leaf);
+    *amount = leaf->amount;
+    *is_found = true;
+}
+
+/* The clock of all: the least settled clock of the leaves that want, because a task of theirs waits
+ * or runs. Where nobody wants it is the greatest clock: what was used on an idle host counts no
+ * longer. */
+static __noinline int find_level(void)
+{
+    u64 charge = greatest_charge, amount = greatest_amount;
+    bool is_found = false;
+    u32 each;
+
+    bpf_for(each, 0, CPU_TREES + cpus_there + MOST_MASKS) {
+        u32 row;
+        if (each && !bound)
+            break;
+        row = tree_at(each < CPU_TREES + cpus_there ? each : each - cpus_there + MOST_CPUS)
+                  ->winners[1].first;
+        if (row < NOBODY)
+            take_lesser(leaf_of(row), &is_found, &charge, &amount);
+    }
+    bpf_for(each, 0, cpus_there) {
+        if (on_cpu(each)->task)
+            take_lesser(leaf_of(on_cpu(each)->row), &is_found, &charge, &amount);
+    }
+    level_charge = charge;
+    level_amount = amount;
+    return 0;
+}
+
+/* A task wants to run. The first one of a leaf lifts its clock: not over what others have used, or
+ * each waking would cost it a slice. */
+static __always_inline void wake(struct on_cpu *here, u32 row)
+{
+    struct leaf *leaf = leaf_of(row);
+
+    settle(leaf);
+    if (leaf->there++ == 0) {
+        u64 charge;
+        find_level();
+        charge = as_charge(leaf->amount, level_charge, level_amount);
+        if (leaf->charged < charge)
+            leaf->charged = charge;
+    }
+    note(here, EVENT_WAKE, row, 0, 0, 0);
+}
+
+/* Takes from all groups with a limit above a leaf; gives back what is negative. */
+static __always_inline void spend(struct leaf *leaf, s64 ns)
+{
+    u32 number = leaf->budget, each;
+
+    bpf_for(each, 0, MOST_NESTED) {
+        struct budget *budget = budget_of(number);
+        if (!number)
+            break;
+        budget->left_ns -= ns;
+        number = budget->above;
+    }
+}
+
+/* A group with a limit above a leaf that has nothing left; 0 if there is none. */
+static __always_inline u32 spent_above(struct leaf *leaf)
+{
+    u32 number = leaf->budget, found = 0, each;
+
+    bpf_for(each, 0, MOST_NESTED) {
+        struct budget *budget = budget_of(number);
+        if (!number)
+            break;
+        if (budget->left_ns <= 0)
+            found = number;
+        number = budget->above;
+    }
+    return found;
+}
+
+/* The least that groups with a limit above a leaf have left, of a slice. */
+static __always_inline u64 left_above(struct leaf *leaf)
+{
+    u32 number = leaf->budget, each;
+    s64 left = GIVEN_NS;
+
+    bpf_for(each, 0, MOST_NESTED) {
+        struct budget *budget = budget_of(number);
+        if (!number)
+            break;
+        if (budget->left_ns < left)
+            left = budget->left_ns;
+        number = budget->above;
+    }
+    return left;
+}
+
+/* A pick of a leaf for a CPU: a slice and a quantum are paid in advance. Returns what was paid of
+ * the quantum. */
+static __always_inline u64 pay(struct on_cpu *here, u32 row, u32 cpu)
+{
+    struct leaf *leaf = leaf_of(row);
+    u64 paid = QUANTUM_NS * ONE_CPU;
+
+    settle(leaf);
+    if (paid > leaf->held)
+        paid = leaf->held;
+    leaf->held -= paid;
     leaf->charged += SLICE_NS;
     leaf->running++;
     leaf->picks++;
-    if (on->task) {
-        on->left_task = on->task;
-        on->left_row = on->row;
-        on->seat ^= 1;
-    }
-    on->task = task;
-    on->row = row;
-    on->since_ns = now;
-    note(here, EVENT_PICK, row, 2 * cpu + on->seat, 0, 0);
-    return 2 * cpu + on->seat;
+    spend(leaf, SLICE_NS);
+    note(here, EVENT_PICK, row, cpu, 0, 0);
+    return paid;
 }
 
-/* Counts use to a limit. */
-static __always_inline void spend(struct on_cpu *here, u32 row, u64 used)
+/* What is given back of a quantum that was paid in advance, or paid beyond it, for the time that a
+ * CPU was held: a leaf bears its own switches. */
+static __always_inline void give_back(struct leaf *leaf, u64 taken, u64 paid)
 {
-    struct leaf *leaf = leaf_of(row);
+    u64 parts = taken * ONE_CPU, quantum = QUANTUM_NS * ONE_CPU;
 
-    if (!leaf->limit_ns)
-        return;
-    leaf->spent_ns += used;
-    if (leaf->spent_ns >= leaf->limit_ns && !leaf->is_stopped) {
-        leaf->is_stopped = 1;
-        leaf->stops++;
-        note(here, EVENT_STOP, row, 0, 0, true);
-    }
+    if (parts >= quantum)
+        leaf->held -= parts - quantum < leaf->held ? parts - quantum : leaf->held;
+    else
+        leaf->held += quantum - parts < paid ? quantum - parts : paid;
 }
 
-/* The end of a slice: gives back what was not used, or charges what was used beyond it. */
-static __always_inline void end(struct on_cpu *here, u32 task, u32 row, u32 processor, u64 used,
-                bool remains)
+/* The end of a slice: what was not used is given back, or what was used beyond it charged. */
+static __always_inline void end_slice(struct on_cpu *here, u32 row, u32 cpu, u64 used, u64 paid,
+                      bool remains)
 {
     struct leaf *leaf = leaf_of(row);
-    struct on_cpu *on = on_cpu(processor / 2);
+    u64 before;
 
-    if (on->task == task)
-        on->task = 0;
-    else if (on->left_task == task)
-        on->left_task = 0;
+    settle(leaf);
+    before = rate_of(leaf);
+    give_back(leaf, time_ns - on_cpu(cpu)->since_ns, paid);
     leaf->running--;
     leaf->charged += used - SLICE_NS;
     if (is_less(greatest_charge, greatest_amount, settled(leaf), leaf->amount)) {
@@ -216,13 +583,60 @@ static __always_inline void end(struct on_cpu *here, u32 task, u32 row, u32 proc
     }
     leaf->used_ns += used;
     leaf->there -= !remains;
-    note(here, EVENT_END, row, processor, used, remains);
-    spend(here, row, used);
+    /* what is not wanted any more is not kept beyond the credit */
+    if (rate_of(leaf) < before)
+        cut_to_credit(leaf);
+    spend(leaf, (s64)used - (s64)SLICE_NS);
+    note(here, EVENT_END, row, cpu, used, remains);
 }
 
-/* A common start of all clocks, at which what runs is picked: with the amounts of a new plan, or
- * because charges are great. */
-static __noinline int start_clocks(u32 rows)
+/* A leaf waits for the next period of a group with a limit that has nothing left. The caller plays
+ * it. */
+static __always_inline void put_aside(struct on_cpu *here, u32 row, u32 number)
+{
+    struct leaf *leaf = leaf_of(row);
+    struct budget *budget = budget_of(number);
+
+    leaf->is_aside = 1;
+    leaf->next_aside = budget->first_aside;
+    leaf->stops++;
+    budget->first_aside = row + 1;
+    budget->stops++;
+    note(here, EVENT_STOP, row, 0, 0, true);
+}
+
+/* It waits no longer. What it was owed meanwhile is no fault of others. */
+static __noinline int take_back(struct on_cpu *here, u32 number)
+{
+    struct budget *budget = budget_of(number);
+    u32 row = budget->first_aside - 1;
+    struct leaf *leaf = leaf_of(row);
+
+    if (!budget->first_aside)
+        return 0;
+    budget->first_aside = leaf->next_aside;
+    leaf->is_aside = 0;
+    note(here, EVENT_STOP, row, 0, 0, false);
+    settle(leaf);
+    cut_to_credit(leaf);
+    note(here, EVENT_CUT, row, 0, 0, 0);
+    play_leaf(row);
+    return 1;
+}
+
+/* A new period of a group with a limit. Returns whether it has something left. */
+static __always_inline bool refill(u32 number)
+{
+    struct budget *budget = budget_of(number);
+
+    budget->left_ns += budget->limit_ns;
+    if (budget->left_ns > (s64)(budget->limit_ns + budget->burst_ns))
+        budget->left_ns = budget->limit_ns + budget->burst_ns;
+    return budget->left_ns > 0;
+}
+
+/* The greatest settled clock of all leaves: after a new plan. */
+static __noinline int find_greatest(u32 rows)
 {
     u32 row;
 
@@ -230,8 +644,47 @@ static __noinline int start_clocks(u32 rows)
     greatest_amount = 1;
     bpf_for(row, 0, rows) {
         struct leaf *leaf = leaf_of(row);
-        leaf->charged = leaf->running * SLICE_NS;
-        play(row);
+        if (!is_less(greatest_charge, greatest_amount, settled(leaf), leaf->amount))
+            continue;
+        greatest_charge = settled(leaf);
+        greatest_amount = leaf->amount;
+    }
+    return 0;
+}
+
+/* A new plan gives a leaf an amount and a guarantee. It keeps its lead over the level, and what it
+ * is owed. */
+static __always_inline void give(struct on_cpu *here, u32 row, u64 amount, u64 guarantee)
+{
+    struct leaf *leaf = leaf_of(row);
+    u64 level = as_charge(leaf->amount, level_charge, level_amount);
+    u64 lead = leaf->charged > level ? leaf->charged - level : 0;
+
+    /* (a row that had none is owed nothing) */
+    if (!leaf->amount)
+        leaf->held = QUANTUM_NS * ONE_CPU;
+    settle(leaf);
+    if (lead > MOST_LEAD_NS)
+        lead = MOST_LEAD_NS;
+    leaf->charged = as_charge(amount, level_charge, level_amount) + lead;
+    leaf->amount = amount;
+    leaf->guarantee = guarantee;
+    note_more(here, EVENT_GIVE, row, 0, amount, 0, guarantee);
+    play_leaf(row);
+}
+
+/* Sets all clocks back by a whole number, so that charges stay small: no comparison changes. */
+static __noinline int set_back(u32 rows)
+{
+    u64 by;
+    u32 row;
+
+    find_level();
+    by = level_charge / level_amount;
+    greatest_charge -= by * greatest_amount;
+    bpf_for(row, 0, rows) {
+        struct leaf *leaf = leaf_of(row);
+        leaf->charged -= leaf->charged < by * leaf->amount ? leaf->charged : by * leaf->amount;
     }
     return 0;
 }

@@ -7,14 +7,21 @@
  * line:
  *
  *   plan SLICES                   a plan begins: the slices of all CPUs in its period
- *   leaf GROUP AMOUNT LIMIT_NS    a leaf's amount in slices, and its limit in 100 ms (0: none)
+ *   limit GROUP NS BURST_NS ABOVE a group's limit in 100 ms, what it may keep of that for later,
+ *                                 and the nearest group above it that has one (0: none)
+ *   leaf GROUP AMOUNT GUARANTEE LIMITED
+ *                                 a leaf's amount and guarantee in slices, and the nearest group
+ *                                 with a limit, itself or above (0: none)
+ *   inner GROUP LIMITED           a group with children: those that come below it are one leaf, up
+ *                                 to a plan that has them
  *   end                           the plan is taken; answers `plan NUMBER`
  *   read                          answers `leaf GROUP USED_NS WAITED_NS SOME_NS STOPS` for each
  *                                 leaf, of the time since the last reading, and `read PASSED_NS`
  *
- * GROUP is the number of a group's folder; 0 is the rest. WAITED_NS is what its tasks waited in
- * sum, SOME_NS how long one or more waited. When the input ends or a signal comes it ends, and the
- * kernel schedules by weights again. So it does if this process is killed.
+ * GROUP is the number of a group's folder; 0 is the rest. A limit comes before what is below it.
+ * WAITED_NS is what its tasks waited in sum, SOME_NS how long one or more waited. When the input
+ * ends or a signal comes it ends, and the kernel schedules by weights again. So it does if this
+ * process is killed.
  */
 #define _GNU_SOURCE
 #include <bpf/bpf.h>
@@ -52,6 +59,10 @@ typedef __s32 s32;
 /* Bytes of the ring of steps: some minutes of a small host. */
 #define TRACE_BYTES (16 << 20)
 #define DEFAULT_WEIGHT 100
+/* The loader's own group is a leaf, where the plan has it not: of a tenth of a CPU. */
+#define OWN_GUARANTEE (ONE_CPU / 10)
+/* Groups that come below another one have this part of a plan's slices in all. */
+#define NEW_PART 50
 
 /* A leaf as the last plan had it, and what was read of it. */
 struct row {
@@ -60,11 +71,18 @@ struct row {
     struct leaf read;
 };
 
+/* A group with a limit as the last plan had it. */
+struct limited_group {
+    u64 group;
+    u64 plan;
+};
+
 static struct plan *program;
 static struct bpf_link *link_;
 static struct row table[MOST_LEAVES];
-static u32 rows = 1;
-static u64 plans, read_ns;
+static struct limited_group limited[MOST_BUDGETS];
+static u32 rows = 1, limit_count = 1;
+static u64 plans, read_ns, own_group;
 static const char *top, *trace;
 static struct event *steps;
 static size_t step_count, step_room;
@@ -137,6 +155,22 @@ static void check_kernel(void)
         fail("more than %d CPUs", MOST_CPUS);
 }
 
+/* The number of the group in which this program runs; 0 for the root, whose tasks are the rest. */
+static u64 group_of_self(void)
+{
+    char text[PATH_MAX], path[PATH_MAX + sizeof CGROUPS];
+    struct stat found;
+    if (!read_text("/proc/self", "cgroup", text, sizeof text))
+        return 0;
+    char *own = strstr(text, "0::/");
+    if (!own || own[4] == '\n')
+        return 0;
+    own += strlen("0::");
+    own[strcspn(own, "\n")] = 0;
+    snprintf(path, sizeof path, "%s%s", CGROUPS, own);
+    return stat(path, &found) == 0 ? found.st_ino : 0;
+}
+
 static u64 weight_of(const char *folder)
 {
     char text[32];
@@ -202,7 +236,6 @@ static void load(void)
         fail("the program cannot be read: %s", log_);
     program->rodata->has_trace = trace != NULL;
     program->rodata->cpus_there = libbpf_num_possible_cpus();
-    program->rodata->cpus_online = sysconf(_SC_NPROCESSORS_ONLN);
     if (trace)
         bpf_map__set_max_entries(program->maps.events, TRACE_BYTES);
     if (plan__load(program) != 0)
@@ -212,6 +245,8 @@ static void load(void)
 static void attach(void)
 {
     link_ = bpf_map__attach_struct_ops(program->maps.plan_ops);
+    if (!link_ && program->bss->unplanned)
+        fail("more than %d tasks: nothing was changed", MOST_TASKS - 1);
     if (!link_)
         fail("the kernel refused the scheduler: %s", strerror(errno));
 }
@@ -237,6 +272,45 @@ static u32 row_of(u64 group)
     return free_row;
 }
 
+/* The number of a group's limit; 0 if there is none. */
+static u32 limit_of(u64 group)
+{
+    for (u32 at = 1; group && at < limit_count; at++)
+        if (limited[at].group == group && limited[at].plan == plans)
+            return at;
+    return 0;
+}
+
+/* A group's limit in this plan: its own number, else a free one. */
+static u32 new_limit(u64 group)
+{
+    u32 found = 0;
+    for (u32 at = 1; at < limit_count; at++) {
+        if (limited[at].group == group)
+            found = at;
+        else if (!limited[at].group && !found)
+            found = at;
+        if (limited[at].group == group)
+            break;
+    }
+    if (!found && limit_count == MOST_BUDGETS)
+        fail("more than %d limits", MOST_BUDGETS - 1);
+    if (!found)
+        found = limit_count++;
+    limited[found] = (struct limited_group){ group, plans };
+    return found;
+}
+
+/* The limits of the last plan that are in none now: their numbers are free. */
+static void drop_old_limits(void)
+{
+    for (u32 at = 1; at < limit_count; at++)
+        if (limited[at].group && limited[at].plan != plans) {
+            limited[at].group = 0;
+            program->bss->limits[at] = (struct limited){ 0 };
+        }
+}
+
 /* The leaves of the last plan that are in none now: their rows are free. */
 static bool drop_old(void)
 {
@@ -251,10 +325,41 @@ static bool drop_old(void)
 }
 
 /* What the rest has beside a plan of all slices, so that its part is that of its weights. */
-static u64 rest_of(u64 slices)
+static u64 rest_of(u64 slices, double part)
 {
-    double part = planned_part(), rest = slices * (1 - part) / part;
+    double rest = slices * (1 - part) / part;
     return rest < MOST_SLICES ? rest : MOST_SLICES;
+}
+
+/* Guarantees of a plan are of all CPUs. They are made parts of a CPU, so that beside them the rest
+ * has its own by weights. */
+static void give_guarantees(u64 slices, double part)
+{
+    double cpus = sysconf(_SC_NPROCESSORS_ONLN);
+    for (u32 row = 1; row < rows; row++) {
+        struct given *each = &program->bss->given[row];
+        if (slices && table[row].group != own_group)
+            each->guarantee = each->guarantee * (cpus * ONE_CPU * part / slices);
+    }
+    program->bss->given[0].guarantee = cpus * ONE_CPU * (1 - part);
+}
+
+/* A leaf of this program's own group, so that no crowd beside it keeps plans back. */
+static bool add_own(u64 slices)
+{
+    u32 before = rows, row;
+    if (!own_group)
+        return false;
+    row = row_of(own_group);
+    if (table[row].plan == plans) {
+        own_group = 0;
+        return false;
+    }
+    bool is_new = before != rows || !table[row].plan;
+    table[row].plan = plans;
+    program->bss->given[row] = (struct given){ .amount = slices / 100 + 1,
+                           .guarantee = OWN_GUARANTEE };
+    return is_new;
 }
 
 /* Amounts above the most that the scheduler takes are all made less, in proportion. */
@@ -271,11 +376,16 @@ static void scale(void)
 static void take_plan(u64 slices, u64 given, bool is_new)
 {
     LIBBPF_OPTS(bpf_test_run_opts, options);
-    u64 least = rest_of(slices), left = slices > given ? slices - given : 0;
+    double part = planned_part();
+    u64 least = rest_of(slices, part), left = slices > given ? slices - given : 0;
     program->bss->given[0].amount = left > least ? left : least;
+    is_new |= add_own(slices);
+    give_guarantees(slices, part);
     scale();
     is_new |= drop_old();
+    drop_old_limits();
     program->data->rows = rows;
+    program->data->budget_count = limit_count;
     /* the scheduler begins with the first plan */
     if (!link_)
         attach();
@@ -330,6 +440,18 @@ static u64 number(const char *word, u64 most)
     return found;
 }
 
+/* A leaf of this plan. Returns whether the last one had it not. */
+static bool set_leaf(u64 group, u64 amount, u64 guarantee, u64 limited_by)
+{
+    u32 before = rows, row = row_of(group);
+    bool is_new = before != rows || !table[row].plan;
+    table[row].plan = plans;
+    program->bss->given[row] = (struct given){ .amount = amount ? amount : 1,
+                           .guarantee = guarantee,
+                           .budget = limit_of(limited_by) };
+    return is_new;
+}
+
 /* One command. */
 static void obey(char *line)
 {
@@ -345,12 +467,21 @@ static void obey(char *line)
     } else if (strcmp(word, "leaf") == 0 && is_open) {
         u64 group = number(strsep(&rest, " "), ~0ULL);
         u64 amount = number(strsep(&rest, " "), MOST_SLICES);
-        u64 limit = number(rest, LIMIT_PERIOD_NS * MOST_CPUS);
-        u32 before = rows, row = row_of(group);
-        is_new |= before != rows || !table[row].plan;
-        table[row].plan = plans;
-        program->bss->given[row] = (struct given){ amount ? amount : 1, limit };
+        u64 guarantee = number(strsep(&rest, " "), MOST_SLICES);
+        is_new |= set_leaf(group, amount, guarantee, number(rest, ~0ULL));
         given += amount;
+    } else if (strcmp(word, "inner") == 0 && is_open) {
+        u64 group = number(strsep(&rest, " "), ~0ULL);
+        is_new |= set_leaf(group, slices / NEW_PART, 0, number(rest, ~0ULL));
+    } else if (strcmp(word, "limit") == 0 && is_open) {
+        u64 group = number(strsep(&rest, " "), ~0ULL);
+        u64 limit = number(strsep(&rest, " "), LIMIT_PERIOD_NS * MOST_CPUS);
+        u64 burst = number(strsep(&rest, " "), LIMIT_PERIOD_NS * MOST_CPUS);
+        u64 above = number(rest, ~0ULL);
+        u32 at = new_limit(group);
+        program->bss->limits[at] = (struct limited){ .limit_ns = limit ? limit : 1,
+                                 .burst_ns = burst,
+                                 .above = limit_of(above) };
     } else if (strcmp(word, "end") == 0 && is_open) {
         is_open = false;
         take_plan(slices, given, is_new);
@@ -408,6 +539,42 @@ static int by_order(const void *one, const void *other)
     return (a > b) - (a < b);
 }
 
+static void write_step(FILE *file, const struct event *each)
+{
+    switch (each->kind) {
+    case EVENT_WAKE:
+        fprintf(file, "wake %u 1\n", each->row);
+        break;
+    case EVENT_PICK:
+        fprintf(file, "pick %u %u\n", each->cpu, each->row);
+        break;
+    case EVENT_END:
+        fprintf(file, "end %u %llu %u\n", each->cpu, (u64)each->used_ns, each->remains);
+        break;
+    case EVENT_LEAVE:
+        fprintf(file, "leave %u\n", each->row);
+        break;
+    case EVENT_LEVEL:
+        fprintf(file, "level\n");
+        break;
+    case EVENT_GIVE:
+        fprintf(file, "give %u %llu %llu\n", each->row, (u64)each->used_ns,
+            (u64)each->guarantee);
+        break;
+    case EVENT_CUT:
+        fprintf(file, "cut %u\n", each->row);
+        break;
+    case EVENT_BOUND:
+        fprintf(file, "bound %u %llu %u\n", each->row, (u64)each->used_ns, each->remains);
+        break;
+    case EVENT_STOP:
+        fprintf(file, "stop %u %u\n", each->row, each->remains);
+        break;
+    default:
+        fprintf(file, "late %u\n", each->row);
+    }
+}
+
 /* Writes the steps of the rule in their order, and who waits for some CPUs or a period. */
 static void write_trace(void)
 {
@@ -415,22 +582,16 @@ static void write_trace(void)
     if (!file)
         fail("%s: %s", trace, strerror(errno));
     qsort(steps, step_count, sizeof *steps, by_order);
-    /* (a CPU is two processors of the rule) */
-    fprintf(file, "processors %u\nslice %llu\n", 2 * program->rodata->cpus_there, SLICE_NS);
+    fprintf(file, "processors %u\nslice %llu\nterms %llu %llu %llu\n", program->rodata->cpus_there,
+        SLICE_NS, QUANTUM_NS, SLACK_NS, CREDIT_NS);
+    /* (the first plan is a step) */
     for (u32 row = 0; row < rows; row++)
-        fprintf(file, "leaf %u %llu\n", row, (u64)program->bss->leaves[row].amount);
+        fprintf(file, "leaf %u 1 0\n", row);
     for (size_t at = 0; at < step_count; at++) {
-        struct event *each = &steps[at];
-        if (each->kind == EVENT_WAKE)
-            fprintf(file, "wake %u 1\n", each->row);
-        else if (each->kind == EVENT_PICK)
-            fprintf(file, "pick %u %u\n", each->cpu, each->row);
-        else if (each->kind == EVENT_BOUND)
-            fprintf(file, "bound %u %llu %u\n", each->row, (u64)each->used_ns, each->remains);
-        else if (each->kind == EVENT_STOP)
-            fprintf(file, "stop %u %u\n", each->row, each->remains);
-        else
-            fprintf(file, "end %u %llu %u\n", each->cpu, (u64)each->used_ns, each->remains);
+        u64 passed = at ? steps[at].ns - steps[at - 1].ns : 0;
+        if (passed)
+            fprintf(file, "pass %llu\n", passed);
+        write_step(file, &steps[at]);
     }
     if (fclose(file) != 0)
         fail("%s: %s", trace, strerror(errno));
@@ -468,7 +629,7 @@ static void serve(void)
     if (ring)
         write_trace();
     fprintf(stderr, "arbiter-scheduler: ended after %llu plans; out of turn %llu, tasks unplanned"
-        " %llu\n", plans, (u64)program->bss->rescued, (u64)program->bss->unplanned);
+        " %llu\n", plans, (u64)program->bss->late_turns, (u64)program->bss->unplanned);
 }
 
 int main(int count, char **words)
@@ -486,6 +647,7 @@ int main(int count, char **words)
     top = realpath(words[1], NULL);
     if (!top || strncmp(top, CGROUPS, strlen(CGROUPS)) != 0)
         fail("%s: no folder of " CGROUPS, words[1]);
+    own_group = group_of_self();
     load();
     puts("ready");
     fflush(stdout);

@@ -73,7 +73,7 @@ def test_rows_are_alike_in_both_programs():
     """What the loader and the kernel's part share is in one header, of fixed widths alone."""
     text = (ROOT / "scheduler/plan.h").read_text(encoding="ascii")
     fields = [line.split()[0] for line in text.splitlines() if line.startswith("    _")]
-    assert fields and set(fields) <= {"__u64", "__u32", "__s32"}
+    assert fields and set(fields) <= {"__u64", "__s64", "__u32", "__s32"}
 
 
 # What each tool says in its least version that is taken.

@@ -1,6 +1,6 @@
 """The scheduler's rule and queues in a model of CPUs (tests/kernel/simulated.c): each pick is one
 that the proved rule allows, and each group has its part. Then what crowds, masks, limits and rounds
-do to others: what the rule of today does not keep is an expected failure by name."""
+do to others."""
 import subprocess
 from collections.abc import Iterable
 from dataclasses import dataclass, field
@@ -39,7 +39,7 @@ GROUPS = {
     "all kinds on eight": (8, [
         "w,100,0,3,3000,4000,0,-1", "w,50,0,5,1000,9000,0,-1", f"a,100,0,4,{ALWAYS}",
         f"a,200,0,8,{ALWAYS}", "t,150,0,3,100000,150000,0,-1", "w,10,0,1,200,2000,0,-1",
-        f"a,60,30000,2,{ALWAYS}", "a,90,0,1,0,0,0,5"], [124, 50, 126, 252, 115, 9, 30, 93], 6),
+        f"a,60,30000,2,{ALWAYS}", "a,90,0,1,0,0,0,5"], [116, 50, 135, 270, 95, 9, 30, 95], 6),
     "a limit": (2, [f"a,120,60000,2,{ALWAYS}", f"a,80,0,2,{ALWAYS}"], [60, 140], 0.3),
 }
 
@@ -60,8 +60,18 @@ def lines_of(program, options, seed, seconds, cpus, groups):
                           timeout=120).stdout.splitlines(keepends=True)
 
 
+def promised(cpus, groups):
+    """The groups with guarantees: what each may have where all always want, by its amount."""
+    amounts = [int(group.split(",")[1]) for group in groups]
+    limits = [int(group.split(",")[2]) / 100 for group in groups]
+    each = [1000 * cpus * amount / sum(amounts) for amount in amounts]
+    return [f"{group}:g={min(most, limit) if limit else most}"
+            for group, most, limit in zip(groups, each, limits, strict=True)]
+
+
 def ran(program, seed, cpus, groups):
     """A trace, and the hundredths of a CPU that each group had."""
+    groups = promised(cpus, groups)
     lines = lines_of(program, [], seed, SECONDS, cpus, groups)
     used = [int(line.split()[2]) / (SECONDS * 10**7) for line in lines if line.startswith("used ")]
     return "".join(line for line in lines if not line.startswith(FOUND)), used[1:]
@@ -134,7 +144,7 @@ CASES = {
         {1: (1, 1), 2: (199, 1)}, {2: 600}, {1: 1200}, seconds=60) for count in (100, 400, 4000)},
     **{f"{count} tasks planned a tenth of a CPU": Case(
         2, (f"a,10,0,{count},{ALWAYS}:g=100", f"a,190,0,2,{ALWAYS}:g=1900"),
-        {1: (10, 1), 2: (190, 1)}, {2: 100}, seconds=60) for count in (100, 1000, 3000)},
+        {1: (10, 1), 2: (190, 1)}, {2: 120}, seconds=60) for count in (100, 1000, 3000)},
     # rounds, and leaves that wake
     **{f"{count} light groups": Case(
         cpus, (f"a,10000,0,{cpus},{ALWAYS}:g={heavy}", *lights(count, light)),
@@ -195,31 +205,10 @@ def broken(case: Case, found: dict[str, list[list[int]]]) -> list[str]:
                    for _, ns in found.get("stalled", [])]
 
 
-# What the rule does not keep, and would have to. A pick looks at 64 bound tasks; a bound task goes
-# after each free one of its leaf; late tasks go out of turn for a whole slice, whatever their limit;
-# each plan is a common start; a leaf has no guarantee, a group above leaves no limit; tasks of a leaf
-# take turns.
-BROKEN = {
-    *(f"{count} bound tasks beside idle CPUs" for count in (66, 300, 1000)),
-    *(f"{count} bound tasks and a sleeper on one CPU" for count in (66, 300)),
-    *(f"a pool of three CPUs, {count} tasks" for count in (80, 400)),
-    *(f"a pool and {count} tasks at a limit" for count in (64, 400)),
-    "a bound task beside free ones of its leaf",
-    *(f"{count} tasks under a limit of a hundredth" for count in (100, 400, 4000)),
-    *(f"{count} tasks planned a tenth of a CPU" for count in (1000, 3000)),
-    *(f"{count} light groups" for count in (10, 100, 400)),
-    "half of the host beside a hundred", "one of a pod wakes beside another pod",
-    "one wakes beside one that uses its guarantee", "amounts that change by a third",
-    "work of the kernel holds ends up", "four containers of a pod at its limit wake",
-    "a sleeper among eight of its leaf", "two of nice 0 among six of nice 19",
-}
-
-
 @pytest.mark.parametrize("name", CASES)
-def test_what_others_cannot_do(program, name, request):
-    """No crowd, mask, limit or round takes from another group what it is promised."""
-    if name in BROKEN:
-        request.applymarker(pytest.mark.xfail(strict=True, reason="the rule does not keep it"))
+def test_what_others_cannot_do(program, name):
+    """No crowd, mask, limit or round takes from another group what it is promised. A rule of clocks
+    alone, with one queue a leaf, breaks 26 of them."""
     case = CASES[name]
     lines = lines_of(program, ["-q", *case.options], 1, case.seconds, case.cpus, case.groups)
     assert broken(case, found_in(lines)) == []

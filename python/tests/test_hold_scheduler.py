@@ -95,13 +95,15 @@ def test_a_plan_is_given_and_nothing_is_written(folder, begun):
         "a": (50, 200, 80, True), "b": (80, 200, 80, True), "c": (40, 40, 40, False)}
     assert (one["written"], two["written"]) == (3, 3)
     told = commands(folder)
-    a, b, c = (number(world, path) for path in "abc")
-    # b is below a limit: 80 slices of a period are 80 ms of 100. c may have as much as both others,
-    # and asks for less.
+    top, a, b, c = (number(world, path) for path in (".", *"abc"))
+    # b has a limit: 80 ms of 100. c may have as much as both others, and asks for less. Guarantees
+    # are by weights: 50, 50 and 100.
+    limit, inner = f"limit {b} 80000000 0 0", f"inner {top} 0"
     assert told == [
-        f"top {world.tree}", "read", "read", "plan 200", f"leaf {a} 60 0",
-        f"leaf {b} 60 {one['groups']['b']['limit'] * 1000000}", f"leaf {c} 120 0", "end", "read",
-        "plan 200", f"leaf {a} 80 0", f"leaf {b} 80 80000000", f"leaf {c} 160 0", "end", "ended"]
+        f"top {world.tree}", "read", "read", "plan 200", limit, f"leaf {a} 60 50 0",
+        f"leaf {b} 60 50 {b}", f"leaf {c} 120 100 0", inner, "end", "read",
+        "plan 200", limit, f"leaf {a} 80 50 0", f"leaf {b} 80 50 {b}", f"leaf {c} 160 100 0", inner,
+        "end", "ended"]
     assert [world.maximum(path) for path in "abc"] == [FREE, "80000 100000", FREE]
     assert stood == then and [each.name for each in folder.glob("undo*")] == []
 
@@ -118,16 +120,49 @@ def test_one_that_slept_was_served(begun, told, wanted):
     assert (each["used"], each["want"], each["hungry"]) == wanted
 
 
-def test_a_leaf_below_a_limit_is_limited(folder, begun):
-    """A limit above a leaf gives it one; a group that comes is planned from its second reading."""
-    world, loop = begun([("p", 100, "90000 100000"), ("p/x", 100, FREE), ("q", 100, FREE)],
+def test_limits_are_of_the_whole_path(folder, begun):
+    """A leaf is in the nearest group with a limit, which may be the top, and that in the next one.
+    Each has its burst. Who comes below a group is under its limit until it is planned itself, from
+    its second reading on."""
+    world, loop = begun([("p", 100, "90000 100000"), ("p/x", 100, "30000 50000"), ("q", 100, FREE)],
                         *[""] * 4)
+    (world.tree / "cpu.max").write_text("150000 100000\n")
+    (world.tree / "p/cpu.max.burst").write_text("20000\n")
     world.run(loop, lambda: world.add("r"), lambda: world.uses("r", 9))
-    limits = {line.split()[1]: line.split()[3] for line in commands(folder)
-              if line.startswith("leaf")}
-    names = {str(number(world, path)): path for path in ("p/x", "q", "r")}
-    assert {names[group]: limit != "0" for group, limit in limits.items()} == {
-        "p/x": True, "q": False, "r": False}
+    told = commands(folder)
+    top, p, x, q, r = (number(world, path) for path in (".", "p", "p/x", "q", "r"))
+    limits = [f"limit {top} 150000000 0 0", f"limit {p} 90000000 20000000 {top}",
+              f"limit {x} 60000000 0 {p}"]
+    inner = [f"inner {top} {top}", f"inner {p} {p}"]
+    plans = [told[begin:told.index("end", begin)]
+             for begin, line in enumerate(told) if line.startswith("plan ")]
+    for lines in plans:
+        assert [line for line in lines if line.startswith("limit")] == limits
+        assert [line for line in lines if line.startswith("inner")] == inner
+    nearest = [{int(line.split()[1]): int(line.split()[4]) for line in lines
+                if line.startswith("leaf")} for lines in plans]
+    assert nearest[0] == {x: x, q: top} and nearest[-1] == {x: x, q: top, r: top}
+
+
+def test_a_group_that_cannot_be_read_keeps_its_limit(folder, begun, monkeypatch):
+    """Another user takes the right to read its limit away: it has its row and its limit still."""
+    world, loop = begun(GROUPS, *[""] * 4)
+    b, read = number(world, "b"), loop.root.read
+
+    def refused(place, file, *more):
+        if (place, file) == ("b", "cpu.max"):
+            raise HostFault("b/cpu.max: Permission denied")
+        return read(place, file, *more)
+
+    def hides():
+        monkeypatch.setattr(loop.root, "read", refused)
+        monkeypatch.setattr(loop, "is_of_others", lambda kept: kept.identity[1] == b)
+
+    world.run(loop, lambda: None, hides, lambda: None)
+    told = commands(folder)
+    assert "b/cpu.max: Permission denied: its limit is left as it is" in loop.tell.__self__.told
+    assert told.count(f"limit {b} 80000000 0 0") == told.count("end")
+    assert sum(line.startswith(f"leaf {b} ") for line in told) == told.count("end") > 1
 
 
 def leaves_of(folder, world):
@@ -143,7 +178,7 @@ def leaves_of(folder, world):
 def test_more_leaves_of_others_than_it_takes(monkeypatch, folder, begun, capsys):
     """Fewer groups of each other user have a leaf of their own, and those that have few keep
     theirs. The loop goes on."""
-    monkeypatch.setattr(scheduler, "MOST_LEAVES", 8)
+    monkeypatch.setattr(scheduler, "MOST_LEAVES", 12)
     monkeypatch.setattr(hold, "MOST_OF_OTHERS", 8)
     world, loop = begun([("a", 100, FREE), ("b", 100, FREE), ("c", 100, FREE)], *[""] * 6)
     for user, count in (("a/few", 2), ("b/many", 6), ("c/many", 7)):
@@ -162,7 +197,7 @@ def test_more_leaves_of_others_than_it_takes(monkeypatch, folder, begun, capsys)
 
 def test_more_leaves_than_it_takes(monkeypatch, folder, begun, capsys):
     """Those of root beyond the bound are in the rest, which is told once. The loop goes on."""
-    monkeypatch.setattr(scheduler, "MOST_LEAVES", 8)
+    monkeypatch.setattr(scheduler, "MOST_LEAVES", 10)
     world, loop = begun([(f"g{at:02}", 100, FREE) for at in range(12)], *[""] * 6)
     world.lacks = "g00"
     lines = world.run(loop, *[lambda: None] * 4)
@@ -235,7 +270,8 @@ def test_a_loader_has_a_deadline(monkeypatch, folder, name):
         other = scheduler.Scheduler("/sys/fs/cgroup", str(program))
         monkeypatch.setattr(scheduler, "LONGEST", 0.5)
         with pytest.raises(hold.WriteFault) as fault:
-            found.plan(1, [(number, 1, 0) for number in range(20_000)])
+            leaves = [scheduler.Served(number, 1, 0, 0) for number in range(20_000)]
+            found.plan(scheduler.Given(1, [], leaves, []))
             found.read()
         assert fault.value.message.count("\n") == 0 and len(fault.value.message) <= 400
         found.end()

@@ -65,7 +65,6 @@ int main(int count, char **words) {
     if (times <= 0 || !program)
         return fail("no program", 0);
     program->rodata->cpus_there = libbpf_num_possible_cpus();
-    program->rodata->cpus_online = sysconf(_SC_NPROCESSORS_ONLN);
     if (plan__load(program) != 0)
         return fail("not loaded", 0);
     for (u32 row = 0; row <= (u32)groups; row++) {

@@ -77,14 +77,29 @@ def loop_line(scenario: Scenario, way: Way) -> str:
     return f"{' '.join(words)} &"
 
 
-def scheduler_lines(scenario: Scenario, amounts: dict[str, int], limits: dict[str, int],
-                    has_trace: bool = False) -> tuple[str, str]:
+def number_in(path: str) -> str:
+    """The number of a group's folder, in a guest's script."""
+    return f"$(stat -c %i {shlex.quote(layout.place(path))})" if path else "0"
+
+
+def nearest(path: str, limits: dict[str, int]) -> str:
+    """The nearest group with a limit, itself or above; empty if there is none."""
+    while path and path not in limits:
+        path = path.rpartition("/")[0]
+    return path
+
+
+def scheduler_lines(scenario: Scenario, amounts: dict[str, int], guarantees: dict[str, int],
+                    limits: dict[str, int], has_trace: bool = False) -> tuple[str, str]:
     """The lines of a guest's script that load the scheduler with a plan, and that which ends it.
     Limits are nanoseconds of 100 ms. With a trace each step of the rule is told."""
     slices = scenario.processors * scenario.period // scenario.slice
     plan = "; ".join([f"echo plan {slices}", *(
-        f"echo leaf $(stat -c %i {shlex.quote(layout.place(path))}) {amounts[path]}"
-        f" {limits.get(path, 0)}" for path in scenario.leaves), "echo end"])
+        f"echo limit {number_in(path)} {limits[path]} 0"
+        f" {number_in(nearest(path.rpartition('/')[0], limits))}"
+        for path in sorted(limits, key=lambda each: each.count("/"))), *(
+        f"echo leaf {number_in(path)} {amounts[path]} {guarantees[path]}"
+        f" {number_in(nearest(path, limits))}" for path in scenario.leaves), "echo end"])
     trace = "--trace /steps " if has_trace else ""
     early = (f"rm -f /plan.in; mkfifo /plan.in\n/arbiter-scheduler {trace}{layout.HOME} < /plan.in"
              " > /plan.out 2>&1 &\nscheduler=$!\nexec 9> /plan.in\n"

@@ -1,5 +1,5 @@
-/* The scheduler's rule and queues (rule.h, queues.h of scheduler/), compiled for this machine,
-   over a model of CPUs with ticks and of tasks that work, sleep and wake.
+/* The scheduler's rule, queues and sections (rule.h, queues.h, sections.h of scheduler/), compiled for
+   this machine, over a model of CPUs with ticks and of tasks that work, sleep and wake.
 
        simulated [-q] [-p MS] [-j PERCENT] [-o US] SEED MS CPUS GROUP..
 
@@ -33,16 +33,18 @@
 typedef uint64_t u64, __u64;
 typedef uint32_t u32, __u32;
 typedef int32_t s32, __s32;
-typedef int64_t s64;
+typedef int64_t s64, __s64;
 typedef uint16_t u16;
+typedef uint8_t u8;
 struct bpf_spin_lock { int is_held; };
 #define SEC(name)
 #define __noinline __attribute__((noinline))
 #define bpf_for(at, first, last) for ((at) = (first); (at) < (last); (at)++)
 #define WITHIN(index, most) ((u64)(index) & ((most) - 1))
+#define BELOW(index, most) ((u64)(index) < (most) ? (u64)(index) : 0)
 /* (its loader sets them before it is loaded) */
 #define const
-#include "queues.h"
+#include "sections.h"
 #undef const
 
 #define MICRO 1000ULL
@@ -65,9 +67,8 @@ struct job {
     u32 number, row, cpu;
     char kind;
     bool is_bound;
-    int nice;
     enum way way;
-    u64 mask, on, off, phase;
+    u64 weight, mask, on, off, phase;
     /* Its processor time, what it still works for, and when it wakes.  */
     u64 runtime, left, wakes_at;
     /* When it woke, if it has not run since then, and when it came into its queue.  */
@@ -88,8 +89,8 @@ struct window {
 /* A row, or a group with a limit, as it was asked for, and what was seen of it.  */
 struct seen {
     u64 amount, limit, used;
-    /* The group that it is in; 0 for none.  */
-    u32 in;
+    /* The group that it is in; 0 for none. The number of the nearest limit.  */
+    u32 in, budget;
     s32 wants;
     double guarantee;
     struct window lacks, over;
@@ -99,7 +100,7 @@ struct seen {
 static struct job jobs[MOST_JOBS];
 static struct core cores[MOST_CORES];
 static struct seen rows_seen[MOST_ROWS], groups_seen[MOST_GROUPS];
-static u32 job_count, core_count, row_count = 1, group_count = 1;
+static u32 job_count, core_count, row_count = 1, group_count = 1, budget_count = 1;
 static u64 now, counted, seed, first_wake = NONE;
 /* The options -p, -j, -o.  */
 static u64 plan_every = NONE, jitter, overrun;
@@ -111,17 +112,31 @@ static u64 chance(u64 below) {
 
 /* Prints the steps that were noted, as the loader does.  */
 static void tell_steps(struct on_cpu *here) {
+    static u64 told;
     for (u32 at = 0; has_trace && at < here->steps; at++) {
         struct event *each = &here->noted[at];
         unsigned long long used = each->used_ns;
+        if (each->ns > told)
+            printf("pass %llu\n", (unsigned long long)(each->ns - told));
+        told = each->ns;
         if (each->kind == EVENT_WAKE)
             printf("wake %u 1\n", each->row);
         else if (each->kind == EVENT_PICK)
             printf("pick %u %u\n", each->cpu, each->row);
         else if (each->kind == EVENT_END)
             printf("end %u %llu %u\n", each->cpu, used, each->remains);
+        else if (each->kind == EVENT_LEAVE)
+            printf("leave %u\n", each->row);
+        else if (each->kind == EVENT_LEVEL)
+            printf("level\n");
+        else if (each->kind == EVENT_GIVE)
+            printf("give %u %llu %llu\n", each->row, used, (unsigned long long)each->guarantee);
+        else if (each->kind == EVENT_CUT)
+            printf("cut %u\n", each->row);
         else if (each->kind == EVENT_BOUND)
             printf("bound %u %llu %u\n", each->row, used, each->remains);
+        else if (each->kind == EVENT_LATE)
+            printf("late %u\n", each->row);
         else
             printf("stop %u %u\n", each->row, each->remains);
     }
@@ -134,29 +149,17 @@ static void kick(u32 cpu) {
         cores[cpu].kick = now + SIGNAL;
 }
 
-/* As plan_enqueue.  */
-static void enqueue(struct job *job, u32 cpu, bool wakes) {
-    struct on_cpu *here = on_cpu(cpu);
-    u32 own, other = MOST_CPUS;
-
-    job->ready = now;
-    arrive(here, job->number, job->row, job->runtime, now);
-    push(here, job->number,
-         job->mask       ? SOME_QUEUE
-         : job->is_bound ? CPU_QUEUES + job->cpu
-                         : job->row,
-         now);
-    play(job->row);
-    own = idle_for(job->number, job->cpu);
-    if (own == MOST_CPUS && wakes)
-        other = ahead_of(job->number);
-    tell_steps(here);
-    if (own < MOST_CPUS) {
-        kick(own);
-    } else if (other < MOST_CPUS) {
-        cores[other].slice = 0;
-        kick(other);
+/* A CPU that another one noted has to look.  */
+static void kick_noted(struct on_cpu *here) {
+    if (here->picked_for < MOST_CPUS) {
+        cores[here->picked_for].slice = 0;
+        kick(here->picked_for);
     }
+    if (here->kick == MOST_CPUS)
+        return;
+    if (here->interrupts)
+        cores[here->kick].slice = 0;
+    kick(here->kick);
 }
 
 /* Notes how long a task waited that woke.  */
@@ -168,35 +171,61 @@ static void note_delay(struct job *job) {
     job->woke = 0;
 }
 
+/* A task is on a CPU.  */
+static void set_on(u32 cpu, struct job *job) {
+    struct core *core = &cores[cpu];
+    u64 slice = on_cpu(cpu)->slice_ns;
+
+    note_delay(job);
+    core->job = job;
+    job->way = ON_CPU;
+    job->cpu = cpu;
+    core->slice = slice;
+    core->since = now;
+    if (slice < GIVEN_NS && now + slice < core->kick)
+        core->kick = now + slice;
+}
+
+static u32 tree_of(struct job *job) {
+    return job->mask ? SOME_CPUS : job->is_bound ? CPU_TREES + job->cpu : ALL_CPUS;
+}
+
+/* As plan_enqueue.  */
+static void enqueue(struct job *job, u32 cpu, bool wakes) {
+    struct on_cpu *here = on_cpu(cpu);
+    u32 found;
+
+    job->ready = now;
+    job->way = READY;
+    begin(here, cpu, now);
+    come(here, job->number, job->row, tree_of(job), job->runtime);
+    work(here, cpu);
+    found = came(here, job->cpu, wakes);
+    tell_steps(here);
+    if (found < MOST_CPUS)
+        set_on(found, job);
+    else
+        kick_noted(here);
+}
+
 /* As plan_dispatch, and what the kernel does then.  */
 static void dispatch(u32 cpu, bool goes) {
     struct core *core = &cores[cpu];
     struct job *last = core->job;
     struct on_cpu *on = on_cpu(cpu);
-    u32 before = goes ? last->number : 0, found = choose(cpu, now);
-    s64 slice = SLICE_NS;
+    u32 before = goes ? last->number : 0, found;
 
-    if (before && goes_on(before, found, last->runtime, now)) {
-        arrive(on, before, last->row, last->runtime, now);
-        found = before;
-    }
-    if (found)
-        run(on, found, cpu, now);
-    set_idle(on, !found);
+    begin(on, cpu, now);
+    take_next(on, before, true, goes ? last->runtime : 0, goes ? tree_of(last) : 0);
+    work(on, cpu);
+    found = took_next(on);
     tell_steps(on);
+    kick_noted(on);
     core->job = NULL;
-    if (goes && found != before) {
-        last->way = READY;
+    if (goes && found != before)
         enqueue(last, cpu, false);
-    }
-    if (found) {
-        core->job = &jobs[found - 1];
-        note_delay(core->job);
-        core->job->way = ON_CPU;
-        core->job->cpu = cpu;
-        core->slice = slice;
-        core->since = now;
-    }
+    if (found && !task_at(found)->is_passing)
+        set_on(cpu, &jobs[found - 1]);
 }
 
 /* Where a task of turns is in its turn.  */
@@ -280,26 +309,26 @@ static void end_work(u32 cpu) {
         first_wake = job->wakes_at;
     job->way = ASLEEP;
     rows_seen[job->row].wants--;
-    leave(on_cpu(cpu), job->number, job->runtime, now);
+    begin(on_cpu(cpu), cpu, now);
+    leave(on_cpu(cpu), job->number, job->runtime);
+    work_alone(on_cpu(cpu));
     tell_steps(on_cpu(cpu));
     dispatch(cpu, false);
 }
 
-/* As on_beat: each 100 ms leaves that were stopped may run again.  */
+/* As on_beat: each 100 ms leaves that were put aside may run again.  */
 static void begin_period(void) {
-    for (u32 row = 0; row < row_count; row++) {
-        struct leaf *leaf = leaf_of(row);
-        bool was_stopped = leaf->is_stopped;
-        if (leaf->ready > 0 && is_late(queue_at(row)->first, now))
-            late_row = row;
-        if (!leaf->limit_ns)
-            continue;
-        leaf->spent_ns -= leaf->spent_ns < leaf->limit_ns ? leaf->spent_ns : leaf->limit_ns;
-        leaf->is_stopped = leaf->spent_ns >= leaf->limit_ns;
-        if (was_stopped && !leaf->is_stopped)
-            note(on_cpu(0), EVENT_STOP, row, 0, 0, false);
-        play(row);
-        tell_steps(on_cpu(0));
+    struct on_cpu *here = on_cpu(0);
+
+    pass(now);
+    for (u32 row = 0; row < row_count; row++)
+        if (leaf_of(row)->charged > MOST_CHARGE)
+            set_back(row_count);
+    for (u32 number = 1; number < budget_count; number++) {
+        bool has_some = refill(number);
+        while (has_some && take_back(here, number))
+            tell_steps(here);
+        tell_steps(here);
     }
     for (u32 cpu = 0; cpu < core_count; cpu++)
         if (!cores[cpu].job)
@@ -317,13 +346,21 @@ static bool is_stalled(void) {
     return false;
 }
 
-/* As `take_plan`: each row's amount, up to `jitter` hundredths off.  */
+/* As `take_plan`: each row's amount, up to `jitter` hundredths off, and guarantee.  */
 static void give_plan(void) {
-    for (u32 row = 1; row < row_count; row++) {
-        u64 amount = rows_seen[row].amount * (100 - jitter + chance(2 * jitter + 1)) / 100;
-        leaf_of(row)->amount = amount ? amount : 1;
+    struct on_cpu *here = on_cpu(0);
+
+    pass(now);
+    find_level();
+    note(here, EVENT_LEVEL, 0, 0, 0, 0);
+    for (u32 row = 0; row < row_count; row++) {
+        struct seen *each = &rows_seen[row];
+        struct given given = { .amount = each->amount * (100 - jitter + chance(2 * jitter + 1)) / 100,
+                               .guarantee = each->guarantee * ONE_CPU, .budget = each->budget };
+        take_given(here, &given, row);
+        tell_steps(here);
     }
-    start_clocks(row_count);
+    find_greatest(row_count);
 }
 
 static u64 next_event(u64 beat) {
@@ -352,6 +389,8 @@ static void wake_jobs(void) {
         job->way = READY;
         job->woke = now;
         job->left = job->on;
+        if (job->kind == 'f')
+            task_at(job->number)->clock = 0;
         rows_seen[job->row].wants++;
         enqueue(job, job->cpu, true);
     }
@@ -432,6 +471,14 @@ static bool read_words(char *words, struct seen *row, int *nice) {
     return true;
 }
 
+/* The weight of a task's nice, of 100: the kernel's, each step a quarter.  */
+static u64 weight_of(int nice) {
+    double weight = 100;
+    for (; nice > 0; nice--)
+        weight /= 1.25;
+    return weight < 1 ? 1 : weight;
+}
+
 static bool add_limited(const char *text) {
     unsigned long long limit;
     u32 in;
@@ -454,6 +501,9 @@ static void add_jobs(struct job model, u64 count_of_jobs) {
         if (job->wakes_at < first_wake)
             first_wake = job->wakes_at;
         masks[job->number].words[0] = job->mask;
+        task_at(job->number)->row = job->row;
+        task_at(job->number)->weight = job->weight;
+        task_at(job->number)->mask_tree = MOST_MASKS;
     }
 }
 
@@ -463,6 +513,7 @@ static bool add_group(char *text) {
     bool is_more = *text == '+';
     u32 row = row_count - is_more;
     struct job model = { .row = row };
+    int nice = 0;
 
     if (*text == 'l')
         return add_limited(text);
@@ -474,9 +525,10 @@ static bool add_group(char *text) {
         return false;
     if (!is_more)
         rows_seen[row] = (struct seen){ .amount = amount, .limit = limit * MICRO };
-    if (colon && !read_words(colon, &rows_seen[row], &model.nice))
+    if (colon && !read_words(colon, &rows_seen[row], &nice))
         return false;
     model.kind = kind;
+    model.weight = weight_of(nice);
     model.mask = *cpu == 'm' ? strtoull(cpu + 1, NULL, 16) : 0;
     model.is_bound = !model.mask && atoi(cpu) >= 0;
     model.cpu = model.is_bound ? atoi(cpu) : 0;
@@ -519,6 +571,35 @@ static void tell_found(void) {
         printf("task %u %u %llu\n", jobs[at].row, at, (unsigned long long)jobs[at].runtime);
 }
 
+/* The numbers of groups with a limit, and of leaves: those above first.  */
+static void set_budgets(void) {
+    for (u32 group = 1; group < group_count; group++)
+        budgets[budget_count++] = (struct budget){ .limit_ns = groups_seen[group].limit,
+                                                   .left_ns = groups_seen[group].limit,
+                                                   .above = groups_seen[group].in };
+    for (u32 row = 0; row < row_count; row++) {
+        struct seen *each = &rows_seen[row];
+        each->budget = each->in;
+        if (!each->limit)
+            continue;
+        budgets[budget_count] = (struct budget){ .limit_ns = each->limit, .left_ns = each->limit,
+                                                 .above = each->in };
+        each->budget = budget_count++;
+    }
+}
+
+/* The first plan: no step of the trace, whose head has it.  */
+static void give_first(void) {
+    u64 off = jitter;
+    bool is_told = has_trace;
+
+    jitter = 0;
+    has_trace = false;
+    give_plan();
+    has_trace = is_told;
+    jitter = off;
+}
+
 /* Sets the options. Returns the first word after them; 0 if one is unknown.  */
 static int set_options(int count_of_words, char **words) {
     has_trace = true;
@@ -539,7 +620,7 @@ static int set_options(int count_of_words, char **words) {
 
 int main(int count_of_words, char **words) {
     int first = set_options(count_of_words, words);
-    u64 length, off = jitter;
+    u64 length;
 
     if (!first || count_of_words < first + 4)
         return 2;
@@ -548,10 +629,9 @@ int main(int count_of_words, char **words) {
     core_count = atoi(words[first + 2]);
     if (length == 0 || core_count == 0 || core_count > MOST_CORES)
         return 2;
-    for (u32 node = 0; node < 2 * MOST_LEAVES; node++)
-        winners[node] = NOBODY;
     cpus_there = cpus_online = core_count;
-    leaf_of(0)->amount = 1;
+    clear_trees();
+    rows_seen[0].amount = 1;
     for (int at = first + 3; at < count_of_words; at++)
         if (!add_group(words[at]))
             return 2;
@@ -559,15 +639,14 @@ int main(int count_of_words, char **words) {
         cores[cpu] = (struct core){ .tick = TICK + cpu * MICRO, .kick = NONE };
         set_idle(on_cpu(cpu), true);
     }
-    for (u32 row = 1; row < row_count; row++)
-        leaf_of(row)->limit_ns = rows_seen[row].limit;
-    jitter = 0;
-    give_plan();
-    jitter = off;
+    set_budgets();
+    give_first();
     if (has_trace)
-        printf("processors %u\nslice %llu\n", 2 * core_count, SLICE_NS);
+        printf("processors %u\nslice %llu\nterms %llu %llu %llu\n", core_count, SLICE_NS,
+               QUANTUM_NS, SLACK_NS, CREDIT_NS);
     for (u32 row = 0; has_trace && row < row_count; row++)
-        printf("leaf %u %llu\n", row, (unsigned long long)leaf_of(row)->amount);
+        printf("leaf %u %llu %llu\n", row, (unsigned long long)leaf_of(row)->amount,
+               (unsigned long long)leaf_of(row)->guarantee);
     simulate(length);
     tell_found();
     return 0;

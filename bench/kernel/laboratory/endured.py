@@ -30,8 +30,8 @@ TASKS = {"a": ["load a $now END 100000 0 3 100000"] * 2 + ["load a $now END 1000
 END = "9000000000000"
 LOADS = 2
 # The edit of a program that picks nobody, so that the kernel's watchdog has to end it.
-PICKS = "    found = choose(cpu, now);\n"
-PICKS_NOBODY = "    found = 0 * choose(cpu, now);\n"
+PICKS = "    found = take_next("
+PICKS_NOBODY = "    found = 0 * take_next("
 STATE = "/sys/kernel/sched_ext/state"
 MAKE = "make"
 
@@ -57,7 +57,7 @@ def programs(folder: Path) -> dict[str, tuple[int, bytes]]:
 
 def loaded(program: str) -> list[str]:
     """Loads a scheduler with a plan; $scheduler is its process."""
-    plan = "; ".join(f"echo leaf $(stat -c %i {layout.place(path)}) {amount} 0"
+    plan = "; ".join(f"echo leaf $(stat -c %i {layout.place(path)}) {amount} {amount} 0"
                      for path, amount in LEAVES.items())
     return ["rm -f /plan.in; mkfifo /plan.in; : > /plan.out",
             f"{program} {layout.HOME} < /plan.in > /plan.out 2>&1 &",

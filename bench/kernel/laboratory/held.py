@@ -51,14 +51,19 @@ def plan(scenario: Scenario) -> dict[str, int]:
     return planned_for(scenario, usable(scenario, scenario.steps[0]))
 
 
+def guaranteed(scenario: Scenario) -> dict[str, int]:
+    """What each leaf gets where all want all, in slices."""
+    whole = scenario.processors * scenario.period // scenario.slice
+    return planned_for(scenario, dict.fromkeys(scenario.leaves, whole))
+
+
 def entitled(scenario: Scenario) -> dict[str, int]:
     """The amounts that the scheduler is given: the plan of the mean demands, as a round of it sees
-    them, or what a leaf gets where all want all if that is more. One that asks for less than this
-    comes and goes, and then it may catch up."""
-    whole = scenario.processors * scenario.period // scenario.slice
+    them, or what a leaf is guaranteed if that is more. One that asks for less than this comes and
+    goes, and then it may catch up."""
     steps = [usable(scenario, step) for step in scenario.steps]
     means = {path: round(fmean(step.get(path, 0) for step in steps)) for path in scenario.leaves}
-    most = planned_for(scenario, dict.fromkeys(scenario.leaves, whole))
+    most = guaranteed(scenario)
     return {path: max(amount, most[path]) for path, amount in planned_for(scenario, means).items()}
 
 
@@ -90,18 +95,11 @@ def limits_of(scenario: Scenario, amounts: dict[str, int], way: Way) -> Iterator
                 yield "write", path, "cpu.max.burst", str(quota // 10)
 
 
-def own_limits(scenario: Scenario, amounts: dict[str, int]) -> dict[str, int]:
-    """The limits of the scheduler, in nanoseconds of 100 ms: a leaf's own one, and of one below a
-    limit its part of that, as the plan has it."""
-    own = {path: 1000000 * (exact.quota_of(text) or 0)
-           for path, text in scenario.files("cpu.max").items()}
-    found = {}
-    for leaf in scenario.leaves:
-        parts = [quota * amounts[leaf] / max(amounts[path], 1) for path, quota in own.items()
-                 if path == leaf or leaf.startswith(f"{path}/")]
-        if parts:
-            found[leaf] = max(int(min(parts)), 1)
-    return found
+def own_limits(scenario: Scenario) -> dict[str, int]:
+    """The limits of groups, in nanoseconds of 100 ms."""
+    quotas = {path: exact.quota_of(text) for path, text in scenario.files("cpu.max").items()}
+    return {path: max(int(1000000 * quota), 1) for path, quota in quotas.items()
+            if quota is not None}
 
 
 def held_by(scenario: Scenario, way: Way) -> Scenario:
@@ -142,7 +140,7 @@ class Job:
             early, beside = hold_lines(self.scenario, ENDS[self.repeat % len(ENDS)])
         elif self.way.is_scheduled:
             early, beside = scheduler_lines(self.scenario, entitled(self.scenario),
-                                            own_limits(self.scenario, plan(self.scenario)))
+                                            guaranteed(self.scenario), own_limits(self.scenario))
         return layout.script(held_by(self.scenario, self.way), self.span, beside, early)
 
 

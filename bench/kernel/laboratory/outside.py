@@ -2,41 +2,97 @@
 
 The proved rule knows neither. Here it is stated with both: a leaf is held back at a pick if it is
 stopped, or if each of its tasks that wait does so for other CPUs. Then others go first. A leaf that
-wakes is not lifted to the clock of one that is held back from all CPUs.
+wakes is not lifted to the clock of one that is held back from all CPUs. A task that has waited for
+long has a turn past the rule.
 """
 from __future__ import annotations
 
 from collections import Counter
 from collections.abc import Callable, Iterator, Sequence
-from dataclasses import dataclass, field
+from dataclasses import dataclass, field, replace
 from fractions import Fraction
 
 # What the proved program does not read.
-MORE = ("bound ", "stop ")
+MORE = ("bound ", "stop ", "late ")
 # What a pick or a wake is.
 ALLOWED, WRONG = "allowed", "wrong"
 BOUND, STOPPED, LIFTED = "before a bound task", "before a stopped leaf", "lifted over one held back"
+LATE = "out of turn"
+# Parts of a CPU, and the most that a leaf keeps of its lead at a new plan, in nanoseconds.
+ONE_CPU, MOST_LEAD = 1 << 20, 96_000_000
+
+
+@dataclass(frozen=True)
+class Terms:
+    """The quantum, the slack and the credit in nanoseconds."""
+
+    quantum: int = 0
+    slack: int = 0
+    credit: int = 0
 
 
 @dataclass
 class Leaf:
-    """A leaf: its amount, its charge in nanoseconds, its tasks, those that wait for some CPUs by
-    the mask of these, and whether it is stopped at its limit."""
+    """A leaf: its amount, its guarantee in parts of a CPU, what it holds of that in such parts of a
+    nanosecond, its charge in nanoseconds, its tasks, those that wait for some CPUs by the mask of
+    these, and whether it is stopped at its limit."""
 
     amount: int
+    guarantee: int = 0
+    held: int = 0
     charged: int = 0
     waiting: int = 0
     running: int = 0
     bound: Counter[int] = field(default_factory=Counter)
     is_stopped: bool = False
 
-    def is_before(self, other: Leaf) -> bool:
-        """Whether its clock is less."""
+    @property
+    def rate(self) -> int:
+        """The part of its guarantee that its tasks can use now."""
+        return min((self.waiting + self.running) * ONE_CPU, self.guarantee)
+
+    def is_due(self, terms: Terms) -> bool:
+        """Whether it is behind its guarantee by the slack."""
+        return self.rate > 0 and self.held >= terms.quantum * ONE_CPU + self.rate * terms.slack
+
+    def deadline(self, terms: Terms) -> int:
+        """Nanoseconds until a quantum more is owed, rounded up."""
+        return -((self.held - 2 * terms.quantum * ONE_CPU) // self.rate)
+
+    def is_before(self, other: Leaf, terms: Terms) -> bool:
+        """Whether it goes before another leaf: due ones by deadline, then the least clock."""
+        due, its = self.is_due(terms), other.is_due(terms)
+        if due != its:
+            return due
+        if due:
+            return self.deadline(terms) < other.deadline(terms)
         return self.charged * other.amount < other.charged * self.amount
 
     def settled(self, slice_ns: int) -> int:
         """Its charge without the slices that are charged in advance."""
         return max(self.charged - slice_ns * self.running, 0)
+
+    def credit(self, terms: Terms) -> int:
+        """What it keeps while it wants nothing."""
+        return terms.quantum * ONE_CPU + self.guarantee * terms.credit
+
+    def passed(self, nanoseconds: int, terms: Terms) -> None:
+        """Time passes."""
+        if self.waiting or self.running:
+            self.held += self.rate * nanoseconds
+        elif self.held < self.credit(terms):
+            self.held = min(self.held + self.guarantee * nanoseconds, self.credit(terms))
+
+    def pay(self, terms: Terms) -> int:
+        """Pays a quantum in advance. Returns what was paid."""
+        paid = min(self.held, terms.quantum * ONE_CPU)
+        self.held -= paid
+        return paid
+
+    def give_back(self, held_ns: int, paid: int, terms: Terms) -> None:
+        """Gives back what was not used of a quantum."""
+        left = (terms.quantum - held_ns) * ONE_CPU
+        self.held = self.held + min(left, paid) if left > 0 else max(self.held + left, 0)
 
     @property
     def is_ready(self) -> bool:
@@ -49,6 +105,15 @@ class Leaf:
             return STOPPED
         may = self.is_ready or any(mask >> cpu % 64 & 1 for mask in +self.bound)
         return "" if may else BOUND
+
+
+@dataclass
+class Run:
+    """A leaf that a processor runs, what was paid for it, and since when."""
+
+    row: int
+    paid: int
+    since: int
 
 
 def words_of(trace: str) -> Iterator[tuple[str, list[int]]]:
@@ -65,14 +130,19 @@ class Replay:
     """
 
     def __init__(self, trace: str) -> None:
-        self.slice = self.count = 0
-        self.leaves, self.runs = list[Leaf](), dict[int, int]()
+        self.slice = self.count = self.now = 0
+        self.terms = Terms()
+        self.leaves, self.runs = list[Leaf](), dict[int, Run]()
         self.found, self.lines = Counter[str](), list[str]()
+        # The level of clocks at a new plan: a charge and an amount.
+        self.level_now = (0, 1)
         self.most_away = 0
+        self.is_late = False
         steps: dict[str, Callable[..., None]] = {
-            "processors": self.processors, "slice": self.set_slice, "leaf": self.leaf,
-            "wake": self.wake, "pick": self.pick, "end": self.end, "bound": self.bound,
-            "stop": self.stop}
+            "processors": self.processors, "slice": self.set_slice, "terms": self.set_terms,
+            "leaf": self.leaf, "pass": self.passed, "wake": self.wake, "pick": self.pick,
+            "end": self.end, "leave": self.leave, "level": self.set_level, "give": self.give, "cut": self.cut,
+            "bound": self.bound, "stop": self.stop, "late": self.late}
         for line, (name, numbers) in zip(trace.splitlines(), words_of(trace)):
             if name != "pick" and not line.startswith(MORE):
                 self.lines.append(line)
@@ -92,9 +162,26 @@ class Replay:
         """The slice in nanoseconds."""
         self.slice = slice_ns
 
-    def leaf(self, _: int, amount: int) -> None:
-        """A leaf more."""
-        self.leaves.append(Leaf(amount))
+    def set_terms(self, *terms: int) -> None:
+        """The quantum, the slack and the credit."""
+        self.terms = Terms(*terms)
+
+    def leaf(self, _: int, amount: int, guarantee: int = 0) -> None:
+        """A leaf more. What it is owed is 0."""
+        self.leaves.append(Leaf(amount, guarantee, self.terms.quantum * ONE_CPU))
+
+    def passed(self, nanoseconds: int) -> None:
+        """Time passes."""
+        self.now += nanoseconds
+        for leaf in self.leaves:
+            leaf.passed(nanoseconds, self.terms)
+
+    def capped(self, row: int) -> Leaf:
+        """A leaf before a step of it: it holds no more than the most."""
+        leaf, terms = self.leaves[row], self.terms
+        leaf.held = min(leaf.held, 2 * self.count * terms.quantum * ONE_CPU
+                        + leaf.guarantee * terms.credit)
+        return leaf
 
     def level(self, leaf: Leaf, those: Sequence[Leaf]) -> int:
         """The least settled clock of leaves as a charge to one. Where nobody wants it is the
@@ -105,23 +192,26 @@ class Replay:
 
     def wake(self, row: int, tasks: int) -> None:
         """Tasks of a leaf want to run."""
-        leaf = self.leaves[row]
+        leaf = self.capped(row)
         wants = [each for each in self.leaves if each.waiting or each.running]
         if leaf not in wants:
-            seen = [each for each in wants if each.running or each.is_ready]
+            seen = [each for each in wants if each.running or not each.is_stopped
+                    and (self.terms.quantum or each.is_ready)]
             lifted = max(leaf.charged, self.level(leaf, seen))
             self.found[LIFTED] += lifted != max(leaf.charged, self.level(leaf, wants))
             leaf.charged = lifted
         leaf.waiting += tasks
 
     def pick(self, processor: int, row: int) -> None:
-        """A processor takes a task."""
-        leaf = self.leaves[row]
-        before = {each: self.leaves[each].held_back(processor // 2)
-                  for each, other in enumerate(self.leaves)
-                  if other.waiting and other.is_before(leaf)}
-        is_wrong = processor in self.runs or not leaf.waiting or leaf.is_stopped
-        kind = min(before.values(), default=ALLOWED)
+        """A processor takes a task. Before there were terms a CPU was two processors."""
+        cpu = processor if self.terms.quantum else processor // 2
+        leaf = self.capped(row)
+        before = {each: other.held_back(cpu) for each, other in enumerate(self.leaves)
+                  if other.waiting and other.is_before(leaf, self.terms)}
+        is_wrong = processor in self.runs or not leaf.waiting or (
+            leaf.is_stopped and not self.is_late)
+        kind = LATE if self.is_late else min(before.values(), default=ALLOWED)
+        self.is_late = False
         self.found[kind if kind and not is_wrong else WRONG] += 1
         away = self.away([each for each, why in before.items() if why], leaf)
         self.lines += [f"pick {at} {each}" for at, each in enumerate(away, self.count)]
@@ -130,29 +220,70 @@ class Replay:
         leaf.charged += self.slice
         leaf.waiting -= 1
         leaf.running += 1
-        self.runs[processor] = row
+        self.runs[processor] = Run(row, leaf.pay(self.terms), self.now)
 
     def away(self, rows: Sequence[int], leaf: Leaf) -> list[int]:
         """The rows of tasks that are picked by processors of their own, in order."""
         found = list[int]()
-        left = {row: [self.leaves[row].charged, self.leaves[row].waiting] for row in rows}
+        left = {row: replace(self.leaves[row]) for row in rows}
         while True:
-            waits = {row: each[0] for row, each in left.items()
-                     if each[1] and each[0] * leaf.amount < leaf.charged * self.leaves[row].amount}
+            waits = [row for row, each in left.items()
+                     if each.waiting and each.is_before(leaf, self.terms)]
             if not waits:
                 self.most_away = max(self.most_away, len(found))
                 return found
-            row = min(waits, key=lambda each: Fraction(waits[each], self.leaves[each].amount))
-            left[row][0] += self.slice
-            left[row][1] -= 1
-            found.append(row)
+            first = waits[0]
+            for row in waits[1:]:
+                if left[row].is_before(left[first], self.terms):
+                    first = row
+            left[first].charged += self.slice
+            left[first].pay(self.terms)
+            left[first].waiting -= 1
+            left[first].running += 1
+            found.append(first)
 
     def end(self, processor: int, used: int, remains: int) -> None:
-        """The end of a slice."""
-        leaf = self.leaves[self.runs.pop(processor)]
+        """The end of a slice. What a leaf wants no more it does not keep beyond its credit."""
+        run = self.runs.pop(processor)
+        leaf = self.capped(run.row)
+        before = leaf.rate
+        leaf.give_back(self.now - run.since, run.paid, self.terms)
         leaf.charged += used - self.slice
         leaf.running -= 1
         leaf.waiting += remains
+        if leaf.rate < before:
+            self.cut(run.row)
+
+    def leave(self, row: int) -> None:
+        """A task that waits leaves."""
+        leaf = self.capped(row)
+        before = leaf.rate
+        leaf.waiting -= 1
+        if leaf.rate < before:
+            self.cut(row)
+
+    def set_level(self) -> None:
+        """The level of a new plan: the least settled clock of those that want."""
+        wants = [each for each in self.leaves if each.waiting or each.running]
+        if wants:
+            least = min(wants, key=lambda each: Fraction(each.settled(self.slice), each.amount))
+            self.level_now = least.settled(self.slice), least.amount
+        else:
+            most = max(self.leaves, key=lambda each: Fraction(each.charged, each.amount))
+            self.level_now = most.charged, most.amount
+
+    def give(self, row: int, amount: int, guarantee: int) -> None:
+        """A new plan gives a leaf an amount and a guarantee. It keeps its lead."""
+        leaf = self.capped(row)
+        charge, of = self.level_now
+        lead = max(leaf.charged - charge * leaf.amount // of, 0)
+        leaf.charged = charge * amount // of + min(lead, MOST_LEAD)
+        leaf.amount, leaf.guarantee = amount, guarantee
+
+    def cut(self, row: int) -> None:
+        """A leaf keeps no more than its credit."""
+        leaf = self.capped(row)
+        leaf.held = min(leaf.held, leaf.credit(self.terms))
 
     def bound(self, row: int, mask: int, waits: int) -> None:
         """A task waits for some CPUs, or no longer."""
@@ -161,6 +292,10 @@ class Replay:
     def stop(self, row: int, is_stopped: int) -> None:
         """A leaf waits for the next period of its limit, or no longer."""
         self.leaves[row].is_stopped = bool(is_stopped)
+
+    def late(self, _: int) -> None:
+        """The next pick is out of turn."""
+        self.is_late = True
 
 
 def proved_lines(trace: str) -> str:

@@ -20,7 +20,7 @@ from kernel.planned import begin
 from kernel.scenario import Scenario
 from laboratory import outside
 from laboratory.__main__ import sources
-from laboratory.held import entitled, own_limits, plan
+from laboratory.held import entitled, guaranteed, own_limits
 
 TOP = Path(__file__).resolve().parents[3]
 DISPATCH = TOP / "crates/dispatch/out/dispatch"
@@ -33,20 +33,21 @@ def traces(kernel: packages.Kernel, setting: machine.Setting, found: Sequence[Sc
     """Boots a guest for scenarios of one board. Returns its lines, and the traces by name."""
     scripts = []
     for each in found:
-        early, beside = held.scheduler_lines(each, entitled(each), own_limits(each, plan(each)),
-                                             True)
+        early, beside = held.scheduler_lines(each, entitled(each), guaranteed(each),
+                                             own_limits(each), True)
         scripts.append(held.begun(layout.script(each, span, beside, early), each.name))
     return held.traces_in(held.lines_of(kernel, found[0].board, setting, scripts, None, True))
 
 
 def replayed(trace: str) -> str:
-    """What the program says of a trace, whose tasks that are held back are on processors of their
-    own while others go first."""
+    """What the program says of the picks of a trace, whose tasks that are held back are on
+    processors of their own while others go first. (Whether the law's premises hold it says behind.)
+    """
     if not DISPATCH.is_file():
         raise faults.KernelFault(f"no {DISPATCH}: `rt run` in crates/dispatch makes it")
     ended = subprocess.run([DISPATCH], input=outside.Replay(trace).text, capture_output=True,
                            text=True, check=False, timeout=SECONDS)
-    return ended.stdout.strip()
+    return ended.stdout.partition("\n")[0]
 
 
 def shown(kernel: packages.Kernel, found: Sequence[Scenario]) -> Iterator[tuple[str, str, str]]:
@@ -71,7 +72,9 @@ def main(words: Sequence[str]) -> int:
         wrong += bool(found[outside.WRONG]) or not said.startswith("allowed: ")
         if options.save:
             file = options.save / f"picks-{name}.txt.gz"
-            file.write_bytes(gzip.compress(trace.encode(), mtime=0))
+            file.write_bytes(gzip.compress(outside.Replay(trace).text.encode(), mtime=0))
+            whole = options.save / f"held-{name}.txt.gz"
+            whole.write_bytes(gzip.compress(trace.encode(), mtime=0))
     return 1 if wrong else 0
 
 

@@ -10,15 +10,16 @@ import os
 import shutil
 import time
 from collections.abc import Iterator
-from typing import Any
+from typing import Any, NamedTuple
 
 from arbiter import Columns, Host, LeafTimes, Reading, Round
-from arbiter_host.base import children
+from arbiter_host.base import children, units
 from arbiter_host.base.faults import HostFault, strerror
 from arbiter_host.base.model import Group, Model
 from arbiter_host.base.names import shown
 from arbiter_host.hold import hold
 from arbiter_host.hold.hold import WriteFault, Written
+from arbiter_host.sources import cgroup2, readings
 
 PROGRAM = "arbiter-scheduler"
 # Where it is looked for beside PATH.
@@ -27,10 +28,56 @@ FOLDERS = "/usr/sbin:/usr/local/sbin"
 LONGEST = 60
 # Bytes of a line of it.
 MOST_LINE = 1 << 12
-# The period of limits in nanoseconds; the greatest amount that it takes.
-LIMIT_PERIOD, MOST_AMOUNT = 10**8, 10**9
-# The leaves of a plan that it takes, beside the rest.
-MOST_LEAVES = 4095
+# The rows of a plan that it takes, beside the rest: leaves, groups with children, and the loop's own
+# group. And the limits.
+MOST_LEAVES = MOST_LIMITS = 4095
+# The period of limits in nanoseconds; the greatest amount and limit that it takes.
+LIMIT_PERIOD, MOST_AMOUNT, MOST_LIMIT = 10**8, 10**9, 512 * 10**8
+# Nanoseconds of a microsecond.
+MICRO = 1000
+# The row of the loop's own group.
+OWN_ROWS = 1
+
+
+class Limit(NamedTuple):
+    """A group's limit and burst in nanoseconds of 100 ms, and the nearest group above that has one.
+    Groups are numbers of folders; 0 is none."""
+
+    group: int
+    most: int
+    burst: int
+    above: int
+
+
+class Served(NamedTuple):
+    """A leaf's amount and guarantee in slices, and the nearest group with a limit, itself or
+    above."""
+
+    group: int
+    amount: int
+    guarantee: int
+    limited: int
+
+
+class Given(NamedTuple):
+    """What the scheduler is given: the host's slices, the limits, the leaves, and the groups with
+    children, below which others may come, each with its nearest limit."""
+
+    slices: int
+    limits: list[Limit]
+    leaves: list[Served]
+    inner: list[tuple[int, int]]
+
+    @property
+    def lines(self) -> Iterator[str]:
+        """The commands."""
+        yield f"plan {self.slices}"
+        yield from (f"limit {each.group} {each.most} {each.burst} {each.above}"
+                    for each in self.limits)
+        yield from (f"leaf {each.group} {each.amount} {each.guarantee} {each.limited}"
+                    for each in self.leaves)
+        yield from (f"inner {group} {limited}" for group, limited in self.inner)
+        yield "end"
 
 
 class Scheduler:
@@ -103,11 +150,9 @@ class Scheduler:
         except (ValueError, TypeError, IndexError) as error:
             raise self.fault("it answers what is no reading") from error
 
-    def plan(self, slices: int, leaves: list[tuple[int, int, int]]) -> None:
-        """Gives it a plan: the slices of the host, and of each leaf its number, its amount and its
-        limit in nanoseconds of 100 ms, 0 for none."""
-        self.say(f"plan {slices}", *(f"leaf {group} {amount} {limit}"
-                                     for group, amount, limit in leaves), "end")
+    def plan(self, given: Given) -> None:
+        """Gives it a plan."""
+        self.say(*given.lines)
         self.answer("plan")
 
     def end(self) -> None:
@@ -119,6 +164,37 @@ class Scheduler:
         self.child.end()
 
 
+def folders_above(top: str) -> Iterator[str]:
+    """The folders of a tree from the one below its root down to a top; none beside a tree of the
+    host."""
+    found, place = list[str](), os.path.realpath(top)
+    while len(place) > len(readings.HOST_TREE) and place.startswith(readings.HOST_TREE):
+        found.append(place)
+        place = os.path.dirname(place)
+    yield from reversed(found) if found else [top]
+
+
+def limit_of(group: int, settings: tuple[int | None, int, int], above: int) -> Limit | None:
+    """The limit of a group's quota, period and burst in microseconds, if it has one."""
+    quota, period, burst = settings
+    if quota is None:
+        return None
+    most = min(max(quota * LIMIT_PERIOD // period, 1), MOST_LIMIT)
+    return Limit(group, most, min(burst * MICRO, MOST_LIMIT), above)
+
+
+def settings_of(folder: str) -> tuple[int | None, int, int]:
+    """The quota, the period and the burst that stand in a folder; a fault where it has a limit that
+    cannot be read."""
+    text = cgroup2.file_text(folder, "cpu.max")
+    words = (text or "max 100000").split()
+    burst = cgroup2.number_in(cgroup2.file_text(folder, "cpu.max.burst") or "0")
+    quota, period = (cgroup2.number_in(word) for word in (words * 2)[:2])
+    if len(words) != 2 or not period or quota is None and words[0] != "max":
+        raise HostFault(f"{folder}: its cpu.max cannot be read")
+    return quota, period, burst or 0
+
+
 class ScheduledLoop(hold.Loop):
     """The rounds of a tree whose plan the scheduler serves."""
 
@@ -126,8 +202,11 @@ class ScheduledLoop(hold.Loop):
         super().__init__(*words, **more)
         self.scheduler, self.used = scheduler, dict[int, LeafTimes]()
         self.most_leaves = MOST_LEAVES
-        # The amount and the limit of each row, in slices.
-        self.served = list[int](), list[int | None]()
+        # The amount and the guarantee of each row, in slices.
+        self.served = list[int](), list[int]()
+        self.model = Model()
+        # What the scheduler was given last of each group.
+        self.last_limits, self.last_leaves = dict[int, Limit](), dict[int, Served]()
         # kubelet's groups are served too, since nothing in them is written
         self.is_checked = True
 
@@ -151,29 +230,86 @@ class ScheduledLoop(hold.Loop):
             self.look(kept, path)
         return self.engine.library.leaf_reading(self.host, each)
 
+    def planned(self, model: Model, used: dict[str, Reading]) -> Written:
+        """The limits of the next round."""
+        self.model = model
+        return super().planned(model, used)
+
     def ask(self, host: Host, rows: Columns, hungry: list[bool]) -> Round:
-        """The limits of the next round. And what the scheduler is given for it."""
-        self.served = self.engine.library.serve(host, rows, hungry)
+        """The limits of the next round. And what the scheduler is given for it: a leaf is
+        guaranteed what it gets where all ask for everything."""
+        library, inner = self.engine.library, set(rows.parents)
+        amounts, _ = library.serve(host, rows, hungry)
+        asks = [0 if row in inner else units.MAX_DEMAND for row in range(len(rows))]
+        self.served = amounts, library.plan(host, rows.asking(asks))
         return super().ask(host, rows, hungry)
 
     def write(self, found: Written) -> int:
-        """Gives the scheduler the amount and the limit of each leaf."""
-        slices, (amounts, limits) = self.host.capacity, self.served
-        given = list(self.places.items())[:self.most_leaves]
-        if len(given) < len(self.places):
-            self.tell([f"more than {self.most_leaves} leaves: the others are in the rest, with what"
-                       " the plan leaves"])
-        self.scheduler.plan(slices, [
-            (self.groups[path].identity[1], min(amounts[row], MOST_AMOUNT),
-             self.limit(limits[row]))
-            for path, row in given])
-        return len(given)
+        """Gives the scheduler the limits of all groups, and the amount and the guarantee of each
+        leaf."""
+        given = self.bounded(self.given())
+        self.scheduler.plan(given)
+        self.last_limits = {each.group: each for each in given.limits}
+        self.last_leaves = {each.group: each for each in given.leaves}
+        return len(given.leaves)
 
-    def limit(self, slices: int | None) -> int:
-        """A limit in nanoseconds of its period; 0 for none."""
-        if slices is None:
-            return 0
-        return max(slices * self.host.slice_us * LIMIT_PERIOD // self.host.period_us, 1)
+    def bounded(self, given: Given) -> Given:
+        """What the scheduler takes of it. Leaves beyond its rows are below the nearest group that
+        has one."""
+        inner = given.inner[:self.most_leaves // 2]
+        most = self.most_leaves - len(inner) - OWN_ROWS
+        if len(given.leaves) > most:
+            self.tell([f"more than {most} leaves: the others are in the rest, with what the plan"
+                       " leaves"])
+        if len(given.limits) > MOST_LIMITS:
+            self.tell([f"more than {MOST_LIMITS} limits: the others bind no more"])
+        kept, limits = given.leaves[:most], given.limits[:MOST_LIMITS]
+        there = {0, *(each.group for each in limits)}
+        return given._replace(inner=[(each, above * (above in there)) for each, above in inner],
+                              limits=limits, leaves=[each if each.limited in there
+                                                     else each._replace(limited=0) for each in kept])
+
+    def given(self) -> Given:
+        """What the scheduler is given. A group that cannot be read keeps what it had."""
+        limits, leaves, inner = list[Limit](), list[Served](), list[tuple[int, int]]()
+        top, nearest = self.limits_above(limits)
+        inner.append((top, nearest["."]))
+        children, (amounts, guarantees) = self.model.children(), self.served
+        for path, group in self.model.groups.items():
+            number = group.identity[1] if group.identity else 0
+            above = nearest[os.path.dirname(path) or "."]
+            limit = self.limit(path, group, number, above)
+            limits += [limit] if limit else []
+            nearest[path] = limit.group if limit else above
+            row = self.places.get(path)
+            if row is not None:
+                leaves.append(Served(number, min(amounts[row], MOST_AMOUNT), guarantees[row],
+                                     nearest[path]))
+            elif children[path]:
+                inner.append((number, nearest[path]))
+            elif number in self.last_leaves:
+                leaves.append(self.last_leaves[number]._replace(limited=nearest[path]))
+        return Given(self.host.capacity, limits, leaves, inner)
+
+    def limits_above(self, limits: list[Limit]) -> tuple[int, dict[str, int]]:
+        """Adds the limits of the top and of the groups above it. Returns the top's number, and the
+        nearest limit of what is in it."""
+        number = above = 0
+        for folder in folders_above(self.tree.top):
+            number = os.stat(folder).st_ino
+            limit = limit_of(number, settings_of(folder), above)
+            limits += [limit] if limit else []
+            above = number if limit else above
+        return number, {".": above}
+
+    def limit(self, path: str, group: Group, number: int, above: int) -> Limit | None:
+        """A group's own limit. One that is open and was not read in this round keeps its last."""
+        kept = self.groups.get(path)
+        last = self.last_limits.get(number)
+        if kept is not None and path not in self.places and last is not None:
+            return last._replace(above=above)
+        burst = kept.old.burst if kept is not None else group.burst
+        return limit_of(number, (group.quota, group.period, burst), above)
 
     def end(self) -> None:
         """Ends the scheduler."""
