@@ -2,6 +2,7 @@
 
 What the pages' scripts and commands print is held by test_documents.py; README's is held here.
 """
+import ast
 import os
 import re
 import shutil
@@ -711,6 +712,27 @@ def test_comments_name_their_item():
     found = [f"{name}:{each}" for name, path in sorted(names.items()) if name != PHRASES
              for each in headless(path.read_text(encoding="utf-8"))]
     same(found, [], "comments")
+
+
+def docstrings(source: str) -> list:
+    """The docstrings of a module of Python."""
+    nodes = (ast.Module, ast.ClassDef, ast.FunctionDef)
+    return [text for node in ast.walk(ast.parse(source)) if isinstance(node, nodes)
+            and (text := ast.get_docstring(node))]
+
+
+def test_docstrings_name_their_item():
+    """Docstrings of the packages begin with the noun that an item is, or the verb that it does."""
+    files = [*ROOT.glob("python/arbiter*/**/*.py")]
+    assert len(files) > 100, len(files)
+    found = [f"{path.relative_to(ROOT)}: {text.splitlines()[0]}" for path in sorted(files)
+             for text in docstrings(path.read_text(encoding="utf-8")) if HEADLESS.match(text)]
+    same(found, [], "docstrings")
+
+
+def test_headless_docstring_is_found():
+    source = 'def f():\n    """What it is."""\nclass A:\n    """The thing."""\n'
+    same([text for text in docstrings(source) if HEADLESS.match(text)], ["What it is."], "found")
 
 
 def test_headless_comment_is_found():

@@ -47,7 +47,7 @@ class Level(NamedTuple):
 
 
 class Figures(NamedTuple):
-    """What each group wants, is given at most and splits: columns of one entry for each row."""
+    """The wants of each group, its most and what it splits: columns of one entry for each row."""
 
     # Slices that it would take without its own limit.
     wants: array[int]
@@ -170,7 +170,7 @@ class Columns:
                    column(U64, [row.demand for row in rows], "demand"))
 
     def asking(self, demands: Sequence[int]) -> Columns:
-        """The same rows with other demands."""
+        """The rows with other demands."""
         return Columns(self.parents, self.weights, self.limits, column(U64, demands, "demand"))
 
     def __len__(self) -> int:
@@ -279,7 +279,7 @@ class Round(NamedTuple):
 
 
 class RoundTimes(NamedTuple):
-    """What is counted of a group in a round, which is the time between two readings."""
+    """The counts of a group in a round, which is the time between two readings."""
 
     # Nanoseconds that passed.
     passed: int
@@ -294,7 +294,7 @@ class RoundTimes(NamedTuple):
 
 
 class LeafTimes(NamedTuple):
-    """What is counted of a leaf that a scheduler serves in a round, in nanoseconds."""
+    """The counts of a leaf that a scheduler serves in a round, in nanoseconds."""
 
     # The time that passed.
     passed: int
@@ -305,7 +305,7 @@ class LeafTimes(NamedTuple):
 
 
 class Reading(NamedTuple):
-    """What a group used in a round and asks for, in slices of one period, rounded up."""
+    """The use of a group in a round, and what it asks for, in slices of one period, rounded up."""
 
     used: int
     # 1000000 for everything.

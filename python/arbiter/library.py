@@ -115,7 +115,7 @@ class Library:
         return number, [each if isinstance(each, array) else each.value for each in written]
 
     def ask(self, name: str, host: Host, rows: Rows, *read: Any) -> list[Any]:
-        """What a call about a tree writes. `read` are its words behind the columns of the tree."""
+        """The writes of a call about a tree. `read` are its words behind the tree's."""
         columns = Columns.of(rows)
         number, written = self.call(name, len(columns), *self.host(host), *columns.all, *read)
         if number:
@@ -123,7 +123,7 @@ class Library:
         return written
 
     def ask_host(self, name: str, host: Host, *read: Any, count: int = 0) -> list[Any]:
-        """What a call about a host writes, columns of so many entries among it."""
+        """The writes of a call about a host, columns of so many entries among it."""
         number, written = self.call(name, count, *self.host(host), *read)
         if number:
             raise self.refused(number)
@@ -169,7 +169,7 @@ class Library:
                 for kind, row in zip(kinds, blamed)]
 
     def figures(self, host: Host, rows: Rows) -> Figures:
-        """What each group wants, is given at most and splits. Refused as a plan is."""
+        """The wants of each group, its most and what it splits. Refused as a plan is."""
         return Figures(*self.ask("figures", host, rows))
 
     def hold(self, host: Host, rows: Rows, hungry: Sequence[bool]) -> Round:
@@ -192,7 +192,7 @@ class Library:
         return amounts.tolist(), limits(most)
 
     def reading(self, host: Host, times: RoundTimes, tasks: Sequence[tuple[int, int]]) -> Reading:
-        """What a group used in a round, whether it would have used more, and what it asks for.
+        """The use of a group in a round, whether it would have used more, and what it asks for.
 
         `tasks` has the nanoseconds that each task ran, and waited for a CPU, that was there at both
         readings. Refused by 50 WrongLength if there are more than the group has, as a host is, and
@@ -205,7 +205,7 @@ class Library:
         return Reading(used, asked, bool(hungry), bool(guess))
 
     def leaf_reading(self, host: Host, times: LeafTimes) -> Reading:
-        """What a leaf that a scheduler serves used in a round, and what it asks for: what it used
+        """The use in a round of a leaf that a scheduler serves, and what it asks for: what it used
         if it was idle for more than a twentieth of it, else what it would have used if no task had
         waited. Refused as a host is, and by 15 PeriodOutOfRange if no time passed.
         """
@@ -289,7 +289,7 @@ class Library:
         return self.ask("least_processors", host, rows, group, amount)[0] or None
 
     def script(self, host: Host, text: bytes) -> Script:
-        """What a script makes of a host: the groups at its end, and the lines that it refuses.
+        """The reading of a script on a host: the groups at its end, and the lines that it refuses.
 
         `text` may be any bytes. Comments change nothing.
         """

@@ -49,7 +49,7 @@ def parser_of_all() -> Parser:
 
 
 def parsed(words: Sequence[str]) -> argparse.Namespace:
-    """What the words ask for. Options may stand between the sources."""
+    """The options of the words. Options may stand between the sources."""
     name = next((word for word in words if not word.startswith("-")), "")
     at = words.index(name) if name in SUMMARIES else len(words)
     if name not in SUMMARIES or not {"-h", "--help", "-V", "--version"}.isdisjoint(words[:at]):
@@ -66,7 +66,7 @@ def parsed(words: Sequence[str]) -> argparse.Namespace:
 
 
 def unavailable() -> type[Unavailable]:
-    """What a call raises whose process has ended. (No help needs the package.)"""
+    """The error of a call whose process has ended. (No help needs the package.)"""
     from arbiter import Unavailable
     return Unavailable
 

@@ -42,7 +42,7 @@ class Rule:
         return max(math.ceil(count * self.percent / 100), 1)
 
     def words(self, count: int) -> str:
-        """What the percentile is of so many samples."""
+        """The percentile of so many samples."""
         if count == 1:
             return "the one that there is"
         rank = self.rank(count)
@@ -67,7 +67,7 @@ class SeenHost(NamedTuple):
 
 @dataclass(frozen=True)
 class Proposal:
-    """What the groups of one owner used, and what each requests and may use now and then, in
+    """The use of the groups of one owner, and what each requests and may use now and then, in
     thousandths."""
 
     title: str
@@ -105,7 +105,7 @@ class Proposal:
 
     @property
     def data(self) -> dict[str, Any]:
-        """What it was and is to be, as data."""
+        """The amounts that were and are to be, as data."""
         span = self.use.span
         return {"samples": len(self.use.values), "of": self.use.groups,
                 "span_seconds": None if span is None else float(span),
@@ -117,7 +117,7 @@ class Proposal:
 
 
 class Outcome(NamedTuple):
-    """What a group gets before and after, what it wants and is guaranteed then, in thousandths."""
+    """The amounts of a group before and after, its wants and guarantee then, in thousandths."""
 
     gets_now: Fraction
     gets: Fraction
@@ -160,7 +160,7 @@ class Recommendation:
 
     @property
     def percentile(self) -> str:
-        """What the percentile is of so many samples, the fewest and the most of a row."""
+        """The percentile of so many samples, the fewest and the most of a row."""
         counts = sorted({len(each.proposal.use.values) for each in self.rows})
         spans = [each.proposal.use.span or 0 for each in self.rows]
         many = " to ".join(map(str, dict.fromkeys([counts[0], counts[-1]])))
@@ -181,7 +181,7 @@ def span_words(seconds: Fraction | int) -> str:
 
 
 def owned_of(model: Model) -> Owned:
-    """What people own of a model's source; a fault where nothing is proposed to it."""
+    """The settings that people own of a model's source; a fault where nothing is proposed to it."""
     if model.owned is None:
         raise UsageFault("recommend is for pods, containers and units: give what `kubectl get pods"
                          " -o json`, `docker inspect` or `systemctl show` prints, or a tree of"
@@ -203,7 +203,7 @@ def rule_of(target: str, headroom: str) -> Rule:
 
 
 def of_entries(kind: Owned, entries: Iterable[Used]) -> tuple[dict[str, Use], list[str]]:
-    """What others measured of groups, and what is told of entries of no one group."""
+    """The uses of groups that others measured, and what is told of entries of no one group."""
     uses, missing = dict[str, Use](), list[str]()
     for entry in entries:
         paths = kind.named(entry.word)
@@ -295,7 +295,7 @@ def compared(engine: Engine, host: SeenHost, whole: Mapping[str, Use], rule: Rul
 
 
 def outcomes(before: Plan, after: Plan, paths: Sequence[str]) -> dict[str, Outcome]:
-    """What comes of a change for some groups, which may move, by their paths before."""
+    """The outcome of a change for some groups, which may move, by their paths before."""
     rows = before.by_path()
     then = [after.groups[rows[path].row] for path in paths]
     return {path: Outcome(before.thousandths(rows[path].gets), after.thousandths(group.gets),

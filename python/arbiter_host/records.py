@@ -25,20 +25,20 @@ def time_option(word: str, option: str) -> int:
 
 
 def host_of(options: argparse.Namespace) -> SourceOptions:
-    """What is asked of a host alone."""
+    """The options of a host alone."""
     period, slice_ = (None if word is None else time_option(word, f"--{name}")
                       for name, word in (("period", options.period), ("slice", options.slice)))
     return SourceOptions(options.cpus, period, slice_)
 
 
 def times_of(options: argparse.Namespace) -> times.Times:
-    """How often a source is read: twice where that is not said."""
+    """The times at which a source is read: two where that is not said."""
     asked = times.times_of(options.read or "2x1s")
     return asked if asked.number else asked._replace(number=2)
 
 
 def use_options(options: argparse.Namespace, **more: Any) -> UseOptions | None:
-    """What is asked of what groups used; None where nothing is said of it."""
+    """The options of what groups used; None where nothing is said of it."""
     if not options.used:
         return None
     host = host_of(options)
@@ -49,7 +49,7 @@ def use_options(options: argparse.Namespace, **more: Any) -> UseOptions | None:
 
 
 def source_options(options: argparse.Namespace, **more: Any) -> SourceOptions:
-    """What is asked of a source."""
+    """The options of a source."""
     weights = options.node_weights
     found: dict[str, Any] = {
         "kind": options.kind, "node": options.node, "want": options.want or "",

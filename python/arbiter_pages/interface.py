@@ -47,7 +47,7 @@ def c_lines(call: Call) -> str:
 
 
 def about(word: CallWord) -> str:
-    """What a word is, and the number that stands for none."""
+    """The kind of a word, and the number that stands for none."""
     return f"{word.about}; {word.none} where {word.when}" if word.none else word.about
 
 
@@ -69,7 +69,7 @@ def ways(call: Call) -> dict[str, list[CallWord]]:
 
 
 def c_comment(call: Call) -> str:
-    """What the header says of a call: its paragraph, each word of its own, and its refusals."""
+    """The text of the header on a call: its paragraph, each word of its own, and its refusals."""
     lines = comment_lines(call.about, "/* ", " * ")
     for title, words in ways(call).items():
         lines.append(f" * {title}:")

@@ -93,7 +93,7 @@ def doc(text: str, first: str = "/// ", others: str = "/// ") -> list[str]:
 
 
 def doc_lines(call: Call) -> str:
-    """What the plain function of a call says of itself."""
+    """The comment of the plain function of a call."""
     lines = doc(call.about)
     words = [(word, f"`{word.name}`: " if word.way == READ else "Gives ") for word in call.own]
     for word, begin in words:

@@ -1,4 +1,4 @@
-"""What renders the templates of this package."""
+"""The renderer of this package's templates."""
 from jinja2 import Environment, PackageLoader
 
 

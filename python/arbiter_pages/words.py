@@ -69,7 +69,7 @@ def options(each: Subcommand) -> list[Word]:
 
 
 def environment() -> Environment:
-    """What renders the templates of this package, with the questions to a subcommand."""
+    """The renderer of this package's templates, with the questions to a subcommand."""
     made = shapes.environment()
     made.filters |= {"sections": sections, "arguments": arguments, "options": options}
     return made

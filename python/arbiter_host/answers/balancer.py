@@ -251,7 +251,7 @@ class Run:
         self.is_stale = True
 
     def events(self) -> None:
-        """What happens now: a period, quotas, and the balancer of each CPU."""
+        """The events of now: a period, quotas, and the balancer of each CPU."""
         if not self.is_steady and self.now >= self.wakes - SMALL:
             self.begin_period()
         for node in self.shape.nodes:
@@ -301,7 +301,7 @@ class Run:
             task.left -= task.rate * length
 
     def had(self) -> list[float]:
-        """What each group had after the run has settled, in CPUs."""
+        """The amounts of each group after the run has settled, in CPUs."""
         self.go_on(SETTLE)
         before, begun = [node.had for node in self.shape.nodes], self.now
         self.go_on(SETTLE + COUNTED)

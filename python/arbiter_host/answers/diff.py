@@ -1,4 +1,4 @@
-"""What differs between two plans, from the first to the second."""
+"""Differences between two plans, from the first to the second."""
 from __future__ import annotations
 
 from collections.abc import Iterator
@@ -17,7 +17,7 @@ HEADS = ("gets", "then", "change", "wants", "then")
 
 
 def facts(plan: Plan, group: PlannedGroup | None) -> tuple[Any, ...] | None:
-    """What is compared of a group, in thousandths of a CPU: hosts may have other slices."""
+    """The facts that are compared of a group, in thousandths: hosts may have other slices."""
     if group is None:
         return None
     limit = None if group.limit is None else plan.thousandths(group.limit)

@@ -41,7 +41,7 @@ THROTTLED_NOTE = f"* {ELSEWHERE}: it gets less than its limit"
 
 
 class View(NamedTuple):
-    """What is shown: filters, order, depth, unit, width, and whether idle groups are.
+    """The parts that are shown: filters, order, depth, unit, width, and whether idle groups are.
 
     `chosen` are the paths of the groups that are shown, and None for all. `guaranteed` are the
     slices that a group gets whatever the others ask for, by row, where they are shown. `folded` are
@@ -77,7 +77,7 @@ class View(NamedTuple):
         return {"gets": group.gets, "wants": group.want, "limit": group.limit, **owed}
 
     def cells(self, plan: Plan, group: PlannedGroup) -> dict[str, str]:
-        """The same as text, in the unit."""
+        """The amounts as text, in the unit."""
         return {head: text.amount(plan, slices, self.unit)
                 for head, slices in self.amounts(group).items()}
 
@@ -90,7 +90,7 @@ def why(plan: Plan, group: PlannedGroup, is_wide: bool) -> str:
 
 
 def marks(plan: Plan, group: PlannedGroup) -> list[str]:
-    """What a group suffers from: `starved`, and whether it counts as throttled."""
+    """The marks of what a group suffers: `starved`, and whether it counts as throttled."""
     found = ["starved"] if group.is_starved else []
     if group.is_throttled_elsewhere:
         found.append(ELSEWHERE)

@@ -1,4 +1,4 @@
-"""How far groups may be from their plan by where Linux puts their tasks: the ends of some runs.
+"""Distances of groups from their plan by where Linux puts their tasks: the ends of some runs.
 
 The library has no rule of this. The runs are those of a model of Linux's balancer, balancer.py.
 """
@@ -44,7 +44,7 @@ class Outlook(NamedTuple):
 
 
 def unknown_of(model: Model) -> str:
-    """What is not known of a host, or is too much, in words; empty if there is nothing."""
+    """The unknowns of a host, or what is too much, in words; empty if there is nothing."""
     if model.host.processors == 1:
         return "one CPU"
     asking = [group for group in leaves(model) if group.usable > 0]
@@ -133,7 +133,7 @@ def range_of(node: Branch, spans: dict[str, tuple[float, float]], most: float,
 
 
 def outlook(model: Model) -> Outlook:
-    """How far each group may be from its plan by where Linux puts its tasks."""
+    """The distance of each group from its plan by where Linux puts its tasks."""
     unknown = unknown_of(model)
     if unknown:
         return Outlook({}, unknown)

@@ -135,8 +135,8 @@ def sample_periods(usec: int, period: int) -> int:
 
 @dataclass
 class ReplayRows:
-    """What samples ask of a host: its groups, the demands of each in each sample, and the periods
-    of a sample."""
+    """The rows of samples on a host: its groups, the demands of each in each sample, and the
+    periods of a sample."""
 
     host: Host
     paths: list[str]
@@ -299,7 +299,7 @@ def gapped(values: Sequence[float | None], x: Callable[[float], float],
 
 
 def lines_of(series: Series, path: str) -> tuple[list[float], list[float], list[float | None]]:
-    """What a group wants and gets in each sample, and its limit where that is near, in CPUs."""
+    """The wants and amounts of a group in each sample, and its limit where it is near, in CPUs."""
     host, cells = series.host, series.groups[path]
     one = host.slice_us / host.period_us
     wants, gets = ([float(each.mean(getattr(each, key))) * one for each in cells]

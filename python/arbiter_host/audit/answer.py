@@ -146,7 +146,7 @@ def number(value: Any) -> Any:
 
 
 def off_data(off: Off) -> dict[str, Any]:
-    """What was used and planned, in CPUs, and off in hundredths of one and as a part."""
+    """The use and the plan, in CPUs, and off in hundredths of one and as a part."""
     return {"used_cpus": number(off.used / 1000), "plan_cpus": number(off.planned / 1000),
             "off_hundredths": number(off.off / HUNDREDTH), "off_part": number(off.part)}
 

@@ -26,7 +26,7 @@ MOST_TRIED = 16
 
 
 class Outlooks:
-    """How far groups may be off by where tasks run, of the intervals that are asked for."""
+    """Distances of groups by where tasks run, of the intervals that are asked for."""
 
     def __init__(self, intervals: Sequence[Interval], why_not: str = "") -> None:
         self.intervals, self.of_all = intervals, why_not

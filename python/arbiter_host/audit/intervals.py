@@ -49,14 +49,14 @@ def collected(seen: Iterable[TreeReading], count: int = 0) -> list[TreeReading]:
 
 @dataclass(frozen=True)
 class Off:
-    """What was used and planned, in thousandths of a CPU, and how far off that is."""
+    """The use and the plan, in thousandths of a CPU, and how far off that is."""
 
     used: Fraction
     planned: Fraction
 
     @property
     def off(self) -> Fraction:
-        """What was used less the plan."""
+        """The use less the plan."""
         return self.used - self.planned
 
     @property
@@ -83,7 +83,7 @@ class Cell(Off):
 
 @dataclass(frozen=True)
 class Interval:
-    """What was between two readings: the leaves measured at both, and why others were not."""
+    """The cells between two readings: the leaves measured at both, and why others were not."""
 
     name: str
     seconds: Fraction
@@ -134,7 +134,7 @@ def with_demands(model: Model, cells: Mapping[str, Cell]) -> Model:
 
 
 def unplanned_of(one: TreeReading, two: TreeReading, cells: Mapping[str, Cell]) -> Fraction | None:
-    """What the whole used above what its leaves did."""
+    """The use of the whole above that of its leaves."""
     whole = between(one, two, ".") if "." in one.counted else CAME
     if isinstance(whole, str):
         return None
@@ -168,7 +168,7 @@ def interval_of(engine: Engine, one: TreeReading, two: TreeReading, want: str | 
 
 
 def told_holes(intervals: Sequence[Interval]) -> list[str]:
-    """What is told of holes: why, and of which groups."""
+    """Tells of holes: why, and of which groups."""
     reasons: dict[str, Counter[str]] = {}
     for path, why in (hole for each in intervals for hole in each.holes.items()):
         reasons.setdefault(why, Counter())[path] += 1
@@ -178,7 +178,7 @@ def told_holes(intervals: Sequence[Interval]) -> list[str]:
 
 
 def notes_of(seen: Sequence[TreeReading], intervals: Sequence[Interval]) -> list[str]:
-    """What is told of all readings and intervals."""
+    """Tells of all readings and intervals."""
     notes = told_holes(intervals)
     if all(each.reading.pressure is None for look in seen for of_path in look.counted.values()
            for each in of_path.values()):

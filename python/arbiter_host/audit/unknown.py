@@ -1,4 +1,4 @@
-"""What the model of placement does not know of a host: its kernel, and what its tasks do."""
+"""The unknowns of the model of placement on a host: its kernel, and what its tasks do."""
 from __future__ import annotations
 
 import re

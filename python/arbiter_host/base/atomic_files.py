@@ -47,7 +47,7 @@ def check_way(path: str, descriptor: int, is_own: bool = False) -> None:
 
 
 def link_text(path: str, descriptor: int) -> str:
-    """What a link holds; empty for what is none. Anybody makes links in a sticky folder, so a link
+    """The text of a link; empty for what is none. Anybody makes links in a sticky folder, so a link
     has to be this user's or root's."""
     status = os.fstat(descriptor)
     if not stat.S_ISLNK(status.st_mode):

@@ -72,8 +72,8 @@ class Child:
         self.has_input_end = is_last
 
     def step(self, until: float) -> bool:
-        """Moves what can be moved. It waits for that, or for the end of the program, until a time at
-        most. False where nothing more comes: it has ended, and all that it left was read."""
+        """Moves what can be moved. It waits for that, or for the end of the program, until a time
+        at most. False where nothing more comes: it has ended, and all that it left was read."""
         has_ended = self.has_ended()
         if has_ended and self.prints:
             self.kill()
@@ -134,7 +134,7 @@ class Child:
 
 
 class Ended(NamedTuple):
-    """How a program ended: its status, what it printed, and the end of standard error."""
+    """The end of a program: its status, what it printed, and the end of standard error."""
 
     status: int
     out: bytes

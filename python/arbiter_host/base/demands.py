@@ -35,7 +35,7 @@ class CounterReading(NamedTuple):
 
 @dataclass
 class Measured:
-    """What is known of one group's demand: readings, and thousandths of a CPU requested."""
+    """The facts of one group's demand: readings, and thousandths of a CPU requested."""
 
     readings: list[CounterReading] = field(default_factory=list)
     request: Fraction | None = None
@@ -48,8 +48,8 @@ class Measured:
 
 @dataclass(frozen=True)
 class Use:
-    """What was seen of a group: thousandths in each sample, what it wanted at least where its limit
-    has throttled it, and when; None where that is not told."""
+    """The use that was seen of a group: thousandths in each sample, what it wanted at least where
+    its limit has throttled it, and when; None where that is not told."""
 
     values: tuple[Fraction, ...]
     wanted: Fraction = Fraction(0)
@@ -66,7 +66,7 @@ class Use:
 
 
 def together(uses: Sequence[Use]) -> Use:
-    """What was seen of several groups that have the same settings."""
+    """The use that was seen of several groups that have the same settings."""
     times = [each.times for each in uses if each.times is not None]
     return Use(tuple(value for each in uses for value in each.values),
                max(each.wanted for each in uses),
@@ -114,7 +114,7 @@ def limit_of(group: Group, host: Host) -> Fraction:
 
 
 def pressed(group: Group, measured: Measured, host: Host, seconds: Fraction) -> Fraction:
-    """What the group used, raised by the time in which it waited or was throttled.
+    """The use of the group, raised by the time in which it waited or was throttled.
 
     Usage is divided by the part of the time without pressure. A throttled group wants at least
     its limit, raised by its periods over those that were not throttled.
@@ -132,7 +132,7 @@ def pressed(group: Group, measured: Measured, host: Host, seconds: Fraction) -> 
 
 
 def use_of(group: Group, measured: Measured, host: Host, seconds: Fraction) -> Use | None:
-    """What was seen of a group. Its waiting does not count: it may be for others, not its limit."""
+    """The use that was seen of a group. Its waiting does not count: it may be for others."""
     values = used(measured, seconds)
     if not values:
         return None

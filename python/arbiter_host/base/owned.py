@@ -155,7 +155,7 @@ class Owned:
         return path
 
     def owner(self, path: str) -> str:
-        """What makes a group, for people: all that one has made have the same settings."""
+        """The maker of a group, for people: all that one has made have the same settings."""
         return self.title(path)
 
     def now(self, path: str) -> Amounts:

@@ -54,7 +54,7 @@ def asking(what: str) -> Iterator[None]:
 
 
 class Engine:
-    """What plans and checks: the C library in this process, or a checked build of its calls."""
+    """The planner and its check: the C library in this process, or a checked build of its calls."""
 
     def __init__(self, library: Library) -> None:
         self.library = library
@@ -75,7 +75,7 @@ class Engine:
 
     def periods(self, host: Host, groups: QuotaColumns, demands: array[int], times: int,
                 carries: array[int]) -> Samples:
-        """What periods add up to; `carries` is written with what the last one leaves."""
+        """The sums of periods; `carries` is written with what the last one leaves."""
         planned(self.library, host)
         with asking("no plan"):
             return self.library.periods(host, groups, demands, times, carries)
@@ -228,7 +228,7 @@ class Plan:
         return [explained(self, group) for group in self.groups]
 
     def guaranteed(self, row: int) -> int:
-        """What a group gets whatever the groups that are not under it ask for, in slices."""
+        """The guarantee of a group, whatever groups that are not under it ask for, in slices."""
         with asking("guarantee"):
             return self.engine.library.guarantee(self.planned_host, self.columns, row)
 
@@ -317,8 +317,8 @@ def plan(engine: Engine, model: Model) -> Plan:
 
 
 def guarantees(before: Plan, chosen: Sequence[PlannedGroup]) -> list[int]:
-    """What each of some groups gets whatever the groups that are not under it ask for, in slices.
-    """
+    """The guarantee of each of some groups, whatever those that are not under it ask for, in
+    slices."""
     owed = []
     with progress.bar("groups", len(chosen)) as step:
         for group in chosen:

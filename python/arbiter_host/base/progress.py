@@ -1,4 +1,4 @@
-"""What takes long: a bar on a terminal, and calls that no interrupt waits for."""
+"""Calls that take long: a bar on a terminal, and calls that no interrupt waits for."""
 from __future__ import annotations
 
 import sys
@@ -30,7 +30,7 @@ def bar(what: str, total: int) -> Iterator[Callable[[], None]]:
 
 
 def in_thread(call: Callable[[], T], seconds: float | None = None) -> T:
-    """What a call answers, in a thread that ends with the command: no interrupt waits for it. A
+    """The answer of a call, in a thread that ends with the command: no interrupt waits for it. A
     TimeoutError after so many seconds."""
     from concurrent.futures import Future  # (few calls take long)
     future: Future[T] = Future()

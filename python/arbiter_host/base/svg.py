@@ -70,7 +70,7 @@ def swatch(y: float, colour: str, tall: float = 12) -> Callable[[float], str]:
 
 def legend(x: float, y: float,
            marks: Iterable[tuple[str, float, Callable[[float], str]]]) -> Iterator[str]:
-    """What marks mean: each mark, and behind so much room its name."""
+    """The legend of marks: each mark, and behind so much room its name."""
     for name, room, mark in marks:
         yield mark(x)
         yield words((x + room, y), name, INK, 11)

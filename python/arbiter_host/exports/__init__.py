@@ -35,7 +35,7 @@ class Differing(NamedTuple):
 
     @property
     def words(self) -> str:
-        """What changes, for a comment: one line."""
+        """The change, for a comment: one line."""
         one, two = (apply.settings_of(each) for each in (self.before, self.after))
         return f"{shown(self.path)}: {apply.in_words(one)} -> {apply.in_words(two)}"
 

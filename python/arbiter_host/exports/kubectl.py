@@ -32,7 +32,7 @@ Rows = dict[str, dict[str, Resources]]
 
 
 class Target(NamedTuple):
-    """What a patch is of."""
+    """The target of a patch."""
 
     kind: str
     namespace: str
@@ -45,7 +45,7 @@ class Target(NamedTuple):
 
 
 def target_of(pod: Pod) -> Target:
-    """What owns a pod as far up as its template may be changed; else the pod."""
+    """The owner of a pod as far up as its template may be changed; else the pod."""
     kind, _, owner = pod.owner.partition(" ")
     namespace, _, name = owner.partition("/")
     return Target(kind, namespace, name) if kind else Target("Pod", pod.namespace, pod.name)
@@ -102,7 +102,7 @@ def paired(draft: Draft) -> Iterator[Differing]:
 
 
 def settings_of(source: PodSource, patches: Mapping[Target, Rows]) -> Iterator[Setting]:
-    """What the patches set: containers of all pods of their targets."""
+    """The settings of the patches: containers of all pods of their targets."""
     for path in source.own:
         pod, number, _ = source.part(path)
         rows = patches.get(target_of(pod), {}).get(list_of(pod.parts[number]), {})

@@ -71,7 +71,7 @@ def sums(plan: Plan) -> dict[str, int]:
 
 
 def explained(_: Job, plans: Iterator[Plan], told: dict[str, Any]) -> dict[str, Any]:
-    """What a host serves, which groups are worst off, and what limits the total."""
+    """The amounts that a host serves, which groups are worst off, and what limits the total."""
     plan = next(plans)
     worst = sorted((each.gets - each.want, each.path, each.row) for each in leaves(plan)
                    if each.gets < each.want)[:MOST_NAMED]
@@ -100,7 +100,7 @@ def losses(rises: Sequence[tuple[int, str]], sign: int = -1) -> list[list[Any]]:
 
 
 def compared(_: Job, plans: Iterator[Plan], told: dict[str, Any]) -> dict[str, Any]:
-    """Who gains by a change and who loses."""
+    """The groups that gain by a change, and those that lose."""
     before, after, paths = next(plans), next(plans), told["matched"]
     rises = moved(before, after)
     of_set = [rise for rise, path in rises
@@ -113,7 +113,7 @@ def compared(_: Job, plans: Iterator[Plan], told: dict[str, Any]) -> dict[str, A
 
 
 def placed(job: Job, plans: Iterator[Plan], told: dict[str, Any]) -> dict[str, Any]:
-    """What each pod gets by itself beside what is there, and who loses."""
+    """The amounts of each pod by itself beside what is there, and who loses."""
     before, pods = next(plans), list[dict[str, Any]]()
     for (name, _), pod in zip(job.pods, told["pods"], strict=True):
         if "why" in pod:

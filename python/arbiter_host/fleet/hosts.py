@@ -153,7 +153,7 @@ def of_cluster(word: str, items: Sequence[dict[str, Any]], used: Sequence[Used] 
 
 
 def metrics_of(used: Sequence[Used], want: str) -> dict[str, dict[str, Any]]:
-    """What was used as objects of metrics-server, by the title of the pod: the mean, the greatest
+    """The use as objects of metrics-server, by the title of the pod: the mean, the greatest
     or the 95th percentile of several amounts."""
     metrics: dict[str, dict[str, Any]] = {}
     for each in used:

@@ -124,7 +124,7 @@ def in_processes(count: int, job: Job,
 
 
 def reply(future: Answered) -> Sent | str:
-    """What a worker sent, or the error that it ended with."""
+    """The words that a worker sent, or the error that it ended with."""
     error = future.exception()
     return future.result() if error is None else (
         f"its worker: {type(error).__name__}: {cut(str(error), 200)}")
@@ -186,7 +186,7 @@ def by_dask(address: str, job: Job, hosts: Iterator[HostFile]) -> Replies:
 
 
 def replies(workers: int, scheduler: str | None, job: Job, hosts: Iterator[HostFile]) -> Replies:
-    """What comes of each host, in the order in which it comes. Some may not come at all."""
+    """The outcome of each host, in the order in which it comes. Some may not come at all."""
     if scheduler is not None:
         return by_dask(scheduler, job, hosts)
     if workers:

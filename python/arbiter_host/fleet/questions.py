@@ -26,7 +26,7 @@ Missing = list[tuple[str, str]]
 
 
 class Planners(NamedTuple):
-    """Who plans: so many processes of this machine (None: one for each processor), or a running
+    """The planners: so many processes of this machine (None: one for each processor), or a running
     scheduler of Dask."""
 
     workers: int | None = None
@@ -43,7 +43,7 @@ class Planners(NamedTuple):
 
 
 def samples_of(uses: UseOptions, fleet: Fleet) -> Samples:
-    """What gives each host its samples."""
+    """Gives each host its samples."""
     if not fleet.is_cluster:
         by_host = used.by_host(uses)
         return lambda host: by_host(host.name)

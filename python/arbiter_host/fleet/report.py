@@ -131,7 +131,7 @@ def of_plan(hosts: Sequence[HostAnswer], _: str) -> Parts:
 
 
 def lost(host: HostAnswer) -> Fraction:
-    """What the groups of a host lose, in CPUs."""
+    """The losses of the groups of a host, in CPUs."""
     return host.cpus(-sum(rise * count for rise, count in host.answer["changes"] if rise < 0))
 
 

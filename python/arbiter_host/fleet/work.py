@@ -1,4 +1,4 @@
-"""What a worker does: reads one host.
+"""The work of a worker: it reads one host.
 
 It sends the rows of its plans, and what the file says beside them. They are planned, and what they
 come to is worked out, where they are gathered, by `answers`.
@@ -24,7 +24,7 @@ from arbiter_host.sources.source_options import SourceOptions
 
 
 class Action(Enum):
-    """What is asked of each host: its plan, what a change does, how it takes pods, or the sums of
+    """The question to each host: its plan, what a change does, how it takes pods, or the sums of
     samples."""
 
     PLAN = auto()
@@ -78,7 +78,7 @@ class SentRows(NamedTuple):
 
 
 class Sent(NamedTuple):
-    """What a worker sends of a host: the rows of its plans, and what its file says beside them."""
+    """The message of a worker on a host: the rows of its plans, and what its file says beside."""
 
     host: Host
     plans: list[SentRows]

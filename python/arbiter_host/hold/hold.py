@@ -101,7 +101,7 @@ IDLE = Reading(0, 0, False)
 
 
 class Written(NamedTuple):
-    """What a round writes, by path: the line of each leaf, its quota, None for its own limit, and
+    """The writes of a round, by path: the line of each leaf, its quota, None for its own limit, and
     all weights."""
 
     told: dict[str, Line]
@@ -305,7 +305,7 @@ class Loop:
 
     def counted(self, folder: str, stat: str, is_leaf: bool, before: Counted | None = None
                 ) -> Counted:
-        """What is counted of a group, and what its tasks did if some waited since the last time."""
+        """The counts of a group, and what its tasks did if some waited since the last time."""
         reading = cgroup2.counters(stat, self.text(folder, "cpu.pressure"))
         has_waited = before is None or rise(before.reading.pressure, reading.pressure)
         if not is_leaf or not has_waited:
@@ -433,7 +433,7 @@ class Loop:
         return model, self.read_groups(model, there)
 
     def read_groups(self, model: Model, there: Mapping[str, bool]) -> dict[str, Reading]:
-        """What each leaf used since its last reading. New groups are opened."""
+        """The use of each leaf since its last reading. New groups are opened."""
         used, faults = dict[str, Reading](), list[HostFault]()
         spent, parts = Counter[Identity | None](), self.tree.parts
         self.readings += 1
@@ -462,7 +462,7 @@ class Loop:
         return used
 
     def read_group(self, path: str, has_look: bool) -> Reading:
-        """What a group used since its last reading, and what it asks for. Of a group that was idle
+        """The use of a group since its last reading, and what it asks for. Of a group that was idle
         cpu.stat tells whether it still is."""
         kept = self.groups[path]
         if has_look:
@@ -553,7 +553,7 @@ class Loop:
         return stands.quota or 0 if is_alike else 0
 
     def limited(self, path: str, kept: Kept, found: Written) -> Settings:
-        """What is written for a limit: what stood where that allows no more."""
+        """The text that is written for a limit: what stood where that allows no more."""
         quota = found.quotas[path]
         if found.told[path]["limit"] == 0:
             self.tell(["limits below 1 ms are rounded up to it"])
@@ -562,7 +562,7 @@ class Loop:
         return apply.known(kept.old.weight, quota, self.host.period_us, 0)
 
     def target_of(self, path: str, kept: Kept, found: Written) -> Settings:
-        """What a group is to hold. A leaf without a limit of the rule holds what it holds."""
+        """The limit that a group is to hold. A leaf without one of the rule holds what it holds."""
         if kept.is_left or kept.is_let_go:
             return kept.old
         if kept.is_leaf and path not in found.told:

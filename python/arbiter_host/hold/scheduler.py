@@ -94,7 +94,7 @@ class Scheduler:
         self.answer("ready")
 
     def fault(self, about: str) -> WriteFault:
-        """What it said when it ended; it is ended if it has not."""
+        """The last words that it said; it is ended if it has not."""
         self.child.kill()
         until = time.monotonic() + LONGEST
         while self.child.step(until) and time.monotonic() < until:
@@ -140,7 +140,7 @@ class Scheduler:
         return found
 
     def read(self) -> dict[int, LeafTimes]:
-        """What each group of the last plan did since the last reading, by the number of its
+        """The times of each group of the last plan since the last reading, by the number of its
         folder."""
         self.say("read")
         *leaves, last = self.answer("read")
@@ -220,8 +220,8 @@ class ScheduledLoop(hold.Loop):
         return super().read()
 
     def read_group(self, path: str, has_look: bool) -> Reading:
-        """What a group used and asked for: the kernel counts what tasks wait, so no hunger is
-        guessed. One that was in no plan yet is read as by limits."""
+        """The use of a group and what it asked for: the kernel counts what tasks wait, so no hunger
+        is guessed. One that was in no plan yet is read as by limits."""
         kept = self.groups[path]
         each = self.used.get(kept.identity[1])
         if each is None or not each.passed:

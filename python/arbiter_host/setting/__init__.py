@@ -1,1 +1,1 @@
-"""How settings of a host are set and brought back, and the record of what was there."""
+"""Settings of a host, set and brought back, and the record of what was there."""

@@ -65,7 +65,7 @@ class Settings:
         return {WEIGHT: str(self.weight), MAXIMUM: self.maximum, BURST: str(self.burst)}
 
     def taking(self, file: str, other: Settings) -> Settings:
-        """The same but for a file, which holds what it does in other settings."""
+        """A step but for a file, which holds what it does in other settings."""
         return replace(self, **{key: getattr(other, key) for key in FIELDS[file]})
 
 

@@ -44,14 +44,14 @@ def locked_soon(file: int) -> bool:
 
 
 class LastLoop(NamedTuple):
-    """What the file of a lock tells of the last loop: the top of its tree, and its undo file."""
+    """The text of a lock's file of the last loop: the top of its tree, and its undo file."""
 
     top: str
     undo: str = ""
 
 
 def last_loop(file: int) -> LastLoop:
-    """What the file of a lock tells."""
+    """Reads the file of a lock."""
     return LastLoop(*os.fsdecode(os.pread(file, MOST_TEXT, 0)).split("\0")[:2])
 
 
@@ -83,7 +83,7 @@ def lock(path: str, top: str = "", undo: str = "") -> list[int]:
 
 
 def holder(path: str) -> LastLoop | None:
-    """What is told of the loop that runs by the lock of a folder; None where none does, or where
+    """The text about the loop that runs by the lock of a folder; None where none does, or where
     this user cannot tell."""
     try:
         file = os.open(os.path.join(path, LOCK), os.O_RDONLY | os.O_NONBLOCK | FLAGS)

@@ -337,7 +337,7 @@ class PodSource(Measurable):
         return requested_by(self.pods), self.allocatable
 
     def changed(self, settings: Sequence[Setting]) -> PodSource:
-        """The same with other requests and limits. All are made before they are checked."""
+        """Pods with other requests and limits. All are made before they are checked."""
         pods, changed = list(self.pods), set()
         for setting in settings:
             place, number = self.built[1][setting.path]

@@ -23,7 +23,7 @@ Opened = tuple[str, bytes | None]
 
 
 def kind_of(path: str, data: bytes | None) -> str:
-    """What a source is: by its name, else by its first bytes. No data stands for a folder."""
+    """The kind of a source: by its name, else by its first bytes. No data stands for a folder."""
     if data is None:
         return "cgroup"
     name = path.lower()
@@ -41,7 +41,7 @@ def is_of_use(options: SourceOptions) -> bool:
 
 
 def of_service(options: SourceOptions, word: str) -> list[Opened]:
-    """What a service tells, as files. Units are asked again after a time, so that their use is
+    """The words of a service, as files. Units are asked again after a time, so that their use is
     known, unless it is not asked for."""
     from arbiter_host.sources.services import RunningService
     service = RunningService(word)

@@ -63,11 +63,11 @@ class Measurable(Owned):
         return replace(self, host=host)
 
     def makers_of(self, _: Used) -> set[str]:
-        """What may have made a container that an entry names and that is not here."""
+        """The makers that may have made a container that an entry names and that is not here."""
         return set()
 
     def with_usage(self: S, entries: Sequence[Used], name: str) -> S:
-        """The same with what others measured. What it has no container of is told."""
+        """A source with what others measured. What it has no container of is told."""
         (source,), notes = measured([self], entries, name)
         return replace(source, notes=(*self.notes, *notes))
 

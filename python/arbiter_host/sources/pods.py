@@ -125,7 +125,7 @@ class Pod:
         return "Guaranteed" if equal and self.is_memory_equal else "Burstable"
 
     def given(self, container: Container) -> Amounts:
-        """What a container is given: without a limit of its own that of the pod itself."""
+        """The amounts of a container: without a limit of its own that of the pod itself."""
         request, limit = container.amounts.request, container.amounts.limit or self.own.limit
         return Amounts(limit if request is None else request, limit)
 
@@ -155,7 +155,7 @@ class Taint(NamedTuple):
 
 @dataclass(frozen=True)
 class NodeFacts:
-    """What a node says of the pods that it takes."""
+    """The word of a node on the pods that it takes."""
 
     is_cordoned: bool = False
     taints: tuple[Taint, ...] = ()
@@ -247,7 +247,7 @@ def containers_of(pod: dict[str, Any], where: str, notes: list[str]) -> tuple[Co
 
 
 def requested(containers: Sequence[Container], key: str) -> int:
-    """What a pod's containers take at most at once, in thousandths, by request or limit."""
+    """The most that a pod's containers take at once, in thousandths, by request or limit."""
     sidecars, most, together = 0, 0, 0
     for each in containers:
         value = getattr(each.amounts, key) or 0
@@ -307,7 +307,7 @@ def pairs_of(labels: dict[str, Any]) -> tuple[tuple[str, str], ...]:
 
 
 def owner_of(pod: dict[str, Any]) -> str:
-    """What makes a pod of a template: kind, namespace and name; empty for nothing. A ReplicaSet
+    """The maker of a pod of a template: kind, namespace and name; empty for nothing. A ReplicaSet
     with the pod's hash behind its name is its Deployment's."""
     owner = next((each for each in tables(pod, "metadata", "ownerReferences")
                   if each.get("controller") is True), None)
@@ -356,7 +356,7 @@ def pod_of(pod: dict[str, Any], notes: list[str]) -> Pod:
 
 
 def node_facts(node: dict[str, Any] | None) -> NodeFacts:
-    """What a node's JSON says of the pods that it takes."""
+    """The facts of a node's JSON on the pods that it takes."""
     return NodeFacts(field(node, "spec", "unschedulable") is True,
                      tuple(Taint(*(text_field(each, key) for key in Taint._fields))
                            for each in tables(node, "spec", "taints")

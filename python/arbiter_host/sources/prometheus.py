@@ -1,4 +1,4 @@
-"""What groups used over time, from a server of Prometheus."""
+"""The use of groups over time, from a server of Prometheus."""
 from __future__ import annotations
 
 import math
@@ -84,7 +84,7 @@ def range_of(word: str | None, step: str | None, default: str = "1d") -> QueryRa
 
 
 def of_range(url: str, query: str, asked: QueryRange, parsed: Callable[[Any], Parsed]) -> Parsed:
-    """What is parsed of the answer to a range query."""
+    """Parses the answer to a range query."""
     if not is_address(url):
         raise UsageFault(f"{shown(url)}: not http:// or https://")
     words = urllib.parse.urlencode({"query": query, "start": asked.start, "end": asked.end,
@@ -97,7 +97,7 @@ def of_range(url: str, query: str, asked: QueryRange, parsed: Callable[[Any], Pa
 
 
 def column_of(labels: Mapping[str, str], url: str) -> str:
-    """What a series is of: a container by namespace, pod and name, a pod, a unit or a group."""
+    """The subject of a series: a container by namespace, pod and name, a pod, a unit or a group."""
     whole = [labels[key] for key in ("namespace", "pod", "container") if labels.get(key)]
     if whole and (labels.get("pod") or labels.get("container")):
         return "/".join(whole)

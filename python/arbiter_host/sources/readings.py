@@ -31,7 +31,7 @@ CAME, FELL, STILL = ("groups that came or went", "groups whose counters fell",
 
 
 class Counted(NamedTuple):
-    """What is counted of a group: its counters, what its tasks did, and the seconds at which that
+    """The counts of a group: its counters, what its tasks did, and the seconds at which that
     was counted. Without such a time it is that of the reading."""
 
     reading: CounterReading
@@ -66,17 +66,17 @@ class Span(NamedTuple):
 
     @property
     def used(self) -> Fraction:
-        """What it used, in thousandths of a CPU."""
+        """Its use, in thousandths of a CPU."""
         return units.thousandths_of_usage(self.risen.usage or 0, self.seconds)
 
     def reading(self, library: Library, host: Host, group: Group) -> Reading:
-        """What it used and asks for, and whether it would have used more, by the library."""
+        """Its use and what it asks for, and whether it would have used more, by the library."""
         passed = int(self.seconds * 10**9)
         return reading_of(library, up_to_64_cpus(host), self.risen, passed, self.before, self.after,
                           allowed(group.quota, group.period, group.burst, passed))
 
     def measured(self, tasks: int | None) -> Measured:
-        """The same as two readings."""
+        """The span as two readings."""
         first = CounterReading(*(None if each is None else 0 for each in self.risen))
         return Measured([first, self.risen], tasks=tasks)
 
@@ -88,7 +88,7 @@ def allowed(quota: int | None, period: int, burst: int, passed: int) -> int | No
 
 def reading_of(library: Library, host: Host, rose: CounterReading, passed: int,
                before: task_times.Tasks, after: task_times.Tasks, allowed: int | None) -> Reading:
-    """What a group used in so many nanoseconds and asks for, by the library."""
+    """The use of a group in so many nanoseconds, and what it asks for, by the library."""
     times = RoundTimes(passed, rose.usage or 0, rose.pressure or 0, len(after),
                        allowed is not None and bool(rose.throttled), allowed)
     tasks = [each[:2] for each in task_times.rises(before, after)] if after else ()
@@ -101,7 +101,7 @@ def risen(one: Counted, two: Counted) -> CounterReading:
 
 
 def span_of(one: Counted, two: Counted, seconds: Fraction) -> Span | str:
-    """What was counted from one reading to the next, or why that says nothing. These are so many
+    """The counts from one reading to the next, or why that says nothing. These are so many
     seconds apart unless both have times of their own."""
     if one.at is not None and two.at is not None:
         seconds = two.at - one.at
@@ -125,7 +125,7 @@ def sum_of(spans: Sequence[Span]) -> Span:
 
 
 def between(one: TreeReading, two: TreeReading, path: str) -> Span | str:
-    """What was counted of a group from one reading to the next, or why that says nothing."""
+    """The counts of a group from one reading to the next, or why that says nothing."""
     before, after = one.counted.get(path, {}), two.counted.get(path, {})
     if before.keys() != after.keys() or not after:
         return CAME
@@ -298,7 +298,7 @@ class OverTime:
     number: int = 1
 
     def measured(self, path: str) -> Measured:
-        """What is known of the demand of a group."""
+        """The facts of a group's demand."""
         return Measured(self.counters.get(path, []), tasks=self.first.tasks.get(path))
 
     @property
@@ -325,9 +325,9 @@ def series_of(folders: Sequence[str], host: Host, times: Times) -> OverTime:
 
 def measured_at(folders: Sequence[str], times: Times, places: Mapping[Place, Sequence[str]]
                 ) -> tuple[dict[Place, Measured], Fraction]:
-    """What a tree, or its copies, have of groups that a source has no counters of; and the seconds
-    from one reading to the next. Each has the folders below the top at which it may be. It is
-    measured at the first that is there."""
+    """The measures in a tree, or its copies, of groups that a source has no counters of; and the
+    seconds from one reading to the next. Each has the folders below the top at which it may be. It
+    is measured at the first that is there."""
     series = series_of(folders, Host(), times)
     top = os.path.realpath(folders[0])
     paths = {os.path.relpath(group.place, top): path

@@ -60,7 +60,7 @@ class History(NamedTuple):
                                                   for name in each.cells)]))
 
     def of_columns(self, is_meant: Callable[[str], bool]) -> History:
-        """The same of some columns alone."""
+        """The samples of some columns alone."""
         return History([each for each in self.holes if is_meant(each)], [
             each._replace(cells={name: cell for name, cell in each.cells.items()
                                  if is_meant(name)}) for each in self.samples])

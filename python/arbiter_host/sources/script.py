@@ -107,7 +107,7 @@ def add_groups(model: Model, script: Script, slices: Slices) -> None:
 
 
 def asked_of(library: Library, host: Host, data: bytes) -> Script:
-    """What the library makes of a script. On more than 64 CPUs it is asked for 64: that decides
+    """The library's reading of a script. On more than 64 CPUs it is asked for 64: that decides
     only what a `period` leaves over."""
     with asking("the script"):
         of_host = replace(host, processors=min(host.processors, MAX_PROCESSORS))

@@ -28,7 +28,7 @@ SECONDS, PAGE, MOST_PAGES = 120, 500, 2000
 
 
 def printed(words: Sequence[str]) -> bytes:
-    """What a command prints. A fault where it fails, prints too much or takes too long."""
+    """The output of a command. A fault where it fails, prints too much or takes too long."""
     ended = children.run(words, SECONDS, MAX_BYTES, environment={**os.environ, "LC_ALL": "C"})
     if ended.status:
         last = ended.said.decode(errors="replace").strip().split("\n")[-1]
@@ -46,7 +46,7 @@ class RunningService:
         self.tool = [*TOOLS[self.kind], *([f"--context={context}"] if context else [])]
 
     def printed(self, *words: str) -> bytes:
-        """What its tool prints."""
+        """The output of its tool."""
         return printed([*self.tool, *words])
 
     def objects(self, path: str, kind: str, **asked: str) -> Iterator[dict[str, Any]]:
@@ -74,7 +74,7 @@ class RunningService:
         return json.dumps({"kind": "List", "items": items}).encode()
 
     def source(self, node: str = "") -> bytes:
-        """What it tells of its groups, as its tool prints it."""
+        """Its groups, as its tool prints them."""
         if self.kind == "k8s":
             return self.cluster(node)
         if self.kind == "systemd":
@@ -83,7 +83,7 @@ class RunningService:
         return self.printed("inspect", "--type", "container", *known) if known else b"[]"
 
     def used(self) -> bytes:
-        """What its containers used at one time, as its tool prints it."""
+        """The use of its containers at one time, as its tool prints it."""
         if self.kind == "systemd":
             raise UsageFault("--used: systemd:// tells what units used where it is the source")
         if self.kind == "k8s":

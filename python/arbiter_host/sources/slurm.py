@@ -131,7 +131,7 @@ def time_of(word: str) -> int:
 
 
 def cores_of(node: dict[str, Any]) -> int:
-    """How many cores of a node a job was allotted, as Slurm 22.05 tells them."""
+    """The cores of a node that a job was allotted, as Slurm 22.05 tells them."""
     return sum(text_field(cores, core) == "allocated" for socket in table(node, "sockets").values()
                for cores in [table(socket, "cores")] for core in cores)
 
@@ -150,7 +150,7 @@ def allotted(raw: dict[str, Any]) -> list[tuple[str, int, bool]]:
 
 
 def alias_of(raw: dict[str, Any]) -> str:
-    """What sacct calls a job where that is not its number: `ARRAY_TASK` or `FIRST+OFFSET`."""
+    """The name of a job in sacct where it is not its number: `ARRAY_TASK` or `FIRST+OFFSET`."""
     for above, key, mark in (("array_job_id", "array_task_id", "_"),
                              ("het_job_id", "het_job_offset", "+")):
         first = count(raw, above)
@@ -201,7 +201,7 @@ def step_of(row: dict[str, str], nodes: Sequence[str]) -> JobStep:
 
 
 def alias_in(row: Mapping[str, str], identifier: str) -> str:
-    """What a row of sacct calls a job beside its number; empty where it is no other."""
+    """The name that a row of sacct has for a job beside its number; empty where it is no other."""
     match = IDENTIFIER.fullmatch(row.get("JobID", ""))
     return match[1] if match and match[1] != identifier else ""
 

@@ -1,4 +1,4 @@
-"""What is asked of a source, and of what its groups used."""
+"""Options of a source, and of what its groups used."""
 from __future__ import annotations
 
 import os
@@ -25,7 +25,7 @@ File = tuple[str, bytes]
 
 @dataclass(frozen=True)
 class UseOptions:
-    """What is asked of what groups used: the words of `--used`, and how they are read."""
+    """The options of what groups used: the words of `--used`, and how they are read."""
 
     words: tuple[str, ...]
     # What of the use is meant; empty for the mean.
@@ -55,7 +55,7 @@ class UseOptions:
 
 @dataclass(frozen=True)
 class SourceOptions:
-    """What is asked of a source, whatever its kind: the host, the node, the conversions of shares,
+    """The options of a source, whatever its kind: the host, the node, the conversions of shares,
     the driver, and the rule for demands. kubelet writes the weights of kubepods, classes and pods,
     the runtime those of containers."""
 
@@ -133,12 +133,12 @@ class SourceOptions:
             self.check(kind)
 
     def without_use(self, kind: str) -> SourceOptions:
-        """The same for a source of a kind, after that was checked, that is read as it is."""
+        """Options for a source of a kind, after that was checked, that is read as it is."""
         self.check_kind(kind)
         return replace(self, uses=None, is_reread=False, check=None)
 
     def for_containers(self, want: str, folder: str) -> SourceOptions:
-        """The same with a rule for demands where none is asked for, and with the driver of the
+        """Options with a rule for demands where none is asked for, and with the driver of the
         tree: cgroupfs makes a folder of this name at its top."""
         is_there = self.tree and os.path.isdir(os.path.join(self.tree, folder))
         return replace(self, want=self.want or ("usage" if self.uses else want),

@@ -159,7 +159,7 @@ class Units(Owned):
     seconds: Fraction = field(default=Fraction(1), kw_only=True)
 
     def counters(self) -> Mapping[str, Measured]:
-        """What was read of each group."""
+        """The readings of each group."""
         raise NotImplementedError
 
     def seen(self) -> dict[str, Use]:

@@ -1,4 +1,4 @@
-"""What the tasks of a group did in a round, from /proc/TASK/schedstat.
+"""The times of a group's tasks in a round, from /proc/TASK/schedstat.
 
 Pressure alone does not tell whether a group would have used more: tasks that are served wait too.
 The library's call `arbiter_reading` has the rule.
@@ -31,7 +31,7 @@ Tasks = dict[int, TaskTimes]
 
 
 def task(number: int, has_ranks: bool) -> TaskTimes | None:
-    """What a task did; None where it is gone."""
+    """The times of a task; None where it is gone."""
     folder = f"{PROC}/{number}"
     words = (file_text(folder, "schedstat") or "").split()
     ran, waited = (number_in(word) for word in (words + ["", ""])[:2])
@@ -46,14 +46,14 @@ def task(number: int, has_ranks: bool) -> TaskTimes | None:
 
 
 def tasks(text: str, has_ranks: bool = False) -> Tasks:
-    """What the tasks of a list did. Of a longer list the first ones are read."""
+    """The times of the tasks of a list. Of a longer list the first ones are read."""
     numbers = (number_in(word) for word in text.split()[:MOST_TASKS])
     pairs = ((number, task(number, has_ranks)) for number in numbers if number)
     return {number: each for number, each in pairs if each is not None}
 
 
 def rises(before: Tasks, now: Tasks) -> Iterator[TaskTimes]:
-    """What each task did that was there at both readings."""
+    """The rises of each task that was there at both readings."""
     for number, two in now.items():
         one = before.get(number)
         if one is not None and one.ran <= two.ran and one.waited <= two.waited:

@@ -17,7 +17,7 @@ MICROSECONDS, MAX_SECONDS, MAX_READINGS = 10**6, 86400, 10000
 
 
 class Times(NamedTuple):
-    """How often a source is read: seconds between readings, and their number; None for no end."""
+    """The times of a source's readings: seconds between them, and their number; None for no end."""
 
     interval: Fraction = Fraction(1)
     number: int | None = 2

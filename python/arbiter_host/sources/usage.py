@@ -1,4 +1,4 @@
-"""What containers used, as others measured it: each entry with the names that its file has.
+"""The use of containers, as others measured it: each entry with the names that its file has.
 
     kubectl top pods -A --containers
     kubectl get --raw /apis/metrics.k8s.io/v1beta1/pods
@@ -40,7 +40,7 @@ PERCENT = re.compile(r"([0-9]{1,12}(?:\.[0-9]{1,12})?)%")
 
 
 class Used(NamedTuple):
-    """What one container used, in thousandths of a CPU, at one time or at several. Names that a
+    """The use of one container, in thousandths of a CPU, at one time or at several. Names that a
     file lacks are empty."""
 
     amounts: tuple[Fraction, ...]

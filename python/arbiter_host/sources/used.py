@@ -1,4 +1,4 @@
-"""What groups used, by the words of `--used`: files, a folder, or the address of a server.
+"""The use of groups, by the words of `--used`: files, a folder, or the address of a server.
 
 The form of a file is found, as that of a source is: what was used at one time, as `kubectl top`,
 metrics-server and `docker stats` print it, or samples over time.
@@ -79,7 +79,7 @@ def asked_range(uses: UseOptions) -> prometheus.QueryRange:
 
 
 def metrics_of(uses: UseOptions, word: str) -> list[prometheus.Metric]:
-    """What a server answers to the query of the options."""
+    """The answer of a server to the query of the options."""
     return prometheus.read(word, uses.query, asked_range(uses))
 
 
@@ -121,7 +121,7 @@ def is_served(uses: UseOptions) -> bool:
 
 
 def entries(uses: UseOptions) -> list[Used]:
-    """What each container used, by all words: an entry for each column of samples, or each of one
+    """The use of each container, by all words: an entry for each column of samples, or each of one
     moment, of which a mean alone is meant.
 
     A column without a number in a sample has none there. A column may name the container of a pod.

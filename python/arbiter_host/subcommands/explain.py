@@ -15,7 +15,7 @@ from arbiter_host.subcommands.base import are_many, chosen, loaded, source_name,
 
 
 def shown_view(options: argparse.Namespace, plan: Plan) -> View:
-    """What is shown of a plan, with what the groups are guaranteed where that is asked for."""
+    """The view of a plan, with what the groups are guaranteed where that is asked for."""
     view = view_of(options, chosen(options, plan.model))
     if not options.guaranteed:
         return view

@@ -146,7 +146,7 @@ class Service:
 
 
 def times_of(asked: argparse.Namespace, period: int) -> Times:
-    """How long a round is, and how many readings there are."""
+    """The length of a round, and the number of readings."""
     times = read_times(asked.read)
     if period not in PERIODS:
         raise UsageFault("--period: 100ms or 1s")

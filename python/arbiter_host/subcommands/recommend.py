@@ -30,7 +30,7 @@ from arbiter_host.subcommands.base import chosen, source_name
 
 
 def options_of(options: argparse.Namespace) -> SourceOptions:
-    """What is asked of the source and of its use: of that as much time as most servers have."""
+    """The options of the source and of its use: of that as much time as most servers have."""
     more: dict[str, Any] = {"span": "14d", "unit": options.unit, "idle": tuple(
         each for each in OF_SAMPLES if each in options.given)}
     return source_options(options, uses=use_options(options, **more))
@@ -79,7 +79,7 @@ def models_of(options: SourceOptions, paths: Sequence[str], by: Engine
 
 
 def uses_of(options: SourceOptions, model: Model) -> dict[str, Use]:
-    """What was seen of each group: with the source, or of units in samples beside it."""
+    """The uses that were seen of each group: with the source, or of units in samples beside it."""
     owned = recommend.owned_of(model)
     seen = owned.seen()
     if options.uses and owned.noun == "unit":

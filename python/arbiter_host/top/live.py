@@ -27,7 +27,7 @@ ENDS = "qQ\x04"
 
 @dataclass
 class Recent:
-    """What each group got in the last pictures, in slices; the latest stands last."""
+    """The amounts of each group in the last pictures, in slices; the latest stands last."""
 
     pictures: deque[dict[str, int]] = field(default_factory=lambda: deque(maxlen=HISTORY))
 
@@ -44,7 +44,7 @@ class Recent:
 
 @dataclass
 class Keys:
-    """What keys have changed of the view."""
+    """The changes of the view by keys."""
 
     sort: int = 0
     only: int = 0

@@ -35,12 +35,12 @@ USED = 8
 
 
 def used(plan: Plan, got: Fraction | None, unit: str) -> str:
-    """What a group used, in a unit; `-` where it was not measured."""
+    """The use of a group, in a unit; `-` where it was not measured."""
     return "-" if got is None else text.measured(plan.model.host, got, unit)
 
 
 class Viewer:
-    """What is shown of the last round, and where the reader is."""
+    """The view of the last round, and the place of the reader."""
 
     def __init__(self, view: Callable[[Plan], View], put: Callable[[Lines], None],
                  keyboard: int | None) -> None:

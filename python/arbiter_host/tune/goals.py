@@ -21,7 +21,7 @@ NEEDED = "; none of the changes can be left out"
 
 
 class Goal(NamedTuple):
-    """What a group is to get at least, in slices of one period."""
+    """The least that a group is to get, in slices of one period."""
 
     group: PlannedGroup
     amount: int
@@ -121,7 +121,7 @@ class Goals:
         return needs
 
     def amount(self, after: Plan, row: int) -> int:
-        """What a goal of a group is measured by in a plan."""
+        """The measure of a group's goal in a plan."""
         return after.guaranteed(row) if self.is_guaranteed else after.groups[row].gets
 
     def amounts(self, after: Plan) -> tuple[int, ...]:

@@ -73,7 +73,7 @@ class Raised:
         return row
 
     def raised(self, goal: Goal) -> Raised | str:
-        """The same with the least value that meets one goal, or why there is none."""
+        """Settings with the least value that meets one goal, or why there is none."""
         row = self.row_of(goal)
         if isinstance(row, str):
             return row
@@ -85,7 +85,7 @@ class Raised:
             f"{shown(goal.group.path)}: no {of.key} reaches its goal ({of.most})")
 
     def lifted(self, goal: Goal, row: int) -> Raised | None:
-        """The same with the least value that meets one goal under the greatest limit, and then the
+        """Settings with the least value that meets one goal under the greatest limit, and then the
         least limit beside it; None where the row has no limit, or none helps."""
         limit = self.ranges(row)[1]
         if limit.now == "-" or not limit.parts:
@@ -102,7 +102,7 @@ class Raised:
         return None if most is None else wide.with_value(row, limit, most)
 
     def weighed(self, weights: Sequence[int]) -> Raised | None:
-        """The same with the least settings that give groups some weights at least, and no other
+        """Settings with the least that give groups some weights at least, and no other
         group another weight. None where a group that changes has no such setting."""
         known = self
         for group, weight in zip(self.goals.before.groups, weights):

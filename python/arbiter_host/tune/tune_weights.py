@@ -47,7 +47,7 @@ def halves(goals: Goals) -> dict[int, int]:
 
 
 def by_weights(goals: Goals, keeps: Mapping[int, int] = {}) -> Way | Clash:
-    """The same as settings with their accepted plan."""
+    """The weights as settings with their accepted plan."""
     answer = own_weights(goals, keeps)
     if isinstance(answer, Clash):
         return answer
@@ -58,7 +58,7 @@ def by_weights(goals: Goals, keeps: Mapping[int, int] = {}) -> Way | Clash:
 
 
 def best_weights(goals: Goals) -> Way | Clash:
-    """The same where each other group keeps half of what it gets, or else where weights do not
+    """Weights where each other group keeps half of what it gets, or else where weights do not
     allow that."""
     half = by_weights(goals, halves(goals))
     if isinstance(half, Way):
