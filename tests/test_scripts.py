@@ -756,6 +756,17 @@ def test_test_of_the_checked_build(copy, failures):
     same([line[:42] for line in asked], ["python -m pytest tests python/tests --check"[:42]], "what runs")
 
 
+def test_what_the_checked_build_leaves_out():
+    """Each line names tests that are there, and has a reason."""
+    lines = (ROOT / "tests/checked/left_out.txt").read_text().splitlines()
+    rows = [line.split("\t") for line in lines if not line.startswith("#")]
+    same([row for row in rows if len(row) != 2 or not row[1]], [], "lines without a reason")
+    for begin, _ in rows:
+        file, _, name = begin.partition("::")
+        found = list(ROOT.glob(f"{file}*"))
+        same(any(f"\ndef {name}" in path.read_text() for path in found), True, begin)
+
+
 # The gate leaves a library of each crate. The kit tells its stamp.
 LEAVES = """for crate in crates/*; do
   mkdir -p "$crate/out/rlib/${crate#crates/}.rlib" && : >"$crate/out/rlib/${crate#crates/}.rlib/format"
