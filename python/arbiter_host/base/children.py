@@ -133,7 +133,7 @@ class Child:
         return self.process.returncode
 
 
-class Ended(NamedTuple):
+class Finished(NamedTuple):
     """The end of a program: its status, what it printed, and the end of standard error."""
 
     status: int
@@ -142,7 +142,7 @@ class Ended(NamedTuple):
 
 
 def run(words: Sequence[str], seconds: float, most: int = 0, given: bytes = b"",
-        environment: Mapping[str, str] | None = None) -> Ended:
+        environment: Mapping[str, str] | None = None) -> Finished:
     """Runs a program to its end. It may print so many bytes; with 0 it has the output of this one.
 
     # Errors
@@ -163,4 +163,4 @@ def run(words: Sequence[str], seconds: float, most: int = 0, given: bytes = b"",
                                 f" {seconds} seconds")
     finally:
         status = child.end()
-    return Ended(-1 if status is None else status, bytes(child.out), child.said)
+    return Finished(-1 if status is None else status, bytes(child.out), child.said)
