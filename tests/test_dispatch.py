@@ -85,8 +85,17 @@ RESERVED = {
     "a plan with another guarantee": (
         HALVES + TURN.format(0) + "level\ngive 0 7 524287\n" + TURN.format(1), 2,
         FAIL.format(12, 1, 10)),
+    # a quantum of processor time may be lost, and counts anew once no leaf waits
     "a processor that idles": (
-        HALVES + "pass 3\n" + TURN.format(1), 1, FAIL.format(8, 1, 6)),
+        HALVES + "pass 4\n" + TURN.format(1), 1, HOLD.format(6)),
+    "a processor that idles for long": (
+        HALVES + "pass 5\n" + TURN.format(1), 1, FAIL.format(8, 1, 6)),
+    "a processor that idles again": (
+        HALVES + "pass 3\n" + TURN.format(1) + "pass 2\n" + TURN.format(0), 2,
+        FAIL.format(12, 1, 10)),
+    "a processor that idles after a quiet time": (
+        HALVES + "leave 1\npass 3\n" + "pick 0 0\npass 4\nend 0 4 0\npass 9\nwake 1 1\npass 4\n"
+        + TURN.format(1), 2, HOLD.format(13)),
     "a run beyond its quantum": (
         HALVES + "pick 0 0\npass 5\nend 0 5 1\n", 1, FAIL.format(9, 2, 5)),
     "a task that leaves": (HALVES + "leave 1\n" + TURN.format(0), 1, HOLD.format(6)),

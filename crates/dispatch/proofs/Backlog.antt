@@ -22,7 +22,7 @@ use Rattle.dispatch.specs.declared.reservation.Step.TheVariants.{Pass, Wake, Pic
 use Rattle.dispatch.specs.declared.reservation.Step.TheVariants.{Give, Leave, Cut}
 use Rattle.dispatch.specs.Rule as shares
 use Rattle.dispatch.specs.Windows.{over_runs, of_run, RunsWithin, IsBusy, NoneWaits}
-use Rattle.dispatch.specs.Windows.{WaitsBeyondCredit, HasTasksForGuarantees, IsPrompt, IsFair}
+use Rattle.dispatch.specs.Windows.{WaitsBeyondCredit, HasTasksForGuarantees, IsFair, IsLost}
 use Rattle.dispatch.specs.Windows.{IsFairRun, after_all, IsAtRest, FitsHost}
 use Rattle.dispatch.proofs.Counts.{length_set}
 use Rattle.dispatch.proofs.Demands.{demand, demand_less, demand_within, demand_later, demand_paid}
@@ -48,7 +48,7 @@ abbrev pub one : Run → ℕ
 one run = 1
 
 -- each state of a run
-pub record Backlog (processors : ℕ) (t : Reservations) : Type 0 where
+pub record Backlog (processors lost : ℕ) (t : Reservations) : Type 0 where
   pub processors_are : length t.processors ≡ processors
   pub slack : t.slack ≤ t.credit
   pub guarantees : sum_by (λ a. a.guarantee) t.accounts ≤ WHOLE * processors
@@ -57,7 +57,7 @@ pub record Backlog (processors : ℕ) (t : Reservations) : Type 0 where
       → over_runs k one t.processors ≡ (account_at t k).share.running
   pub room : (e : ℕ) → sum_by (rest (quantum_of t)) t.processors
       + sum_by (demand_by (quantum_of t) t.credit e) t.accounts + quantum_of t
-      ≤ WHOLE * processors * e + 2 * processors * quantum_of t
+      ≤ WHOLE * processors * e + 2 * processors * quantum_of t + WHOLE * lost
 
 -- ---- items of a list
 
@@ -215,11 +215,11 @@ known_at : (s : Reservations) (i : ℕ) → i < length s.accounts
 known_at s i known = slice_get-get_or s.accounts i no_account known
 
 -- the runs of a leaf, where the leaf at i is another with as many
-runs_kept : (n : ℕ) (s : Reservations) (i : ℕ) (a : Account) → Backlog n s
+runs_kept : (n w : ℕ) (s : Reservations) (i : ℕ) (a : Account) → Backlog n w s
     → i < length s.accounts → a.share.running ≡ (account_at s i).share.running → (k : ℕ)
     → k < length (slice_set s.accounts i a) → over_runs k one s.processors
     ≡ (get_or (slice_set s.accounts i a) k no_account).share.running
-runs_kept n s i a b known same k inside = elim (account_set s.accounts i k a known) [
+runs_kept n w s i a b known same k inside = elim (account_set s.accounts i k a known) [
   | inl h ↦
       let before : over_runs k one s.processors ≡ (account_at s k).share.running =
       b.runs k (omega (arith, inside, length_set s.accounts i a)) in
@@ -235,11 +235,11 @@ runs_kept n s i a b known same k inside = elim (account_set s.accounts i k a kno
 ]
 
 -- a leaf is owed less
-pub lowered : (n : ℕ) (s : Reservations) (i : ℕ) (a : Account) → Backlog n s
+pub lowered : (n w : ℕ) (s : Reservations) (i : ℕ) (a : Account) → Backlog n w s
     → i < length s.accounts → a.guarantee ≡ (account_at s i).guarantee
     → a.share.running ≡ (account_at s i).share.running → a.owed ≤ (account_at s i).owed
-    → Backlog n (with_account s i a)
-lowered n s i a b known same_g same_r less = record {
+    → Backlog n w (with_account s i a)
+lowered n w s i a b known same_g same_r less = record {
   processors_are = b.processors_are;
   slack = b.slack;
   guarantees = omega (
@@ -254,7 +254,7 @@ lowered n s i a b known same_g same_r less = record {
     same_r,
     sum_set (λ x. x.share.running) s.accounts i (account_at s i) a (known_at s i known),
   );
-  runs = runs_kept n s i a b known same_r;
+  runs = runs_kept n w s i a b known same_r;
   room = λ e. omega (
     arith,
     b.room e,
@@ -406,11 +406,11 @@ run_of_other i k ne = ap (λ b. if◌then◌else◌ {A = ℕ} b 1 0) (ne_eqb i k
 abbrev begun : Reservations → ℕ → Run
 begun s i = record { leaf = i; paid = paid_by s (account_at s i); age = 0 }
 
-picked_runs : (n : ℕ) (s : Reservations) (p i : ℕ) → Backlog n s → MayPick s p i → (k : ℕ)
+picked_runs : (n w : ℕ) (s : Reservations) (p i : ℕ) → Backlog n w s → MayPick s p i → (k : ℕ)
     → k < length (slice_set s.accounts i (picked s (account_at s i)))
     → over_runs k one (slice_set s.processors p (Some (begun s i)))
     ≡ (get_or (slice_set s.accounts i (picked s (account_at s i))) k no_account).share.running
-picked_runs n s p i b may k inside =
+picked_runs n w s p i b may k inside =
     let more = sum_set (of_run k one) s.processors p None (Some (begun s i)) may.free in
     let known : k < length s.accounts =
     omega (arith, inside, length_set s.accounts i (picked s (account_at s i))) in
@@ -461,18 +461,18 @@ picked_demand s i e =
     (let more : ((account_at s i).share.running + 1) * quantum_of s
     ≡ (account_at s i).share.running * quantum_of s + quantum_of s = omega arith in more)
 
-picked_room : (n : ℕ) (s : Reservations) (p i e : ℕ) → 0 < n → Backlog n s
+picked_room : (n w : ℕ) (s : Reservations) (p i e : ℕ) → 0 < n → Backlog n w s
     → WaitsBeyondCredit s → HasTasksForGuarantees s → MayPick s p i
     → sum_by (rest (quantum_of s)) (slice_set s.processors p (Some (begun s i)))
     + sum_by (demand_by (quantum_of s) s.credit e)
     (slice_set s.accounts i (picked s (account_at s i))) + quantum_of s
-    ≤ WHOLE * n * e + 2 * n * quantum_of s
-picked_room n s p i e some b beyond all may = pays_or_less s i e Goal paid bounded where
+    ≤ WHOLE * n * e + 2 * n * quantum_of s + WHOLE * w
+picked_room n w s p i e some b beyond all may = pays_or_less s i e Goal paid bounded where
   Goal : Type 0
   Goal = sum_by (rest (quantum_of s)) (slice_set s.processors p (Some (begun s i)))
       + sum_by (demand_by (quantum_of s) s.credit e)
       (slice_set s.accounts i (picked s (account_at s i))) + quantum_of s
-      ≤ WHOLE * n * e + 2 * n * quantum_of s
+      ≤ WHOLE * n * e + 2 * n * quantum_of s + WHOLE * w
 
   paid : Pays s i e → Goal
   paid pays =
@@ -481,7 +481,7 @@ picked_room n s p i e some b beyond all may = pays_or_less s i e Goal paid bound
       (sum_by (demand_by (quantum_of s) s.credit e) s.accounts)
       (sum_by (demand_by (quantum_of s) s.credit e)
       (slice_set s.accounts i (picked s (account_at s i)))) (quantum_of s)
-      (WHOLE * n * e + 2 * n * quantum_of s)
+      (WHOLE * n * e + 2 * n * quantum_of s + WHOLE * w)
       (demand_by (quantum_of s) s.credit e (account_at s i))
       (demand_by (quantum_of s) s.credit e (picked s (account_at s i))) (b.room e)
       (let set : sum_by (rest (quantum_of s)) (slice_set s.processors p (Some (begun s i))) + 0
@@ -520,7 +520,7 @@ picked_room n s p i e some b beyond all may = pays_or_less s i e Goal paid bound
       (slice_set s.processors p (Some (begun s i))) ≤ m * quantum_of s)
       (length_set s.processors p (Some (begun s i)) ∙ b.processors_are)
       (rest_at_most (quantum_of s) (slice_set s.processors p (Some (begun s i)))) in
-      room_bounded (sum_by (rest (quantum_of s)) (slice_set s.processors p (Some (begun s i))))
+      let room = room_bounded (sum_by (rest (quantum_of s)) (slice_set s.processors p (Some (begun s i))))
       (sum_by (demand_by (quantum_of s) s.credit e)
       (slice_set s.accounts i (picked s (account_at s i))))
       (sum_by (λ x. x.guarantee) s.accounts) (sum_by (λ x. x.share.running) s.accounts)
@@ -532,12 +532,13 @@ picked_room n s p i e some b beyond all may = pays_or_less s i e Goal paid bound
             (quantum_of s) s.accounts,
       ))
       b.guarantees b.total
-      (omega (arith, free_one s.processors p may.free, b.processors_are))
+      (omega (arith, free_one s.processors p may.free, b.processors_are)) in
+      omega (arith, room)
 
-pub backlog_picked : (n : ℕ) (s : Reservations) (p i : ℕ) → 0 < n → Backlog n s
+pub backlog_picked : (n w : ℕ) (s : Reservations) (p i : ℕ) → 0 < n → Backlog n w s
     → WaitsBeyondCredit s → HasTasksForGuarantees s → MayPick s p i
-    → Backlog n (state_picked s p i)
-backlog_picked n s p i some b beyond all may = record {
+    → Backlog n w (state_picked s p i)
+backlog_picked n w s p i some b beyond all may = record {
   processors_are = length_set s.processors p (Some (begun s i)) ∙ b.processors_are;
   slack = b.slack;
   guarantees = omega (
@@ -553,8 +554,8 @@ backlog_picked n s p i some b beyond all may = record {
         (known_at s i may.known),
     sum_set busy s.processors p None (Some (begun s i)) may.free,
   );
-  runs = picked_runs n s p i b may;
-  room = λ e. picked_room n s p i e some b beyond all may;
+  runs = picked_runs n w s p i b may;
+  room = λ e. picked_room n w s p i e some b beyond all may;
 }
 
 -- ---- an end
@@ -586,13 +587,13 @@ is_ended s run used remains a =
         owed = settled_owed (quantum_of s) run.paid (WHOLE * run.age) (min a.owed (most_of s a));
       }
 
-ended_runs : (n : ℕ) (s : Reservations) (p : ℕ) (run : Run) (a : Account) → Backlog n s
+ended_runs : (n w : ℕ) (s : Reservations) (p : ℕ) (run : Run) (a : Account) → Backlog n w s
     → slice_get s.processors p ≡ Some (Some run) → run.leaf < length s.accounts
     → a.share.running ≡ (account_at s run.leaf).share.running - 1 → (k : ℕ)
     → k < length (slice_set s.accounts run.leaf a)
     → over_runs k one (slice_set s.processors p None)
     ≡ (get_or (slice_set s.accounts run.leaf a) k no_account).share.running
-ended_runs n s p run a b is known fewer k inside =
+ended_runs n w s p run a b is known fewer k inside =
     let less = sum_set (of_run k one) s.processors p (Some run) None is in
     let here : k < length s.accounts =
     omega (arith, inside, length_set s.accounts run.leaf a) in
@@ -613,10 +614,10 @@ ended_runs n s p run a b is known fewer k inside =
     ]
 
 -- a run that ends is one of its leaf's
-some_running : (n : ℕ) (s : Reservations) (p : ℕ) (run : Run) → Backlog n s
+some_running : (n w : ℕ) (s : Reservations) (p : ℕ) (run : Run) → Backlog n w s
     → slice_get s.processors p ≡ Some (Some run) → run.leaf < length s.accounts
     → 0 < (account_at s run.leaf).share.running
-some_running n s p run b is known =
+some_running n w s p run b is known =
     let less = sum_set (of_run run.leaf one) s.processors p (Some run) None is in
     omega (arith, less, b.runs run.leaf known, run_of_same run.leaf run.leaf refl)
 
@@ -642,15 +643,15 @@ ended_demand s run a now e some is =
           ∙ (let more : (now.share.running + 1) * quantum_of s
           ≡ now.share.running * quantum_of s + quantum_of s = omega arith in more)
 
-pub backlog_ended : (n : ℕ) (s : Reservations) (p used : ℕ) (remains : Bool) (run : Run)
-    → Backlog n s → slice_get s.processors p ≡ Some (Some run)
+pub backlog_ended : (n w : ℕ) (s : Reservations) (p used : ℕ) (remains : Bool) (run : Run)
+    → Backlog n w s → slice_get s.processors p ≡ Some (Some run)
     → run.leaf < length s.accounts
-    → Backlog n (state_ended s p used remains (Some (Some run)))
-backlog_ended n s p used remains run b is known =
+    → Backlog n w (state_ended s p used remains (Some (Some run)))
+backlog_ended n w s p used remains run b is known =
     let i = run.leaf in
     let now = ended s run used remains (account_at s run.leaf) in
     let h = is_ended s run used remains (account_at s run.leaf) in
-    let some = some_running n s p run b is known in
+    let some = some_running n w s p run b is known in
     record {
       processors_are = length_set s.processors p None ∙ b.processors_are;
       slack = b.slack;
@@ -668,7 +669,7 @@ backlog_ended n s p used remains run b is known =
         sum_set (λ x. x.share.running) s.accounts i (account_at s i) now (known_at s i known),
         sum_set busy s.processors p (Some run) None is,
       );
-      runs = ended_runs n s p run now b is known h.running;
+      runs = ended_runs n w s p run now b is known h.running;
       room = λ e. omega (
         arith,
         b.room e,
@@ -747,10 +748,18 @@ abbrev state_passed : Reservations → ℕ → Reservations
 state_passed s t =
     record s { accounts = map (passed s t) s.accounts; processors = map (aged t) s.processors }
 
-room_busy : (rests rests' demands demands' q n e t : ℕ)
-    → rests + demands + q ≤ WHOLE * n * (e + t) + 2 * n * q → rests' + WHOLE * (t * n) ≤ rests
-    → demands' ≤ demands → rests' + demands' + q ≤ WHOLE * n * e + 2 * n * q
-room_busy rests rests' demands demands' q n e t before less fewer =
+room_busy : (rests rests' demands demands' q n w e t : ℕ)
+    → rests + demands + q ≤ WHOLE * n * (e + t) + 2 * n * q + WHOLE * w
+    → rests' + WHOLE * (t * n) ≤ rests → demands' ≤ demands
+    → rests' + demands' + q ≤ WHOLE * n * e + 2 * n * q + WHOLE * w
+room_busy rests rests' demands demands' q n w e t before less fewer =
+    omega (arith, before, less, fewer)
+
+room_lost : (rests rests' demands demands' q n w e t : ℕ)
+    → rests + demands + q ≤ WHOLE * n * (e + t) + 2 * n * q + WHOLE * w → rests' ≤ rests
+    → demands' ≤ demands
+    → rests' + demands' + q ≤ WHOLE * n * e + 2 * n * q + WHOLE * (w + n * t)
+room_lost rests rests' demands demands' q n w e t before less fewer =
     omega (arith, before, less, fewer)
 
 room_short : (rests' demands' guarantees n q e t : ℕ) → 0 < n
@@ -769,117 +778,144 @@ room_idle rests' demands' guarantees n q e some none most fits =
     let one_processor : 1 * q ≤ n * q = mul-le-mul_right q some in
     omega (arith, none, most, until, one_processor)
 
-passed_room : (n : ℕ) (s : Reservations) (t e : ℕ) → 0 < n → Backlog n s → IsPrompt s
+-- after the time, with so much lost
+abbrev HasRoom : ℕ → ℕ → Reservations → ℕ → ℕ → Type 0
+HasRoom n lost s t e = sum_by (rest (quantum_of s)) (map (aged t) s.processors)
+    + sum_by (demand_by (quantum_of s) s.credit e) (map (passed s t) s.accounts) + quantum_of s
+    ≤ WHOLE * n * e + 2 * n * quantum_of s + WHOLE * lost
+
+nearer_demands : (s : Reservations) (t e : ℕ)
+    → sum_by (demand_by (quantum_of s) s.credit e) (map (passed s t) s.accounts)
+    ≤ sum_by (demand_by (quantum_of s) s.credit (e + t)) s.accounts
+nearer_demands s t e =
+    sum_map (demand_by (quantum_of s) s.credit e) (demand_by (quantum_of s) s.credit (e + t))
+    (passed s t) s.accounts no_account (λ k known. passed_demand s t e (account_at s k))
+
+rest_aged : (q t : ℕ) (r : Option Run) → rest q (aged t r) ≤ rest q r
+rest_aged q t None = omega arith
+rest_aged q t (Some run) = omega arith
+
+busy_room : (n w : ℕ) (s : Reservations) (t e : ℕ) → Backlog n w s
+    → AllByRecursion IsBusy s.processors
+    → AllByRecursion (RunsWithin s.quantum t) s.processors → HasRoom n w s t e
+busy_room n w s t e b all within =
+    room_busy (sum_by (rest (quantum_of s)) s.processors)
+    (sum_by (rest (quantum_of s)) (map (aged t) s.processors))
+    (sum_by (demand_by (quantum_of s) s.credit (e + t)) s.accounts)
+    (sum_by (demand_by (quantum_of s) s.credit e) (map (passed s t) s.accounts)) (quantum_of s) n w
+    e t (b.room (e + t))
+    (subst (λ (m : ℕ). sum_by (rest (quantum_of s)) (map (aged t) s.processors)
+    + WHOLE * (t * m) ≤ sum_by (rest (quantum_of s)) s.processors) b.processors_are
+    (aged_busy s.quantum t s.processors all within))
+    (nearer_demands s t e)
+
+lost_room : (n w : ℕ) (s : Reservations) (t e : ℕ) → Backlog n w s
+    → HasRoom n (w + n * t) s t e
+lost_room n w s t e b =
+    room_lost (sum_by (rest (quantum_of s)) s.processors)
+    (sum_by (rest (quantum_of s)) (map (aged t) s.processors))
+    (sum_by (demand_by (quantum_of s) s.credit (e + t)) s.accounts)
+    (sum_by (demand_by (quantum_of s) s.credit e) (map (passed s t) s.accounts)) (quantum_of s) n w
+    e t (b.room (e + t))
+    (sum_map (rest (quantum_of s)) (rest (quantum_of s)) (aged t) s.processors None
+    (λ k known. rest_aged (quantum_of s) t (get_or s.processors k None)))
+    (nearer_demands s t e)
+
+quiet_room : (n w : ℕ) (s : Reservations) (t e : ℕ) → 0 < n → Backlog n w s → NoneWaits s
     → WaitsBeyondCredit s → AllByRecursion (RunsWithin s.quantum t) s.processors
     → sum_by (rest (quantum_of s)) (map (aged t) s.processors)
     + sum_by (demand_by (quantum_of s) s.credit e) (map (passed s t) s.accounts) + quantum_of s
     ≤ WHOLE * n * e + 2 * n * quantum_of s
-passed_room n s t e some b prompt beyond within =
-    elim prompt [
-      | inl all ↦ all_busy all
-      | inr none ↦ quiet none
-    ] where
-      Goal : Type 0
-      Goal = sum_by (rest (quantum_of s)) (map (aged t) s.processors)
-          + sum_by (demand_by (quantum_of s) s.credit e) (map (passed s t) s.accounts) + quantum_of s
-          ≤ WHOLE * n * e + 2 * n * quantum_of s
+quiet_room n w s t e some b none_waits beyond within = quiet none_waits where
+  Goal : Type 0
+  Goal = sum_by (rest (quantum_of s)) (map (aged t) s.processors)
+      + sum_by (demand_by (quantum_of s) s.credit e) (map (passed s t) s.accounts) + quantum_of s
+      ≤ WHOLE * n * e + 2 * n * quantum_of s
 
-      rests : ℕ
-      rests = sum_by (rest (quantum_of s)) (map (aged t) s.processors)
+  rests : ℕ
+  rests = sum_by (rest (quantum_of s)) (map (aged t) s.processors)
 
-      demands : ℕ
-      demands = sum_by (demand_by (quantum_of s) s.credit e) (map (passed s t) s.accounts)
+  demands : ℕ
+  demands = sum_by (demand_by (quantum_of s) s.credit e) (map (passed s t) s.accounts)
 
-      all_busy : AllByRecursion IsBusy s.processors → Goal
-      all_busy all =
-          room_busy (sum_by (rest (quantum_of s)) s.processors) rests
-          (sum_by (demand_by (quantum_of s) s.credit (e + t)) s.accounts) demands (quantum_of s) n e t
-          (b.room (e + t))
-          (subst (λ (m : ℕ). rests + WHOLE * (t * m) ≤ sum_by (rest (quantum_of s)) s.processors)
-          b.processors_are (aged_busy s.quantum t s.processors all within))
-          (sum_map (demand_by (quantum_of s) s.credit e)
-          (demand_by (quantum_of s) s.credit (e + t)) (passed s t) s.accounts no_account
-          (λ k known. passed_demand s t e (account_at s k)))
+  within_credit : NoneWaits s → (k : ℕ) → (account_at s k).owed ≤ credit_of s (account_at s k)
+  within_credit none k =
+      by_order ((account_at s k).owed ≤ credit_of s (account_at s k))
+      (credit_of s (account_at s k)) (account_at s k).owed
+      (λ past. absurd (let waits = beyond k past in
+      let clash : ⊥ = omega (arith, waits, none k) in clash))
+      (λ less. less)
 
-      within_credit : NoneWaits s → (k : ℕ) → (account_at s k).owed ≤ credit_of s (account_at s k)
-      within_credit none k =
-          by_order ((account_at s k).owed ≤ credit_of s (account_at s k))
-          (credit_of s (account_at s k)) (account_at s k).owed
-          (λ past. absurd (let waits = beyond k past in
-          let clash : ⊥ = omega (arith, waits, none k) in clash))
-          (λ less. less)
+  quiet : NoneWaits s → Goal
+  quiet none =
+      elim (short_or_idle s.quantum t s.processors within) [
+        | inl h ↦ idle none h.0 h.1
+        | inr short ↦ some_run none short
+      ] where
+        idle : NoneWaits s → sum_by busy s.processors ≡ 0 → rests ≡ 0 → Goal
+        idle none free no_rests =
+            let no_tasks : (k : ℕ) → k < length s.accounts → tasks_of (account_at s k) ≡ 0 =
+            λ k known. (let waiting = none k in
+            let running = one_of_sum (λ x. x.share.running) s.accounts k no_account known in
+            let count : tasks_of (account_at s k) ≡ 0 =
+            omega (arith, waiting, running, b.total, free) in count) in
+            let demands_are : demands ≤ sum_by (λ x. x.guarantee * e + x.share.running * 0) s.accounts =
+            sum_map (demand_by (quantum_of s) s.credit e)
+            (λ x. x.guarantee * e + x.share.running * 0) (passed s t) s.accounts no_account
+            (λ k known. (let own = demand_within (account_at s k).guarantee (quantum_of s)
+            ((account_at s k).guarantee * s.credit) (passed s t (account_at s k)).owed
+            ((account_at s k).share.running * quantum_of s) ((account_at s k).guarantee * e)
+            (passed_idle s t (account_at s k) (no_tasks k known) (within_credit none k)) in
+            let less : demand_by (quantum_of s) s.credit e (passed s t (account_at s k))
+            ≤ (account_at s k).guarantee * e + (account_at s k).share.running * 0 =
+            omega (arith, own) in less)) in
+            room_idle rests demands (sum_by (λ x. x.guarantee) s.accounts) n (quantum_of s) e some
+            no_rests
+            (omega (
+              arith,
+              demands_are,
+              sum_products (λ (x : Account). x.guarantee) (λ (x : Account). x.share.running) e 0
+                  s.accounts,
+            ))
+            b.guarantees
 
-      quiet : NoneWaits s → Goal
-      quiet none =
-          elim (short_or_idle s.quantum t s.processors within) [
-            | inl h ↦ idle none h.0 h.1
-            | inr short ↦ some_run none short
-          ] where
-            idle : NoneWaits s → sum_by busy s.processors ≡ 0 → rests ≡ 0 → Goal
-            idle none free no_rests =
-                let no_tasks : (k : ℕ) → k < length s.accounts → tasks_of (account_at s k) ≡ 0 =
-                λ k known. (let waiting = none k in
-                let running = one_of_sum (λ x. x.share.running) s.accounts k no_account known in
-                let count : tasks_of (account_at s k) ≡ 0 =
-                omega (arith, waiting, running, b.total, free) in count) in
-                let demands_are : demands ≤ sum_by (λ x. x.guarantee * e + x.share.running * 0) s.accounts =
-                sum_map (demand_by (quantum_of s) s.credit e)
-                (λ x. x.guarantee * e + x.share.running * 0) (passed s t) s.accounts no_account
-                (λ k known. (let own = demand_within (account_at s k).guarantee (quantum_of s)
-                ((account_at s k).guarantee * s.credit) (passed s t (account_at s k)).owed
-                ((account_at s k).share.running * quantum_of s) ((account_at s k).guarantee * e)
-                (passed_idle s t (account_at s k) (no_tasks k known) (within_credit none k)) in
-                let less : demand_by (quantum_of s) s.credit e (passed s t (account_at s k))
-                ≤ (account_at s k).guarantee * e + (account_at s k).share.running * 0 =
-                omega (arith, own) in less)) in
-                room_idle rests demands (sum_by (λ x. x.guarantee) s.accounts) n (quantum_of s) e some
-                no_rests
-                (omega (
-                  arith,
-                  demands_are,
-                  sum_products (λ (x : Account). x.guarantee) (λ (x : Account). x.share.running) e 0
-                      s.accounts,
-                ))
-                b.guarantees
+        some_run : NoneWaits s → t ≤ s.quantum → Goal
+        some_run none short =
+            let demands_are : demands
+            ≤ sum_by (λ x. x.guarantee * (e + t) + x.share.running * 0) s.accounts =
+            sum_map (demand_by (quantum_of s) s.credit e)
+            (λ x. x.guarantee * (e + t) + x.share.running * 0) (passed s t) s.accounts no_account
+            (λ k known. (let nearer = passed_demand s t e (account_at s k) in
+            let own = demand_within (account_at s k).guarantee (quantum_of s)
+            ((account_at s k).guarantee * s.credit) (account_at s k).owed
+            ((account_at s k).share.running * quantum_of s) ((account_at s k).guarantee * (e + t))
+            (within_credit none k) in
+            let less : demand_by (quantum_of s) s.credit e (passed s t (account_at s k))
+            ≤ (account_at s k).guarantee * (e + t) + (account_at s k).share.running * 0 =
+            omega (arith, nearer, own) in less)) in
+            room_short rests demands (sum_by (λ x. x.guarantee) s.accounts) n (quantum_of s) e t some
+            (subst (λ (m : ℕ). rests + WHOLE * (t * m) ≤ m * quantum_of s) b.processors_are
+            (aged_some s.quantum t s.processors short within))
+            (omega (
+              arith,
+              demands_are,
+              sum_products (λ (x : Account). x.guarantee) (λ (x : Account). x.share.running) (e + t) 0
+                  s.accounts,
+            ))
+            b.guarantees
 
-            some_run : NoneWaits s → t ≤ s.quantum → Goal
-            some_run none short =
-                let demands_are : demands
-                ≤ sum_by (λ x. x.guarantee * (e + t) + x.share.running * 0) s.accounts =
-                sum_map (demand_by (quantum_of s) s.credit e)
-                (λ x. x.guarantee * (e + t) + x.share.running * 0) (passed s t) s.accounts no_account
-                (λ k known. (let nearer = passed_demand s t e (account_at s k) in
-                let own = demand_within (account_at s k).guarantee (quantum_of s)
-                ((account_at s k).guarantee * s.credit) (account_at s k).owed
-                ((account_at s k).share.running * quantum_of s) ((account_at s k).guarantee * (e + t))
-                (within_credit none k) in
-                let less : demand_by (quantum_of s) s.credit e (passed s t (account_at s k))
-                ≤ (account_at s k).guarantee * (e + t) + (account_at s k).share.running * 0 =
-                omega (arith, nearer, own) in less)) in
-                room_short rests demands (sum_by (λ x. x.guarantee) s.accounts) n (quantum_of s) e t some
-                (subst (λ (m : ℕ). rests + WHOLE * (t * m) ≤ m * quantum_of s) b.processors_are
-                (aged_some s.quantum t s.processors short within))
-                (omega (
-                  arith,
-                  demands_are,
-                  sum_products (λ (x : Account). x.guarantee) (λ (x : Account). x.share.running) (e + t) 0
-                      s.accounts,
-                ))
-                b.guarantees
-
-passed_runs : (n : ℕ) (s : Reservations) (t : ℕ) → Backlog n s → (k : ℕ)
+passed_runs : (n w : ℕ) (s : Reservations) (t : ℕ) → Backlog n w s → (k : ℕ)
     → k < length (map (passed s t) s.accounts) → over_runs k one (map (aged t) s.processors)
     ≡ (get_or (map (passed s t) s.accounts) k no_account).share.running
-passed_runs n s t b k inside =
+passed_runs n w s t b k inside =
     let known : k < length s.accounts =
     omega (arith, inside, length-map s.accounts (passed s t)) in
     aged_runs k t s.processors
     ∙ (b.runs k known ∙ ap (λ (x : Account). x.share.running) (sym (passed_at s t s.accounts k known)))
 
-pub backlog_passed : (n : ℕ) (s : Reservations) (t : ℕ) → 0 < n → Backlog n s → IsPrompt s
-    → WaitsBeyondCredit s → AllByRecursion (RunsWithin s.quantum t) s.processors
-    → Backlog n (state_passed s t)
-backlog_passed n s t some b prompt beyond within = record {
+backlog_passed : (n w lost : ℕ) (s : Reservations) (t : ℕ) → Backlog n w s
+    → ((e : ℕ) → HasRoom n lost s t e) → Backlog n lost (state_passed s t)
+backlog_passed n w lost s t b room = record {
   processors_are = length-map s.processors (aged t) ∙ b.processors_are;
   slack = b.slack;
   guarantees = omega (
@@ -893,9 +929,27 @@ backlog_passed n s t some b prompt beyond within = record {
     passed_sum s t (λ x. x.share.running) s.accounts (λ a. refl),
     aged_count t s.processors,
   );
-  runs = passed_runs n s t b;
-  room = λ e. passed_room n s t e some b prompt beyond within;
+  runs = passed_runs n w s t b;
+  room = room;
 }
+
+-- what is lost at a time that passes
+pub backlog_lost : (n w lost : ℕ) (s : Reservations) (t : ℕ) → 0 < n → Backlog n w s
+    → AllByRecursion (RunsWithin s.quantum t) s.processors → IsLost w lost s (Pass t)
+    → Backlog n lost (state_passed s t)
+backlog_lost n w lost s t some b within (inl busy) =
+    backlog_passed n w lost s t b
+    (λ e. subst (λ (m : ℕ). HasRoom n m s t e) (sym busy.1)
+    (busy_room n w s t e b busy.0 within))
+backlog_lost n w lost s t some b within (inr (inl quiet)) =
+    backlog_passed n w lost s t b
+    (λ e. (let room = quiet_room n w s t e some b quiet.0 quiet.1 within in
+    omega (arith, room)))
+backlog_lost n w lost s t some b within (inr (inr more)) =
+    backlog_passed n w lost s t b
+    (λ e. subst (λ (m : ℕ). HasRoom n m s t e)
+    (sym (more ∙ ap (λ (m : ℕ). w + m * t) b.processors_are))
+    (lost_room n w s t e b))
 
 -- ---- runs
 
@@ -915,9 +969,9 @@ is_left s a =
         share = record a.share { waiting = a.share.waiting - 1 };
       }
 
-leveled : (n : ℕ) (s : Reservations) (c : ℕ × ℕ) → Backlog n s
-    → Backlog n (record s { level = c })
-leveled n s c b = record {
+leveled : (n w : ℕ) (s : Reservations) (c : ℕ × ℕ) → Backlog n w s
+    → Backlog n w (record s { level = c })
+leveled n w s c b = record {
   processors_are = b.processors_are;
   slack = b.slack;
   guarantees = b.guarantees;
@@ -926,29 +980,51 @@ leveled n s c b = record {
   room = b.room;
 }
 
-pub backlog_after : (n : ℕ) (s : Reservations) (e : Step) → 0 < n → Backlog n s → Allows s e
-    → IsFair s e → Backlog n (after s e)
-backlog_after n s (Pass t) some b may fair = backlog_passed n s t some b fair.0 fair.1 fair.2
-backlog_after n s (Wake i tasks) some b may fair =
-    lowered n s i (woken s tasks (account_at s i)) b may refl refl (omega arith)
-backlog_after n s (Pick p i) some b may fair = backlog_picked n s p i some b fair.0 fair.1 may
-backlog_after n s (End p used remains) some b may fair =
-    subst (λ (q : Option (Option Run)). Backlog n (state_ended s p used remains q)) (sym may.runs)
-    (backlog_ended n s p used remains may.run b may.runs may.known)
-backlog_after n s Level some b may fair = leveled n s (level_now s.slice s.accounts) b
-backlog_after n s (Give i amount guarantee) some b may fair =
-    lowered n s i (given s amount guarantee (account_at s i)) b may.0 fair refl (omega arith)
-backlog_after n s (Leave i) some b may fair =
+-- an event in which no time passes
+still_after : (n w : ℕ) (s : Reservations) (e : Step) → 0 < n → Backlog n w s → Allows s e
+    → IsFair s e → (lost : ℕ) → IsLost w lost s e → Backlog n lost (after s e)
+still_after n w s (Pass t) some b may fair lost is = backlog_lost n w lost s t some b fair is
+still_after n w s (Wake i tasks) some b may fair lost is =
+    subst (λ (m : ℕ). Backlog n m (with_account s i (woken s tasks (account_at s i)))) (sym is)
+    (lowered n w s i (woken s tasks (account_at s i)) b may refl refl (omega arith))
+still_after n w s (Pick p i) some b may fair lost is =
+    subst (λ (m : ℕ). Backlog n m (state_picked s p i)) (sym is)
+    (backlog_picked n w s p i some b fair.0 fair.1 may)
+still_after n w s (End p used remains) some b may fair lost is =
+    subst (λ (m : ℕ). Backlog n m (after s (End p used remains))) (sym is)
+    (subst (λ (q : Option (Option Run)). Backlog n w (state_ended s p used remains q))
+    (sym may.runs) (backlog_ended n w s p used remains may.run b may.runs may.known))
+still_after n w s Level some b may fair lost is =
+    subst (λ (m : ℕ). Backlog n m (after s Level)) (sym is)
+    (leveled n w s (level_now s.slice s.accounts) b)
+still_after n w s (Give i amount guarantee) some b may fair lost is =
+    subst (λ (m : ℕ). Backlog n m (after s (Give i amount guarantee))) (sym is)
+    (lowered n w s i (given s amount guarantee (account_at s i)) b may.0 fair.0 refl (omega arith))
+still_after n w s (Leave i) some b may fair lost is =
     let h = is_left s (account_at s i) in
-    lowered n s i (left s (account_at s i)) b may.0 h.guarantee h.running h.owed
-backlog_after n s (Cut i) some b may fair =
-    lowered n s i (cut s (account_at s i)) b may refl refl (omega arith)
+    subst (λ (m : ℕ). Backlog n m (after s (Leave i))) (sym is)
+    (lowered n w s i (left s (account_at s i)) b may.0 h.guarantee h.running h.owed)
+still_after n w s (Cut i) some b may fair lost is =
+    subst (λ (m : ℕ). Backlog n m (after s (Cut i))) (sym is)
+    (lowered n w s i (cut s (account_at s i)) b may refl refl (omega arith))
 
-pub backlog_all : (n : ℕ) (s : Reservations) (es : List Step) → 0 < n → Backlog n s
-    → IsFairRun s es → Backlog n (after_all s es)
-backlog_all n s [] some b run = b
-backlog_all n s (e ∷ es) some b run =
-    backlog_all n (after s e) es some (backlog_after n s e some b run.0 run.1) run.2
+pub backlog_after : (n w lost : ℕ) (s : Reservations) (e : Step) → 0 < n → Backlog n w s
+    → Allows s e → IsFair s e → IsLost w lost s e → Backlog n lost (after s e)
+backlog_after n w lost s e some b may fair is = still_after n w s e some b may fair lost is
+
+-- what was lost in the end
+pub record Ends (n most : ℕ) (s : Reservations) : Type 0 where
+  pub lost : ℕ
+  pub most_lost : lost ≤ most
+  pub backlog : Backlog n lost s
+
+pub backlog_all : (n most w : ℕ) (s : Reservations) (es : List Step) → 0 < n → w ≤ most
+    → Backlog n w s → IsFairRun most w s es → Ends n most (after_all s es)
+backlog_all n most w s [] some less b run =
+    record { lost = w; most_lost = less; backlog = b }
+backlog_all n most w s (e ∷ es) some less b run =
+    backlog_all n most run.2.0 (after s e) es some run.2.2
+    (backlog_after n w run.2.0 s e some b run.0 run.1 run.2.1) run.2.3
 
 none_rests : (q : ℕ) (ps : List (Option Run)) → AllByRecursion (λ x. x ≡ None) ps
     → sum_by (rest q) ps ≡ 0
@@ -978,7 +1054,7 @@ room_at_rest rests demands guarantees runs n q e some none idle most fits =
     omega (arith, none, most, until, no_runs, one_processor)
 
 pub backlog_at_rest : (s : Reservations) → IsAtRest s → FitsHost s
-    → Backlog (length s.processors) s
+    → Backlog (length s.processors) 0 s
 backlog_at_rest s at fits =
     let no_runs = sum_none (λ x. x.share.running) s.accounts no_account at.running in
     record {
@@ -987,7 +1063,7 @@ backlog_at_rest s at fits =
       guarantees = fits.guarantees;
       total = no_runs ∙ sym (none_busy s.processors at.idle);
       runs = λ k known. none_run k s.processors at.idle ∙ sym (at.running k);
-      room = λ e. room_at_rest (sum_by (rest (quantum_of s)) s.processors)
+      room = λ e. (let room = room_at_rest (sum_by (rest (quantum_of s)) s.processors)
           (sum_by (demand_by (quantum_of s) s.credit e) s.accounts)
           (sum_by (λ x. x.guarantee) s.accounts) (sum_by (λ x. x.share.running) s.accounts)
           (length s.processors) (quantum_of s) e fits.some
@@ -1007,5 +1083,6 @@ backlog_at_rest s at fits =
             sum_products (λ (x : Account). x.guarantee) (λ (x : Account). x.share.running) e
                 (quantum_of s) s.accounts,
           ))
-          fits.guarantees;
+          fits.guarantees in
+          omega (arith, room));
     }

@@ -13,10 +13,14 @@ use Rattle.dispatch.specs.declared.reservation.Step.TheVariants.{Pass, Wake, Pic
 use Rattle.dispatch.specs.declared.reservation.Step.TheVariants.{Give, Leave, Cut}
 use Rattle.dispatch.specs.Premises.{waits_beyond, has_tasks_for, is_still, is_busy, is_within}
 use Rattle.dispatch.specs.Premises.{has_guarantee, is_fair, fit_in, fits_host, PremisesAreTold}
+use Rattle.dispatch.specs.Premises.{is_whole, is_whole_at, lost_after}
+use Rattle.dispatch.specs.declared.reservation.Terms.{Terms}
 use Rattle.dispatch.specs.Reservation.{Reservations, WHOLE, terms_of, account_at, no_account}
 use Rattle.dispatch.specs.Reservation.{credit_in, tasks_of}
-use Rattle.dispatch.specs.Windows.{FitsHost, IsFair, IsBusy, IsPrompt, NoneWaits, RunsWithin}
+use Rattle.dispatch.specs.Windows.{FitsHost, IsFair, IsBusy, NoneWaits, RunsWithin, IsLost, IsWhole}
+use Rattle.dispatch.specs.Windows.{IsWholeAt}
 use Rattle.dispatch.specs.Windows.{WaitsBeyondCredit, HasTasksForGuarantees}
+use Rattle.dispatch.specs.Reservation.{most_in}
 use Rattle.dispatch.proofs.Backlog.{by_order}
 use Rattle.dispatch.proofs.Exact.{rooms_of, all_room, both_tests}
 use Rattle.dispatch.proofs.Mapped.{passes}
@@ -26,18 +30,6 @@ use Rattle.dispatch.proofs.Mapped.{passes}
 both_of : (a b : Bool) → a ≡ true → b ≡ true → (a && b) ≡ true
 both_of true b one two = two
 both_of false b one two = absurd (cc one)
-
-either_of : (a b : Bool) → (a || b) ≡ true → (a ≡ true) ⊎ (b ≡ true)
-either_of true b is = inl refl
-either_of false b is = inr is
-
-first_of_two : (a b : Bool) → a ≡ true → (a || b) ≡ true
-first_of_two true b is = refl
-first_of_two false b is = absurd (cc is)
-
-second_of_two : (a b : Bool) → b ≡ true → (a || b) ≡ true
-second_of_two true b is = refl
-second_of_two false b is = is
 
 -- an implication as a test
 follows : (a b : Bool) → (not a || b) ≡ true → a ≡ true → b ≡ true
@@ -123,22 +115,11 @@ still s all k =
     (not_true (nat_lt 0 (account_at s k).share.waiting) test) in
     omega (arith, none)
 
-all_still : (s : Reservations) → NoneWaits s → list_all is_still s.accounts ≡ true
-all_still s each =
-    all_pass is_still s.accounts
-    (λ k. true_not (nat_lt 0 (account_at s k).share.waiting)
-    (le-ltb 0 (account_at s k).share.waiting
-    (let none = each k in let z : (account_at s k).share.waiting ≤ 0 = omega (arith, none) in z)))
-
 -- ---- of each processor
 
 busy_sound : (q : Option Run) → is_busy q ≡ true → IsBusy q
 busy_sound None is = absurd (cc is)
 busy_sound (Some run) is = tt
-
-busy_complete : (q : Option Run) → IsBusy q → is_busy q ≡ true
-busy_complete None is = absurd is
-busy_complete (Some run) is = refl
 
 within_sound : (quantum ns : ℕ) (q : Option Run) → is_within quantum ns q ≡ true
     → RunsWithin quantum ns q
@@ -154,22 +135,30 @@ within_complete quantum ns (Some run) is =
 
 -- ---- events
 
-prompt : (s : Reservations)
-    → (list_all is_busy s.processors || list_all is_still s.accounts) ≡ true → IsPrompt s
-prompt s is = of_test (either_of (list_all is_busy s.processors) (list_all is_still s.accounts) is) where
-  of_test : (list_all is_busy s.processors ≡ true) ⊎ (list_all is_still s.accounts ≡ true)
-      → IsPrompt s
-  of_test (inl all) = inl (rooms_of is_busy IsBusy busy_sound s.processors all)
-  of_test (inr all) = inr (still s all)
+whole_of : (t : Terms) (xs : List Account) (i : ℕ) → is_whole t (slice_get xs i) ≡ true
+    → (get_or xs i no_account).owed ≤ most_in t (get_or xs i no_account)
+whole_of t [] i is = omega arith
+whole_of t (x ∷ xs) zero is = ltb-false (most_in t x) x.owed (not_true (nat_lt (most_in t x) x.owed) is)
+whole_of t (x ∷ xs) (suc i) is = whole_of t xs i is
 
-is_prompt : (s : Reservations) → IsPrompt s
-    → (list_all is_busy s.processors || list_all is_still s.accounts) ≡ true
-is_prompt s (inl all) =
-    first_of_two (list_all is_busy s.processors) (list_all is_still s.accounts)
-    (all_room is_busy IsBusy busy_complete s.processors all)
-is_prompt s (inr none) =
-    second_of_two (list_all is_busy s.processors) (list_all is_still s.accounts)
-    (all_still s none)
+is_whole_of : (t : Terms) (xs : List Account) (i : ℕ)
+    → (get_or xs i no_account).owed ≤ most_in t (get_or xs i no_account)
+    → is_whole t (slice_get xs i) ≡ true
+is_whole_of t [] i h = refl
+is_whole_of t (x ∷ xs) zero h =
+    true_not (nat_lt (most_in t x) x.owed) (le-ltb (most_in t x) x.owed h)
+is_whole_of t (x ∷ xs) (suc i) h = is_whole_of t xs i h
+
+whole_at : (s : Reservations) (q : Option (Option Run)) → is_whole_at s q ≡ true → IsWholeAt s q
+whole_at s None is = tt
+whole_at s (Some None) is = tt
+whole_at s (Some (Some run)) is = whole_of (terms_of s) s.accounts run.leaf is
+
+told_whole_at : (s : Reservations) (q : Option (Option Run)) → IsWholeAt s q
+    → is_whole_at s q ≡ true
+told_whole_at s None h = refl
+told_whole_at s (Some None) h = refl
+told_whole_at s (Some (Some run)) h = is_whole_of (terms_of s) s.accounts run.leaf h
 
 given : (xs : List Account) (i guarantee : ℕ) → has_guarantee guarantee (slice_get xs i) ≡ true
     → guarantee ≡ (get_or xs i no_account).guarantee
@@ -186,49 +175,82 @@ is_given (x ∷ xs) (suc i) guarantee is = is_given xs i guarantee is
 
 fair : (s : Reservations) (e : Step) → is_fair s e ≡ true → IsFair s e
 fair s (Pass ns) is =
-    let one = both_tests (list_all is_busy s.processors || list_all is_still s.accounts)
-    (list_all (waits_beyond (terms_of s)) s.accounts
-    && list_all (is_within s.quantum ns) s.processors) is in
-    let two = both_tests (list_all (waits_beyond (terms_of s)) s.accounts)
-    (list_all (is_within s.quantum ns) s.processors) one.1 in (
-      prompt s one.0,
-      beyond s two.0,
-      rooms_of (is_within s.quantum ns) (RunsWithin s.quantum ns) (within_sound s.quantum ns)
-          s.processors two.1,
-    )
-fair s (Wake i n) is = tt
-fair s (Pick p i) is =
-    let both = both_tests (list_all (waits_beyond (terms_of s)) s.accounts)
-    (list_all has_tasks_for s.accounts) is in
-    (beyond s both.0, tasks s both.1)
-fair s (End p used remains) is =
-    rooms_of (is_within s.quantum 0) (RunsWithin s.quantum 0) (within_sound s.quantum 0)
+    rooms_of (is_within s.quantum ns) (RunsWithin s.quantum ns) (within_sound s.quantum ns)
     s.processors is
+fair s (Wake i n) is = whole_of (terms_of s) s.accounts i is
+fair s (Pick p i) is =
+    let one = both_tests (list_all (waits_beyond (terms_of s)) s.accounts)
+    (list_all has_tasks_for s.accounts && is_whole (terms_of s) (slice_get s.accounts i)) is in
+    let two = both_tests (list_all has_tasks_for s.accounts)
+    (is_whole (terms_of s) (slice_get s.accounts i)) one.1 in
+    (beyond s one.0, tasks s two.0, whole_of (terms_of s) s.accounts i two.1)
+fair s (End p used remains) is =
+    let both = both_tests (list_all (is_within s.quantum 0) s.processors)
+    (is_whole_at s (slice_get s.processors p)) is in (
+      rooms_of (is_within s.quantum 0) (RunsWithin s.quantum 0) (within_sound s.quantum 0)
+          s.processors both.0,
+      whole_at s (slice_get s.processors p) both.1,
+    )
 fair s Level is = tt
-fair s (Give i amount guarantee) is = given s.accounts i guarantee is
-fair s (Leave i) is = tt
+fair s (Give i amount guarantee) is =
+    let both = both_tests (has_guarantee guarantee (slice_get s.accounts i))
+    (is_whole (terms_of s) (slice_get s.accounts i)) is in
+    (given s.accounts i guarantee both.0, whole_of (terms_of s) s.accounts i both.1)
+fair s (Leave i) is = whole_of (terms_of s) s.accounts i is
 fair s (Cut i) is = tt
 
 told_fair : (s : Reservations) (e : Step) → IsFair s e → is_fair s e ≡ true
 told_fair s (Pass ns) h =
-    both_of (list_all is_busy s.processors || list_all is_still s.accounts)
-    (list_all (waits_beyond (terms_of s)) s.accounts
-    && list_all (is_within s.quantum ns) s.processors) (is_prompt s h.0)
-    (both_of (list_all (waits_beyond (terms_of s)) s.accounts)
-    (list_all (is_within s.quantum ns) s.processors) (all_beyond s h.1)
-    (all_room (is_within s.quantum ns) (RunsWithin s.quantum ns) (within_complete s.quantum ns)
-    s.processors h.2))
-told_fair s (Wake i n) h = refl
-told_fair s (Pick p i) h =
-    both_of (list_all (waits_beyond (terms_of s)) s.accounts) (list_all has_tasks_for s.accounts)
-    (all_beyond s h.0) (all_tasks s h.1)
-told_fair s (End p used remains) h =
-    all_room (is_within s.quantum 0) (RunsWithin s.quantum 0) (within_complete s.quantum 0)
+    all_room (is_within s.quantum ns) (RunsWithin s.quantum ns) (within_complete s.quantum ns)
     s.processors h
+told_fair s (Wake i n) h = is_whole_of (terms_of s) s.accounts i h
+told_fair s (Pick p i) h =
+    both_of (list_all (waits_beyond (terms_of s)) s.accounts)
+    (list_all has_tasks_for s.accounts && is_whole (terms_of s) (slice_get s.accounts i))
+    (all_beyond s h.0)
+    (both_of (list_all has_tasks_for s.accounts) (is_whole (terms_of s) (slice_get s.accounts i))
+    (all_tasks s h.1) (is_whole_of (terms_of s) s.accounts i h.2))
+told_fair s (End p used remains) h =
+    both_of (list_all (is_within s.quantum 0) s.processors)
+    (is_whole_at s (slice_get s.processors p))
+    (all_room (is_within s.quantum 0) (RunsWithin s.quantum 0) (within_complete s.quantum 0)
+    s.processors h.0)
+    (told_whole_at s (slice_get s.processors p) h.1)
 told_fair s Level h = refl
-told_fair s (Give i amount guarantee) h = is_given s.accounts i guarantee h
-told_fair s (Leave i) h = refl
+told_fair s (Give i amount guarantee) h =
+    both_of (has_guarantee guarantee (slice_get s.accounts i))
+    (is_whole (terms_of s) (slice_get s.accounts i)) (is_given s.accounts i guarantee h.0)
+    (is_whole_of (terms_of s) s.accounts i h.1)
+told_fair s (Leave i) h = is_whole_of (terms_of s) s.accounts i h
 told_fair s (Cut i) h = refl
+
+-- ---- time that is lost
+
+passed_lost : (s : Reservations) (w t : ℕ) → IsLost w (lost_after s w (Pass t)) s (Pass t)
+passed_lost s w t =
+    by_tests (list_all is_busy s.processors)
+    (list_all is_still s.accounts && list_all (waits_beyond (terms_of s)) s.accounts) refl refl where
+      by_tests : (a b : Bool) → list_all is_busy s.processors ≡ a
+          → (list_all is_still s.accounts && list_all (waits_beyond (terms_of s)) s.accounts) ≡ b
+          → IsLost w (if◌then◌else◌ {A = ℕ} a w
+          (if◌then◌else◌ {A = ℕ} b 0 (w + length s.processors * t))) s (Pass t)
+      by_tests true b busy quiet =
+          inl (rooms_of is_busy IsBusy busy_sound s.processors busy, refl)
+      by_tests false true busy quiet =
+          let both = both_tests (list_all is_still s.accounts)
+          (list_all (waits_beyond (terms_of s)) s.accounts) quiet in
+          inr (inl (still s both.0, beyond s both.1, refl))
+      by_tests false false busy quiet = inr (inr refl)
+
+told_lost : (s : Reservations) (w : ℕ) (e : Step) → IsLost w (lost_after s w e) s e
+told_lost s w (Pass t) = passed_lost s w t
+told_lost s w (Wake i n) = refl
+told_lost s w (Pick p i) = refl
+told_lost s w (End p used remains) = refl
+told_lost s w Level = refl
+told_lost s w (Give i amount guarantee) = refl
+told_lost s w (Leave i) = refl
+told_lost s w (Cut i) = refl
 
 -- ---- the host
 
@@ -284,4 +306,5 @@ pub premises_are_told : PremisesAreTold
 premises_are_told = record {
   host = λ s. (host_sound s, host_told s);
   event = λ s e. (fair s e, told_fair s e);
+  lost = told_lost;
 }

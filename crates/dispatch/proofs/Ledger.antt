@@ -21,7 +21,7 @@ use Rattle.dispatch.specs.Reservation.{state_ended, settled_owed, after, Allows,
 use Rattle.dispatch.specs.Reservation.{MayPick, left, capped, terms_of}
 use Rattle.dispatch.specs.Rule as shares
 use Rattle.dispatch.specs.Windows.{over_runs, of_run, back_of, owed_in_all, RunsWithin, IsFair}
-use Rattle.dispatch.specs.Windows.{WantsAt, held_at}
+use Rattle.dispatch.specs.Windows.{WantsAt, held_at, IsWholeAt}
 use Rattle.dispatch.proofs.Counts.{length_set}
 use Rattle.dispatch.proofs.Demands.{demand, demand_is}
 use Rattle.dispatch.proofs.Totals.{sum_set, one_of_sum}
@@ -76,28 +76,32 @@ backs_by_runs q i (Some run ∷ ps) =
       sum_by-cons (of_run i (back_of q)) (Some run) ps,
     )
 
-numbers_bounded : (g q c owed runs backs rests demands n : ℕ) → 0 < n → 0 < g
+numbers_bounded : (g q c owed runs backs rests demands n w : ℕ) → 0 < n → 0 < g
     → backs ≤ rests → backs ≤ runs → demand g q (g * c) owed runs (g * 0) ≤ demands
-    → rests + demands + q ≤ WHOLE * n * 0 + 2 * n * q → owed + backs ≤ 2 * n * q + g * c
-numbers_bounded g q c owed runs backs rests demands n some guaranteed by_rests by_runs of_sum room =
+    → rests + demands + q ≤ WHOLE * n * 0 + 2 * n * q + WHOLE * w
+    → owed + backs ≤ 2 * n * q + g * c + WHOLE * w
+numbers_bounded g q c owed runs backs rests demands n w some guaranteed by_rests by_runs of_sum
+    room =
     let is = demand_is g q (g * c) owed runs (g * 0) in
     let one_processor : 1 * q ≤ n * q = mul-le-mul_right q some in
-    by_order (owed + backs ≤ 2 * n * q + g * c) (owed + runs + g * 0) (2 * q + g * c)
+    by_order (owed + backs ≤ 2 * n * q + g * c + WHOLE * w) (owed + runs + g * 0) (2 * q + g * c)
     (λ less. omega (arith, less, by_runs, one_processor))
     (λ more. let here = is.some guaranteed more in
     omega (arith, more, here, by_rests, of_sum, room))
 
 -- what a leaf is owed is bounded
-pub bounded : (n : ℕ) (s : Reservations) (i : ℕ) → 0 < n → Backlog n s → i < length s.accounts
-    → 0 < (account_at s i).guarantee → owed_in_all s i ≤ most_of s (account_at s i)
-bounded n s i some b known guaranteed =
+pub bounded : (n w : ℕ) (s : Reservations) (i : ℕ) → 0 < n → Backlog n w s
+    → i < length s.accounts → 0 < (account_at s i).guarantee
+    → owed_in_all s i ≤ most_of s (account_at s i) + WHOLE * w
+bounded n w s i some b known guaranteed =
     subst (λ (m : ℕ). owed_in_all s i
-    ≤ 2 * m * quantum_of s + (account_at s i).guarantee * s.credit) (sym b.processors_are)
+    ≤ 2 * m * quantum_of s + (account_at s i).guarantee * s.credit + WHOLE * w)
+    (sym b.processors_are)
     (numbers_bounded (account_at s i).guarantee (quantum_of s) s.credit (account_at s i).owed
     ((account_at s i).share.running * quantum_of s)
     (over_runs i (back_of (quantum_of s)) s.processors)
     (sum_by (rest (quantum_of s)) s.processors)
-    (sum_by (demand_by (quantum_of s) s.credit 0) s.accounts) n some guaranteed
+    (sum_by (demand_by (quantum_of s) s.credit 0) s.accounts) n w some guaranteed
     (backs_at_most (quantum_of s) i s.processors)
     (subst (λ (r : ℕ). over_runs i (back_of (quantum_of s)) s.processors ≤ r * quantum_of s)
     (b.runs i known) (backs_by_runs (quantum_of s) i s.processors))
@@ -422,18 +426,12 @@ still s t i m k = record {
   owed = omega (arith, k.owed);
 }
 
-pub kept_after : (n : ℕ) (s : Reservations) (e : Step) (i k : ℕ) → 0 < n → Backlog n s
-    → i < length s.accounts → 0 < (account_at s i).guarantee → Allows s e → IsFair s e
-    → WantsAt k i s e → IsKept s (after s e) i
+pub kept_after : (s : Reservations) (e : Step) (i k : ℕ) → i < length s.accounts → Allows s e
+    → IsFair s e → WantsAt k i s e → IsKept s (after s e) i
     (min (k * WHOLE) (account_at s i).guarantee * time_at e) (held_at i s e)
-kept_after n s e i k some b known guaranteed = by e where
+kept_after s e i k known = by e where
   m : ℕ
   m = min (k * WHOLE) (account_at s i).guarantee
-
-  below : (j : ℕ) → i ≡ j → (account_at s j).owed ≤ most_of s (account_at s j)
-  below j same =
-      subst (λ (x : ℕ). (account_at s x).owed ≤ most_of s (account_at s x)) same
-      (omega (arith, bounded n s i some b known guaranteed))
 
   by : (e : Step) → Allows s e → IsFair s e → WantsAt k i s e
       → IsKept s (after s e) i (m * time_at e) (held_at i s e)
@@ -441,16 +439,17 @@ kept_after n s e i k some b known guaranteed = by e where
   by (Wake j tasks) may fair wants =
       still s (after s (Wake j tasks)) i m
       (one_set s i j (woken s tasks (account_at s j)) may
-      (λ same. (refl, omega (arith, below j same))))
+      (λ same. (refl, omega (arith, fair))))
   by (Pick p j) may fair wants =
-      still s (after s (Pick p j)) i m (kept_picked s p i j may (below j))
+      still s (after s (Pick p j)) i m (kept_picked s p i j may (λ same. fair.2))
   by (End p used remains) may fair wants =
       subst (λ (q : Option (Option Run)).
       rate_of (account_at s i) ≤ rate_of (account_at (state_ended s p used remains q) i)
       → IsKept s (state_ended s p used remains q) i (m * 0) 0) (sym may.runs)
       (λ rates. still s (state_ended s p used remains (Some (Some may.run))) i m
       (kept_ended s p used remains may.run i may.runs may.known
-      (run_at s.quantum s.processors p may.run fair may.runs) (below may.run.leaf) rates)) wants
+      (run_at s.quantum s.processors p may.run fair.0 may.runs)
+      (λ same. subst (IsWholeAt s) may.runs fair.1) rates)) wants
   by Level may fair wants = record {
     quantum = refl;
     credit = refl;
@@ -461,9 +460,9 @@ kept_after n s e i k some b known guaranteed = by e where
   by (Give j amount guarantee) may fair wants =
       still s (after s (Give j amount guarantee)) i m
       (one_set s i j (given s amount guarantee (account_at s j)) may.0
-      (λ same. (fair, omega (arith, below j same))))
+      (λ same. (fair.0, (let whole = fair.1 in omega (arith, whole)))))
   by (Leave j) may fair wants =
-      still s (after s (Leave j)) i m (kept_left s i j may.0 (below j) wants)
+      still s (after s (Leave j)) i m (kept_left s i j may.0 (λ same. fair) wants)
   by (Cut j) may fair wants =
       still s (after s (Cut j)) i m
       (one_set s i j (cut s (account_at s j)) may

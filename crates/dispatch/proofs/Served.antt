@@ -13,7 +13,7 @@ use Rattle.dispatch.specs.declared.reservation.Step.TheVariants.{Give, Leave, Cu
 use Rattle.dispatch.specs.Reservation.{Reservations, WHOLE, account_at, after, most_of, quantum_of}
 use Rattle.dispatch.specs.Windows.{after_all, IsFairRun, time_of}
 use Rattle.dispatch.specs.Windows.{held_in, Wants, OwedIsBounded, WindowsAreServed}
-use Rattle.dispatch.proofs.Backlog.{Backlog, backlog_at_rest, backlog_all, backlog_after, by_order}
+use Rattle.dispatch.proofs.Backlog.{Backlog, backlog_at_rest, backlog_all, backlog_after, by_order, Ends}
 use Rattle.dispatch.proofs.Ledger.{bounded, IsKept, kept_after, time_at}
 
 -- ---- what no event changes
@@ -43,12 +43,20 @@ known_after s [] i known = known
 known_after s (e ∷ es) i known =
     known_after (after s e) es i (omega (arith, known, accounts_after s e))
 
-run_split : (s : Reservations) (es fs : List Step) → IsFairRun s (es ++ fs)
-    → IsFairRun s es × IsFairRun (after_all s es) fs
-run_split s [] fs run = (tt, run)
-run_split s (e ∷ es) fs run =
-    let rest = run_split (after s e) es fs run.2 in
-    ((run.0, run.1, rest.0), rest.1)
+-- the end of a first part, with what was lost by then, and the run from there
+record Parts (n most : ℕ) (t : Reservations) (fs : List Step) : Type 0 where
+  lost : ℕ
+  less : lost ≤ most
+  backlog : Backlog n lost t
+  run : IsFairRun most lost t fs
+
+run_split : (n most w : ℕ) (s : Reservations) (es fs : List Step) → 0 < n → w ≤ most
+    → Backlog n w s → IsFairRun most w s (es ++ fs) → Parts n most (after_all s es) fs
+run_split n most w s [] fs some less b run =
+    record { lost = w; less = less; backlog = b; run = run }
+run_split n most w s (e ∷ es) fs some less b run =
+    run_split n most run.2.0 (after s e) es fs some run.2.2
+    (backlog_after n w run.2.0 s e some b run.0 run.1 run.2.1) run.2.3
 
 -- the time of an event and of those after it
 time_more : (e : Step) (es : List Step) → time_of (e ∷ es) ≡ time_at e + time_of es
@@ -62,22 +70,21 @@ time_more (Leave i) es = omega arith
 time_more (Cut i) es = omega arith
 
 -- the ledger of a window
-window_kept : (n : ℕ) (s : Reservations) (es : List Step) (i k : ℕ) → 0 < n → Backlog n s
-    → i < length s.accounts → 0 < (account_at s i).guarantee → IsFairRun s es → Wants k i s es
+window_kept : (most w : ℕ) (s : Reservations) (es : List Step) (i k : ℕ) → i < length s.accounts
+    → IsFairRun most w s es → Wants k i s es
     → IsKept s (after_all s es) i (min (k * WHOLE) (account_at s i).guarantee * time_of es)
     (held_in i s es)
-window_kept n s [] i k some b known guaranteed run wants = record {
+window_kept most w s [] i k known run wants = record {
   quantum = refl;
   credit = refl;
   accounts = refl;
   guarantee = refl;
   owed = omega arith;
 }
-window_kept n s (e ∷ es) i k some b known guaranteed run wants =
-    let step = kept_after n s e i k some b known guaranteed run.0 run.1 wants.0 in
-    let rest = window_kept n (after s e) es i k some (backlog_after n s e some b run.0 run.1)
-    (omega (arith, known, step.accounts)) (omega (arith, guaranteed, step.guarantee)) run.2 wants.1
-    in
+window_kept most w s (e ∷ es) i k known run wants =
+    let step = kept_after s e i k known run.0 run.1 wants.0 in
+    let rest = window_kept most run.2.0 (after s e) es i k (omega (arith, known, step.accounts))
+    run.2.3 wants.1 in
     let same : min (k * WHOLE) (account_at (after s e) i).guarantee * time_of es
     ≡ min (k * WHOLE) (account_at s i).guarantee * time_of es =
     ap (λ (g : ℕ). min (k * WHOLE) g * time_of es) step.guarantee in
@@ -95,15 +102,18 @@ window_kept n s (e ∷ es) i k some b known guaranteed run wants =
 -- ---- the laws
 
 pub owed_is_bounded : OwedIsBounded
-owed_is_bounded s events i at fits run known guaranteed =
-    bounded (length s.processors) (after_all s events) i fits.some
-    (backlog_all (length s.processors) s events fits.some (backlog_at_rest s at fits) run)
-    (known_after s events i known) guaranteed
+owed_is_bounded s events most i at fits run known guaranteed =
+    let ends = backlog_all (length s.processors) most 0 s events fits.some (omega arith)
+    (backlog_at_rest s at fits) run in
+    let here = bounded (length s.processors) ends.lost (after_all s events) i fits.some ends.backlog
+    (known_after s events i known) guaranteed in
+    let less = ends.most_lost in
+    omega (arith, here, less)
 
 -- the bound of a leaf is that of the state before
-same_most : (n : ℕ) (t u : Reservations) (i brought held : ℕ) → Backlog n t → Backlog n u
+same_most : (n v w : ℕ) (t u : Reservations) (i brought held : ℕ) → Backlog n v t → Backlog n w u
     → IsKept t u i brought held → most_of u (account_at u i) ≡ most_of t (account_at t i)
-same_most n t u i brought held b_t b_u kept =
+same_most n v w t u i brought held b_t b_u kept =
     ap (λ (m : ℕ). 2 * m * quantum_of u + (account_at u i).guarantee * u.credit)
     (b_u.processors_are ∙ sym b_t.processors_are)
     ∙ (ap (λ (q : ℕ). 2 * length t.processors * (WHOLE * q)
@@ -113,43 +123,42 @@ same_most n t u i brought held b_t b_u kept =
     kept.credit))
 
 pub windows_are_served : WindowsAreServed
-windows_are_served s before window i k at fits run known wants =
+windows_are_served s before window most i k at fits run known wants =
     by_order (min (k * WHOLE) (account_at t i).guarantee * time_of window
-    ≤ WHOLE * held_in i t window + most_of t (account_at t i)) 0 (account_at t i).guarantee
-    served nothing where
+    ≤ WHOLE * held_in i t window + (most_of t (account_at t i) + WHOLE * most)) 0
+    (account_at t i).guarantee served nothing where
       n : ℕ
       n = length s.processors
 
       t : Reservations
       t = after_all s before
 
-      parts : IsFairRun s before × IsFairRun t window
-      parts = run_split s before window run
+      parts : Parts n most t window
+      parts = run_split n most 0 s before window fits.some (omega arith)
+          (backlog_at_rest s at fits) run
 
-      b_t : Backlog n t
-      b_t = backlog_all n s before fits.some (backlog_at_rest s at fits) parts.0
-
-      b_u : Backlog n (after_all t window)
-      b_u = backlog_all n t window fits.some b_t parts.1
+      ends : Ends n most (after_all t window)
+      ends = backlog_all n most parts.lost t window fits.some parts.less parts.backlog parts.run
 
       known_t : i < length t.accounts
       known_t = known_after s before i known
 
       served : 0 < (account_at t i).guarantee
           → min (k * WHOLE) (account_at t i).guarantee * time_of window
-          ≤ WHOLE * held_in i t window + most_of t (account_at t i)
+          ≤ WHOLE * held_in i t window + (most_of t (account_at t i) + WHOLE * most)
       served guaranteed =
-          let kept = window_kept n t window i k fits.some b_t known_t guaranteed parts.1 wants in
-          let most = bounded n (after_all t window) i fits.some b_u
+          let kept = window_kept most parts.lost t window i k known_t parts.run wants in
+          let here = bounded n ends.lost (after_all t window) i fits.some ends.backlog
           (known_after t window i known_t) (omega (arith, guaranteed, kept.guarantee)) in
-          let same = same_most n t (after_all t window) i
-          (min (k * WHOLE) (account_at t i).guarantee * time_of window) (held_in i t window) b_t b_u
-          kept in
-          omega (arith, kept.owed, most, same)
+          let same = same_most n parts.lost ends.lost t (after_all t window) i
+          (min (k * WHOLE) (account_at t i).guarantee * time_of window) (held_in i t window)
+          parts.backlog ends.backlog kept in
+          let less = ends.most_lost in
+          omega (arith, kept.owed, here, same, less)
 
       nothing : (account_at t i).guarantee ≤ 0
           → min (k * WHOLE) (account_at t i).guarantee * time_of window
-          ≤ WHOLE * held_in i t window + most_of t (account_at t i)
+          ≤ WHOLE * held_in i t window + (most_of t (account_at t i) + WHOLE * most)
       nothing none =
           let zero_rate : min (k * WHOLE) (account_at t i).guarantee ≤ 0 = omega (arith, none) in
           let product = mul-le-mul_right (time_of window) zero_rate in

@@ -58,11 +58,6 @@ module _ (c u d v : ℕ) where
   first_tasks (suc zero) waits = omega arith
   first_tasks (suc (suc k)) waits = omega arith
 
-  first_passes : WaitsBeyondCredit s1
-  first_passes zero past = absurd (let clash : ⊥ = omega (arith, past) in clash)
-  first_passes (suc zero) past = omega arith
-  first_passes (suc (suc k)) past = absurd (let clash : ⊥ = omega (arith, past) in clash)
-
   -- the second leaf's turn
   second_due : IsDue s3 (account_at s3 1)
   second_due = record { owes = omega arith; behind = omega arith }
@@ -94,30 +89,54 @@ module _ (c u d v : ℕ) where
   second_tasks (suc zero) waits = omega arith
   second_tasks (suc (suc k)) waits = omega arith
 
-  second_passes : WaitsBeyondCredit s4
-  second_passes zero past = omega arith
-  second_passes (suc zero) past = absurd (let clash : ⊥ = omega (arith, past) in clash)
-  second_passes (suc (suc k)) past = absurd (let clash : ⊥ = omega (arith, past) in clash)
-
   one_round : (es : List Step)
-      → IsFairRun (halves (c + 2 + 2 - 2) (u + 2) (d + 2 + 2 - 2) (v + 2)) es
-      → IsFairRun s0 (Pick 0 0 ∷ Pass 2 ∷ End 0 2 true ∷ Pick 0 1 ∷ Pass 2 ∷ End 0 2 true ∷ es)
+      → IsFairRun 0 0 (halves (c + 2 + 2 - 2) (u + 2) (d + 2 + 2 - 2) (v + 2)) es
+      → IsFairRun 0 0 s0 (Pick 0 0 ∷ Pass 2 ∷ End 0 2 true ∷ Pick 0 1 ∷ Pass 2 ∷ End 0 2 true ∷ es)
   one_round es rest = (
     first_pick,
-    (first_beyond, first_tasks),
+    (first_beyond, first_tasks, omega arith),
     (
-      tt,
-      (inl (tt, tt), first_passes, (omega arith, tt)),
+      0,
+      refl,
+      omega arith,
       (
-        record { run = _; runs = refl; known = omega arith },
+        tt,
         (omega arith, tt),
         (
-          second_pick,
-          (second_beyond, second_tasks),
+          0,
+          inl ((tt, tt), refl),
+          omega arith,
           (
-            tt,
-            (inl (tt, tt), second_passes, (omega arith, tt)),
-            (record { run = _; runs = refl; known = omega arith }, (omega arith, tt), rest),
+            record { run = _; runs = refl; known = omega arith },
+            ((omega arith, tt), omega arith),
+            (
+              0,
+              refl,
+              omega arith,
+              (
+                second_pick,
+                (second_beyond, second_tasks, omega arith),
+                (
+                  0,
+                  refl,
+                  omega arith,
+                  (
+                    tt,
+                    (omega arith, tt),
+                    (
+                      0,
+                      inl ((tt, tt), refl),
+                      omega arith,
+                      (
+                        record { run = _; runs = refl; known = omega arith },
+                        ((omega arith, tt), omega arith),
+                        (0, refl, omega arith, rest),
+                      ),
+                    ),
+                  ),
+                ),
+              ),
+            ),
           ),
         ),
       ),
@@ -126,7 +145,7 @@ module _ (c u d v : ℕ) where
 
 -- ---- all rounds
 
-all_rounds : (rounds c u d v : ℕ) → IsFairRun (halves c u d v) (turns rounds)
+all_rounds : (rounds c u d v : ℕ) → IsFairRun 0 0 (halves c u d v) (turns rounds)
 all_rounds zero c u d v = tt
 all_rounds (suc rounds) c u d v =
     one_round c u d v (turns rounds)

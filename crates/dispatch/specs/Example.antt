@@ -41,4 +41,4 @@ turns (suc rounds) =
 -- The premises are met by a run of any length.
 abbrev pub PremisesAreMet : Type 0
 PremisesAreMet = (rounds : ℕ) → IsAtRest (halves 0 0 0 0) × FitsHost (halves 0 0 0 0)
-    × IsFairRun (halves 0 0 0 0) (turns rounds)
+    × IsFairRun 0 0 (halves 0 0 0 0) (turns rounds)

@@ -19,7 +19,8 @@ use Rattle.dispatch.specs.declared.reservation.Terms.{Terms}
 use Rattle.dispatch.specs.Input.{input_of}
 use Rattle.dispatch.specs.Replay.{input_fault, input_after, nothing_set}
 use Rattle.dispatch.specs.Reservation.{Reservations, WHOLE, terms_of, credit_in, tasks_of}
-use Rattle.dispatch.specs.Windows.{FitsHost, IsFair}
+use Rattle.dispatch.specs.Reservation.{most_in}
+use Rattle.dispatch.specs.Windows.{FitsHost, IsFair, IsLost}
 
 -- whether a leaf that is owed more than its credit has a task that waits
 abbrev pub waits_beyond : Terms → Account → Bool
@@ -48,20 +49,42 @@ abbrev pub has_guarantee : ℕ → Option Account → Bool
 has_guarantee guarantee None = guarantee == 0
 has_guarantee guarantee (Some a) = guarantee == a.guarantee
 
+-- whether what the leaf is owed is not above the most
+abbrev pub is_whole : Terms → Option Account → Bool
+is_whole t None = true
+is_whole t (Some a) = not (nat_lt (most_in t a) a.owed)
+
+-- the same of the leaf that a processor runs, if it runs one
+abbrev pub is_whole_at : Reservations → Option (Option Run) → Bool
+is_whole_at s (Some (Some run)) = is_whole (terms_of s) (slice_get s.accounts run.leaf)
+is_whole_at s (Some None) = true
+is_whole_at s None = true
+
 -- whether the premises hold at an event
 abbrev pub is_fair : Reservations → Step → Bool
-is_fair s (Pass ns) =
-    (list_all is_busy s.processors || list_all is_still s.accounts)
-    && (list_all (waits_beyond (terms_of s)) s.accounts
-    && list_all (is_within s.quantum ns) s.processors)
-is_fair s (Wake i tasks) = true
+is_fair s (Pass ns) = list_all (is_within s.quantum ns) s.processors
+is_fair s (Wake i tasks) = is_whole (terms_of s) (slice_get s.accounts i)
 is_fair s (Pick p i) =
-    list_all (waits_beyond (terms_of s)) s.accounts && list_all has_tasks_for s.accounts
-is_fair s (End p used remains) = list_all (is_within s.quantum 0) s.processors
+    list_all (waits_beyond (terms_of s)) s.accounts
+    && (list_all has_tasks_for s.accounts
+    && is_whole (terms_of s) (slice_get s.accounts i))
+is_fair s (End p used remains) =
+    list_all (is_within s.quantum 0) s.processors
+    && is_whole_at s (slice_get s.processors p)
 is_fair s Level = true
-is_fair s (Give i amount guarantee) = has_guarantee guarantee (slice_get s.accounts i)
-is_fair s (Leave i) = true
+is_fair s (Give i amount guarantee) =
+    has_guarantee guarantee (slice_get s.accounts i)
+    && is_whole (terms_of s) (slice_get s.accounts i)
+is_fair s (Leave i) = is_whole (terms_of s) (slice_get s.accounts i)
 is_fair s (Cut i) = true
+
+-- the processors' time that was lost after an event
+abbrev pub lost_after : Reservations → ℕ → Step → ℕ
+lost_after s lost (Pass ns) =
+    if list_all is_busy s.processors then lost
+    else if list_all is_still s.accounts && list_all (waits_beyond (terms_of s)) s.accounts then 0
+    else lost + length s.processors * ns
+lost_after s lost _ = lost
 
 -- whether the guarantees add up to this at most
 abbrev pub fit_in : ℕ → List Account → Bool
@@ -75,10 +98,11 @@ fits_host s =
     nat_lt 0 (length s.processors)
     && (fit_in (WHOLE * length s.processors) s.accounts && not (nat_lt s.credit s.slack))
 
--- The tests tell exactly where the premises hold.
+-- The tests tell exactly where the premises hold, and the time that is lost.
 pub record PremisesAreTold : Type 0 where
   pub host : (s : Reservations) → (fits_host s ≡ true) ↔ FitsHost s
   pub event : (s : Reservations) (e : Step) → (is_fair s e ≡ true) ↔ IsFair s e
+  pub lost : (s : Reservations) (lost : ℕ) (e : Step) → IsLost lost (lost_after s lost e) s e
 
 -- ---- of a trace
 
@@ -87,24 +111,32 @@ abbrev pub one_more : ℕ → ℕ
 one_more n = min (n + 1) (2 ^ 64 - 1)
 
 -- the premises so far, and those at an event of the line n
-abbrev pub told_event : Premises → ℕ → Bool → Premises
-told_event p n holds =
-    if holds then record p { events = one_more p.events }
+abbrev pub told_event : Premises → ℕ → Bool → ℕ → Premises
+told_event p n holds lost =
+    if holds then record p { events = one_more p.events; lost = lost }
     else record {
       has_terms = p.has_terms;
       events = one_more p.events;
       unmet = one_more p.unmet;
       first = if p.unmet == 0 then n else p.first;
+      lost = lost;
     }
 
--- the premises so far, and those at an input: of an event, the host fits and the event is fair
+-- The premises so far, and those at an event: the host fits, the event is fair, and no more than a
+-- quantum is lost. If more is, it counts anew.
+abbrev pub told_step : Reservations → ℕ → Premises → Step → ℕ → Premises
+told_step s n p e lost =
+    told_event p n (fits_host s && (is_fair s e && not (nat_lt s.quantum lost)))
+    (if nat_lt s.quantum lost then 0 else lost)
+
+-- the premises so far, and those at an input
 abbrev pub told : Reservations → ℕ → Premises → Input → Premises
-told s n p (lines.Event e) = told_event p n (fits_host s && is_fair s e)
+told s n p (lines.Event e) = told_step s n p e (lost_after s p.lost e)
 told s n p (lines.Terms q w c) = record p { has_terms = true }
 told s n p _ = p
 
 abbrev pub none_told : Premises
-none_told = record { has_terms = false; events = 0; unmet = 0; first = 0 }
+none_told = record { has_terms = false; events = 0; unmet = 0; first = 0; lost = 0 }
 
 -- what follows a line that is read, if it has no fault
 abbrev pub told_at : Option LineFault → Premises → Premises → Premises

@@ -1,5 +1,5 @@
 -- Runs of the rule of reservations, and what it promises of each window of time.
-use Rattle.std.specs.Prelude.{◌≡◌, ◌≢◌, ℕ, ◌+◌, ◌-◌, ◌*◌, ◌<◌, ◌≤◌, ◌==◌, ◌⊎◌, min, List, []}
+use Rattle.std.specs.Prelude.{◌≡◌, ◌≢◌, ℕ, ◌+◌, ◌-◌, ◌*◌, ◌<◌, ◌≤◌, ◌==◌, ◌⊎◌, min, List, [], slice_get}
 use Rattle.std.specs.Prelude.{◌∷◌, ◌++◌, length, Option, None, Some, if◌then◌else◌}
 use Rattle.std.specs.List.{sum_by, AllByRecursion}
 use Rattle.dispatch.specs.declared.reservation.Run.{Run}
@@ -42,36 +42,54 @@ IsBusy (Some run) = Unit {0}
 abbrev pub NoneWaits : Reservations → Type 0
 NoneWaits s = (k : ℕ) → (account_at s k).share.waiting ≡ 0
 
--- No processor is free while a leaf waits: each that may pick did.
-abbrev pub IsPrompt : Reservations → Type 0
-IsPrompt s = AllByRecursion IsBusy s.processors ⊎ NoneWaits s
-
 -- the run takes no more than this, also if this much time passes
 abbrev pub RunsWithin : ℕ → ℕ → Option Run → Type 0
 RunsWithin quantum t None = Unit {0}
 RunsWithin quantum t (Some run) = run.age + t ≤ quantum
 
+-- What the leaf is owed is not above the most, so nothing of it is forgotten.
+abbrev pub IsWhole : Reservations → ℕ → Type 0
+IsWhole s i = (account_at s i).owed ≤ most_of s (account_at s i)
+
+-- the same of the leaf that a processor runs, if it runs one
+abbrev pub IsWholeAt : Reservations → Option (Option Run) → Type 0
+IsWholeAt s (Some (Some run)) = IsWhole s run.leaf
+IsWholeAt s _ = Unit {0}
+
 -- The premises of the law at an event. They can be told of each event of a trace.
 abbrev pub IsFair : Reservations → Step → Type 0
-IsFair s (Pass t) =
-    IsPrompt s × WaitsBeyondCredit s × AllByRecursion (RunsWithin s.quantum t) s.processors
-IsFair s (Wake i tasks) = Unit {0}
-IsFair s (Pick p i) = WaitsBeyondCredit s × HasTasksForGuarantees s
-IsFair s (End p used remains) = AllByRecursion (RunsWithin s.quantum 0) s.processors
+IsFair s (Pass t) = AllByRecursion (RunsWithin s.quantum t) s.processors
+IsFair s (Wake i tasks) = IsWhole s i
+IsFair s (Pick p i) = WaitsBeyondCredit s × HasTasksForGuarantees s × IsWhole s i
+IsFair s (End p used remains) =
+    AllByRecursion (RunsWithin s.quantum 0) s.processors
+    × IsWholeAt s (slice_get s.processors p)
 IsFair s Level = Unit {0}
-IsFair s (Give i amount guarantee) = guarantee ≡ (account_at s i).guarantee
-IsFair s (Leave i) = Unit {0}
+IsFair s (Give i amount guarantee) = (guarantee ≡ (account_at s i).guarantee) × IsWhole s i
+IsFair s (Leave i) = IsWhole s i
 IsFair s (Cut i) = Unit {0}
+
+-- The processors' time that was lost before an event and after it, since a moment when no leaf
+-- waited and none was owed more than its credit. All processors' time counts while one is free and
+-- a leaf waits.
+abbrev pub IsLost : ℕ → ℕ → Reservations → Step → Type 0
+IsLost lost now s (Pass t) =
+    (AllByRecursion IsBusy s.processors × (now ≡ lost))
+    ⊎ ((NoneWaits s × WaitsBeyondCredit s × (now ≡ 0))
+    ⊎ (now ≡ lost + length s.processors * t))
+IsLost lost now s _ = now ≡ lost
 
 -- the rule allows each event
 abbrev pub IsRun : Reservations → List Step → Type 0
 IsRun s [] = Unit {0}
 IsRun s (e ∷ es) = Allows s e × IsRun (after s e) es
 
--- the rule allows each event, and the premises hold
-abbrev pub IsFairRun : Reservations → List Step → Type 0
-IsFairRun s [] = Unit {0}
-IsFairRun s (e ∷ es) = Allows s e × IsFair s e × IsFairRun (after s e) es
+-- The rule allows each event, the premises hold, and no more time is lost than this. So much was
+-- lost before.
+abbrev pub IsFairRun : ℕ → ℕ → Reservations → List Step → Type 0
+IsFairRun most lost s [] = Unit {0}
+IsFairRun most lost s (e ∷ es) = Allows s e × IsFair s e
+    × ((now : ℕ) × IsLost lost now s e × (now ≤ most) × IsFairRun most now (after s e) es)
 
 -- the state after all events
 abbrev pub after_all : Reservations → List Step → Reservations
@@ -97,10 +115,11 @@ owed_in_all s i =
 
 -- What a leaf is owed is bounded, whatever the others do and how many they are.
 abbrev pub OwedIsBounded : Type 0
-OwedIsBounded = (s : Reservations) (events : List Step) (i : ℕ) → IsAtRest s → FitsHost s
-    → IsFairRun s events → i < length s.accounts →
+OwedIsBounded = (s : Reservations) (events : List Step) (most i : ℕ) → IsAtRest s → FitsHost s
+    → IsFairRun most 0 s events → i < length s.accounts →
     let t = after_all s events in
-    0 < (account_at t i).guarantee → owed_in_all t i ≤ most_of t (account_at t i)
+    0 < (account_at t i).guarantee
+    → owed_in_all t i ≤ most_of t (account_at t i) + WHOLE * most
 
 -- the nanoseconds that pass
 abbrev pub time_of : List Step → ℕ
@@ -134,11 +153,11 @@ Wants k i s [] = Unit {0}
 Wants k i s (e ∷ es) = WantsAt k i s e × Wants k i (after s e) es
 
 -- In each window of a run a leaf that wants k processors has them, or its guarantee if that is
--- less, but for two quanta for each processor and the credit of its guarantee. Other leaves, their
--- number, and plans that keep the guarantees change nothing.
+-- less, but for two quanta for each processor, the credit of its guarantee, and the time that may
+-- be lost. Other leaves, their number, and plans that keep the guarantees change nothing.
 abbrev pub WindowsAreServed : Type 0
-WindowsAreServed = (s : Reservations) (before window : List Step) (i k : ℕ) → IsAtRest s
-    → FitsHost s → IsFairRun s (before ++ window) → i < length s.accounts →
+WindowsAreServed = (s : Reservations) (before window : List Step) (most i k : ℕ) → IsAtRest s
+    → FitsHost s → IsFairRun most 0 s (before ++ window) → i < length s.accounts →
     let t = after_all s before in
     Wants k i t window → min (k * WHOLE) (account_at t i).guarantee * time_of window
-    ≤ WHOLE * held_in i t window + most_of t (account_at t i)
+    ≤ WHOLE * held_in i t window + (most_of t (account_at t i) + WHOLE * most)

@@ -44,8 +44,8 @@ pub fn credit(terms: Terms, account: Account) -> u128
     u128::from(quantum(terms)) + u128::from(account.guarantee) * u128::from(terms.credit)
 }
 
-// The most that a leaf is owed.
-fn most(terms: Terms, account: Account) -> u128
+/// The most that a leaf is owed.
+pub fn most(terms: Terms, account: Account) -> u128
     ensures { result ≡ most_in terms account }
 {
     let quanta = 2 * u128::from(terms.processors) * u128::from(quantum(terms));

@@ -68,21 +68,26 @@ pub fn only_sleepers_are_lifted()
 
 /// What a leaf is owed is bounded, whatever the others do and how many they are.
 ///
-/// It is at most what its guarantee brings in the time of the credit, and two quanta less one for
-/// each processor; it is at least less than nothing by one quantum. The premises are those of
-/// [`windows_are_served`].
+/// It is at most what its guarantee brings in the time of the credit, two quanta less one for each
+/// processor, and the time that may be lost. It is never below a quantum less than nothing. The
+/// premises are those of [`windows_are_served`].
 pub fn owed_is_bounded()
     ensures { OwedIsBounded }
 {}
 
 /// In each window of time of a run, a leaf that wants k processors has them, or its guarantee if
-/// that is less, but for two quanta for each processor and what its guarantee brings in the time of
-/// the credit.
+/// that is less, but for two quanta for each processor, what its guarantee brings in the time of the
+/// credit, and the time that may be lost.
 ///
 /// The bound knows neither the other leaves nor their number, and the window may hold new plans that
-/// keep the guarantees. The run begins at rest. Its premises are told of each event: guarantees fit
-/// the host, no processor is free while a leaf waits, no run is longer than a quantum, and a leaf
-/// that is owed more than its credit has a task that waits whenever a processor picks.
+/// keep the guarantees. The run begins at rest. Its premises are told of each event:
+///
+/// - The guarantees fit the host, and no run is longer than a quantum.
+/// - While a processor is free and a leaf waits, the time of all processors is lost: no more than the
+///   time that may be lost, since no leaf waited and none was owed more than its credit.
+/// - At a pick each leaf that is owed more than its credit has a task that waits, and each leaf that
+///   waits has as many tasks as its guarantee has processors.
+/// - No leaf is owed more than the most at an event of its own.
 pub fn windows_are_served()
     ensures { WindowsAreServed }
 {}

@@ -1,15 +1,17 @@
 //! Where the premises of the law of windows fail in a trace.
-ghost use Rattle.std.specs.Prelude.{◌≡◌, ◌++◌, IfOk, OnOk};
+ghost use Rattle.std.specs.Prelude.{◌≡◌, ◌++◌, IfOk, OnOk, nat_lt};
+ghost use Rattle.std.specs.Prelude.{if◌then◌else◌};
 ghost use Rattle.std.specs.List.{list_all};
 ghost use Rattle.dispatch.specs.Premises.{waits_beyond, has_tasks_for, is_still, is_busy};
 ghost use Rattle.dispatch.specs.Premises.{is_within, has_guarantee, fit_in, one_more, told};
 ghost use Rattle.dispatch.specs.Premises.{premises_of, premises_text, told_event};
 ghost use Rattle.dispatch.specs.Premises.{unmet_text, events_text, first_text};
+ghost use Rattle.dispatch.specs.Premises.{is_whole, told_step};
 
-use crate::accounts::{credit, tasks};
+use crate::accounts::{credit, most, tasks};
 use crate::input::Input;
 use crate::replay::follow;
-use crate::reservation::{Account, Run, Terms};
+use crate::reservation::{Account, Run, Step, Terms};
 use crate::scheduler::Scheduler;
 use bw_streams::put_number;
 use bw_text::split_line;
@@ -29,6 +31,8 @@ pub struct Premises {
     pub unmet: u64,
     /// Line of the first of them, from 1, or 0 if there is none.
     pub first: u64,
+    /// Processors' time that was lost since no leaf waited, in nanoseconds.
+    pub lost: u64,
 }
 
 fn waits_beyond(terms: Terms, account: Account) -> bool
@@ -134,13 +138,27 @@ fn one_more(n: u64) -> u64
     (u128::from(n) + 1).min(u128::from(u64::MAX)) as u64
 }
 
+/// Whether what the leaf is owed is not above the most.
+pub fn is_whole(terms: Terms, account: Option<Account>) -> bool
+    ensures { result ≡ is_whole terms account }
+{
+    match account {
+        None => true,
+        Some(account) => !(most(terms, account) < u128::from(account.owed)),
+    }
+}
+
 // The premises so far, and those at an event.
-fn told_event(premises: Premises, line: u64, holds: bool) -> Premises
-    ensures { result ≡ told_event premises line holds }
+fn told_event(premises: Premises, line: u64, holds: bool, lost: u64) -> Premises
+    ensures { result ≡ told_event premises line holds lost }
 {
     let events = one_more(premises.events);
     if holds {
-        Premises { events, ..premises }
+        Premises {
+            events,
+            lost,
+            ..premises
+        }
     } else {
         Premises {
             has_terms: premises.has_terms,
@@ -151,8 +169,35 @@ fn told_event(premises: Premises, line: u64, holds: bool) -> Premises
             } else {
                 premises.first
             },
+            lost,
         }
     }
+}
+
+// The time that is lost, or 0 if it is more than a quantum.
+fn kept_lost(quantum: u32, lost: u128) -> u64
+    ensures { result ≡ (if nat_lt quantum lost then 0 else lost) }
+{
+    if u128::from(quantum) < lost {
+        0
+    } else {
+        lost as u64
+    }
+}
+
+// The premises so far, and those at an event by which so much time is lost.
+fn told_step(
+    scheduler: &Scheduler,
+    line: u64,
+    premises: Premises,
+    step: Step,
+    lost: u128,
+) -> Premises
+    ensures { result ≡ told_step scheduler.now line premises step lost }
+{
+    let quantum = scheduler.quantum();
+    let holds = scheduler.fits_host() && (scheduler.is_fair(step) && !(u128::from(quantum) < lost));
+    told_event(premises, line, holds, kept_lost(quantum, lost))
 }
 
 // The premises so far, and those at the input of a line.
@@ -161,8 +206,8 @@ fn told(scheduler: &Scheduler, line: u64, premises: Premises, input: Input) -> P
 {
     match input {
         Input::Event(step) => {
-            let holds = scheduler.fits_host() && scheduler.is_fair(step);
-            told_event(premises, line, holds)
+            let lost = scheduler.lost_after(premises.lost, step);
+            told_step(scheduler, line, premises, step, lost)
         }
         Input::Terms { .. } => Premises {
             has_terms: true,
@@ -187,6 +232,7 @@ pub fn tell_premises(alloc: Global, text: &[u8]) -> Result<Premises, AllocError>
         events: 0,
         unmet: 0,
         first: 0,
+        lost: 0,
     };
     let mut line: u64 = 1;
     let mut rest = text;

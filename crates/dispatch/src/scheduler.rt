@@ -6,7 +6,7 @@ ghost use Rattle.dispatch.specs.Reservation.{terms_of, aged, least_clock, greate
 ghost use Rattle.dispatch.specs.Reservation.{level_now, lesser_clock, greater_clock, least_known};
 ghost use Rattle.dispatch.specs.Steps.{allowed, happens, free_processor, run_of, new_account};
 ghost use Rattle.dispatch.specs.Steps.{age_fits};
-ghost use Rattle.dispatch.specs.Premises.{fits_host, is_fair};
+ghost use Rattle.dispatch.specs.Premises.{fits_host, is_fair, is_whole_at, lost_after};
 
 use crate::accounts::{
     account_cut, account_ended, account_given, account_left, account_picked, account_woken,
@@ -15,6 +15,7 @@ use crate::accounts::{
 use crate::events::Refusal;
 use crate::premises::{
     all_busy, all_have_tasks, all_still, all_wait_beyond, all_within, fit_in, has_guarantee,
+    is_whole,
 };
 use crate::reservation::{Account, Run, Step, Terms};
 use std::alloc::{AllocError, Global};
@@ -465,13 +466,37 @@ impl Scheduler {
         self.processor_count() > 0 && (fit_in(room, &self.accounts) && !(self.credit < self.slack))
     }
 
-    // Whether the premises hold while so many nanoseconds pass.
-    fn passes_fairly(&self, ns: u64) -> bool
-        ensures { result ≡ is_fair self.now (Step.Pass ns) }
+    // Whether the premises hold at a pick of a leaf.
+    fn picks_fairly(&self, processor: u64, leaf: u64) -> bool
+        ensures { result ≡ is_fair self.now (Step.Pick processor leaf) }
     {
-        (all_busy(&self.processors) || all_still(&self.accounts))
-            && (all_wait_beyond(self.terms(), &self.accounts)
-                && all_within(self.quantum, ns, &self.processors))
+        all_wait_beyond(self.terms(), &self.accounts)
+            && (all_have_tasks(&self.accounts) && is_whole(self.terms(), self.account(leaf)))
+    }
+
+    // Whether what the leaf that a processor runs is owed is not above the most.
+    fn is_whole_at(&self, run: Option<Option<Run>>) -> bool
+        ensures { result ≡ is_whole_at self.now run }
+    {
+        match run {
+            Some(Some(run)) => is_whole(self.terms(), self.account(run.leaf)),
+            _ => true,
+        }
+    }
+
+    // Whether the premises hold at an end on a processor.
+    fn ends_fairly(&self, processor: u64, used: u64, remains: bool) -> bool
+        ensures { result ≡ is_fair self.now (Step.End processor used remains) }
+    {
+        all_within(self.quantum, 0, &self.processors) && self.is_whole_at(self.processor(processor))
+    }
+
+    // Whether the premises hold where a plan gives a leaf this guarantee.
+    fn gives_fairly(&self, leaf: u64, amount: u64, guarantee: u64) -> bool
+        ensures { result ≡ is_fair self.now (Step.Give leaf amount guarantee) }
+    {
+        let account = self.account(leaf);
+        has_guarantee(guarantee, account) && is_whole(self.terms(), account)
     }
 
     /// Whether the premises of the law of windows hold at an event.
@@ -479,17 +504,45 @@ impl Scheduler {
         ensures { result ≡ is_fair self.now step }
     {
         match step {
-            Step::Pass(ns) => self.passes_fairly(ns),
-            Step::Pick { .. } => {
-                all_wait_beyond(self.terms(), &self.accounts) && all_have_tasks(&self.accounts)
+            Step::Pass(ns) => all_within(self.quantum, ns, &self.processors),
+            Step::Wake { leaf, .. } | Step::Leave(leaf) => {
+                is_whole(self.terms(), self.account(leaf))
             }
-            Step::End { .. } => all_within(self.quantum, 0, &self.processors),
+            Step::Pick { processor, leaf } => self.picks_fairly(processor, leaf),
+            Step::End {
+                processor,
+                used,
+                remains,
+            } => self.ends_fairly(processor, used, remains),
             Step::Give {
                 leaf,
+                amount,
                 guarantee,
-                ..
-            } => has_guarantee(guarantee, self.account(leaf)),
-            _ => true,
+            } => self.gives_fairly(leaf, amount, guarantee),
+            Step::Level | Step::Cut(_) => true,
+        }
+    }
+
+    // The processors' time that was lost after so many nanoseconds.
+    fn lost_after_pass(&self, lost: u64, ns: u64) -> u128
+        ensures { result ≡ lost_after self.now lost (Step.Pass ns) }
+    {
+        if all_busy(&self.processors) {
+            u128::from(lost)
+        } else if all_still(&self.accounts) && all_wait_beyond(self.terms(), &self.accounts) {
+            0
+        } else {
+            u128::from(lost) + u128::from(self.processor_count()) * u128::from(ns)
+        }
+    }
+
+    /// The processors' time that was lost after an event, if so much was lost before it.
+    pub fn lost_after(&self, lost: u64, step: Step) -> u128
+        ensures { result ≡ lost_after self.now lost step }
+    {
+        match step {
+            Step::Pass(ns) => self.lost_after_pass(lost, ns),
+            _ => u128::from(lost),
         }
     }
 }
