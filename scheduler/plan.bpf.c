@@ -31,8 +31,6 @@ struct cpumask no_cpus SEC(".bss.types") __attribute__((visibility("hidden")));
 
 /* Levels of groups that are looked at from a task's group up. */
 #define MOST_DEPTH 64
-/* How much longer a slice is whose task has to stay on its CPU. */
-#define MOMENT_NS (GIVEN_NS / 6)
 /* A number that is given again is the first of a list. */
 GUARDED u32 first_free, numbers;
 
@@ -404,7 +402,8 @@ void BPF_PROG(plan_running, struct task_struct *p)
     struct on_cpu *here = on_cpu(own);
     u64 now = bpf_ktime_get_ns(), runtime = p->se.sum_exec_runtime;
 
-    if (!number || is_exempt(p) || task_at(number)->state == RUNS)
+    /* (one whose slice was ended while it was on its way gives way in a moment) */
+    if (!number || is_exempt(p) || task_at(number)->state == RUNS || task_at(number)->is_passing)
         return;
     /* it ran already when the scheduler was loaded, maybe on another CPU */
     row = row_of(p, number);

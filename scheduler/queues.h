@@ -25,6 +25,9 @@
 /* A leaf that is behind by as much when it wakes is no sleeper, which gains by a lead. */
 #define LONG_SLEEP_NS 48000000ULL
 #define DEFAULT_WEIGHT 100
+/* How much longer a slice is whose task has to stay on its CPU. One that has begun so lately is not
+ * ended for another CPU's sake: its task may be on the way still. */
+#define MOMENT_NS (GIVEN_NS / 6)
 /* Slices that are cut at a waking. Stages of a section: each leaf may be made due, or put aside. */
 #define MOST_CUTS 4
 #define MOST_STAGES (4 * MOST_LEAVES)
@@ -433,7 +436,7 @@ static __noinline u32 gives_way(u32 cpu, u32 number, u32 due)
     bpf_for(each, 0, cpus_there) {
         struct on_cpu *on = on_cpu(each);
         if (each == cpu || !on->task || on->is_due || on->handed || !is_open(tree, each)
-            || !is_settled_less(most, on->row))
+            || on->since_ns + MOMENT_NS > time_ns || !is_settled_less(most, on->row))
             continue;
         most = on->row;
         found = each;

@@ -206,7 +206,7 @@ static __noinline u32 least_uncut(void)
 
     bpf_for(cpu, 0, cpus_there) {
         struct on_cpu *on = on_cpu(cpu);
-        if (!on->task || on->handed || on->since_ns >= time_ns
+        if (!on->task || on->handed || on->since_ns + MOMENT_NS > time_ns
             || (least < NOBODY && is_settled_less(least, on->row)))
             continue;
         least = on->row;
