@@ -97,7 +97,7 @@ def test_answers_follow_the_library(answering):
     singles = singles_of(engine, model)
     assert [(single.least, single.plan is None) for single in singles] == (
         [(5000, False), (None, True), (None, True)])
-    assert single_settings[0].plan.by_path()["a"].gets == 20
+    assert singles[0].plan.by_path()["a"].gets == 20
 
 
 def test_a_value_that_does_not_reach_is_no_answer(answering):
