@@ -9,7 +9,8 @@ from contextlib import contextmanager
 
 import pytest
 import trees
-from arbiter_host.base import names, options, output
+from arbiter_host import options
+from arbiter_host.base import names, output
 from arbiter_host.sources import hostfile
 from places import PACKAGE
 
