@@ -74,7 +74,9 @@ def written(request):
         pages.write_answers(results)
 
 
-def test_block(block, program, top, library, written):
+def test_block(block, program, top, library, written, request):
+    if request.config.getoption("checked") and "ulimit -v" in block.text:
+        pytest.skip("the checked build takes more memory")
     printed = output_of(block, program, top, library)
     if printed != block.answer:
         written.append((block, printed))
