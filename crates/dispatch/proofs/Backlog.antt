@@ -30,7 +30,7 @@ use Rattle.dispatch.proofs.Demands.{demand_early, demand_back, demand_none}
 use Rattle.dispatch.proofs.Totals.{sum_set, sum_set_each, sum_map, sum_each, sum_none}
 use Rattle.dispatch.proofs.Totals.{one_of_sum, sum_products}
 
--- what a run may still take of its quantum
+-- part of its quantum that a run may still take
 abbrev pub rest : ℕ → Option Run → ℕ
 rest q None = 0
 rest q (Some run) = q - WHOLE * run.age
@@ -39,7 +39,7 @@ abbrev pub busy : Option Run → ℕ
 busy None = 0
 busy (Some run) = 1
 
--- what a leaf may still ask for within its credit and e nanoseconds
+-- amount that a leaf may still ask for within its credit and e nanoseconds
 abbrev pub demand_by : ℕ → ℕ → ℕ → Account → ℕ
 demand_by q c e a =
     demand a.guarantee q (a.guarantee * c) a.owed (a.share.running * q) (a.guarantee * e)
@@ -176,7 +176,7 @@ short_or_idle quantum t (None ∷ ps) within = more (short_or_idle quantum t ps 
 
 -- ---- leaves
 
--- what is given as x or as y
+-- a fact that is given as x or as y
 either_at_most : (b : Bool) (x y z : ℕ) → x ≤ z → y ≤ z → (if◌then◌else◌ {A = ℕ} b x y) ≤ z
 either_at_most true x y z one two = one
 either_at_most false x y z one two = two
@@ -342,7 +342,7 @@ owes_later s i e some all waits due less within =
       ]
     ]
 
--- what another leaf may ask for, where the pick pays less
+-- amount that another leaf may ask for, where the pick pays less
 other_demand : (s : Reservations) (p i e k : ℕ) → 0 < length s.processors → s.slack ≤ s.credit
     → WaitsBeyondCredit s → HasTasksForGuarantees s → MayPick s p i → PaysLess s i e
     → demand_by (quantum_of s) s.credit e (account_at s k)
@@ -560,7 +560,7 @@ backlog_picked n w s p i some b beyond all may = record {
 
 -- ---- an end
 
--- what a part of a run gives back
+-- amount that a part of a run gives back
 abbrev pub returned : Reservations → Run → ℕ
 returned s run = min (quantum_of s - WHOLE * run.age) run.paid
 

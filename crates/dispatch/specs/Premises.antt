@@ -54,7 +54,7 @@ abbrev pub is_whole : Terms → Option Account → Bool
 is_whole t None = true
 is_whole t (Some a) = not (nat_lt (most_in t a) a.owed)
 
--- the same of the leaf that a processor runs, if it runs one
+-- so it is of the leaf that a processor runs, if it runs one
 abbrev pub is_whole_at : Reservations → Option (Option Run) → Bool
 is_whole_at s (Some (Some run)) = is_whole (terms_of s) (slice_get s.accounts run.leaf)
 is_whole_at s (Some None) = true
@@ -138,7 +138,7 @@ told s n p _ = p
 abbrev pub none_told : Premises
 none_told = record { has_terms = false; events = 0; unmet = 0; first = 0; lost = 0 }
 
--- what follows a line that is read, if it has no fault
+-- result of a line that is read, if it has no fault
 abbrev pub told_at : Option LineFault → Premises → Premises → Premises
 told_at (Some f) here next = here
 told_at None here next = next

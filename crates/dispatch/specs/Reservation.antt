@@ -56,11 +56,11 @@ quantum_of s = WHOLE * s.quantum
 abbrev pub tasks_of : Account → ℕ
 tasks_of a = a.share.waiting + a.share.running
 
--- what the leaf is owed in each nanosecond: its guarantee, but no more than its tasks could take
+-- rate of a leaf for each nanosecond: its guarantee, but no more than its tasks could take
 abbrev pub rate_of : Account → ℕ
 rate_of a = min (tasks_of a * WHOLE) a.guarantee
 
--- what is kept of a guarantee that nobody wants
+-- part of a guarantee that is kept while nobody wants it
 abbrev pub credit_in : Terms → Account → ℕ
 credit_in t a = quantum_in t + a.guarantee * t.credit
 
@@ -74,7 +74,7 @@ most_in t a = 2 * t.processors * quantum_in t + a.guarantee * t.credit
 abbrev pub most_of : Reservations → Account → ℕ
 most_of s a = most_in (terms_of s) a
 
--- what the leaf is owed after so many nanoseconds
+-- amount that the leaf is owed after so many nanoseconds
 abbrev pub passed_owed : Terms → ℕ → Account → ℕ
 passed_owed t ns a =
     if tasks_of a == 0 then max a.owed (min (a.owed + a.guarantee * ns) (credit_in t a))
@@ -86,7 +86,7 @@ passed_in t ns a = record a { owed = passed_owed t ns a }
 abbrev pub passed : Reservations → ℕ → Account → Account
 passed s ns a = passed_in (terms_of s) ns a
 
--- what the leaf is owed, no more than the most
+-- amount that the leaf is owed, no more than the most
 abbrev pub capped_owed : Terms → Account → ℕ
 capped_owed t a = min a.owed (most_in t a)
 
@@ -114,7 +114,7 @@ woken_in t accounts tasks a =
 abbrev pub woken : Reservations → ℕ → Account → Account
 woken s tasks a = woken_in (terms_of s) s.accounts tasks a
 
--- what a pick takes of a leaf in advance: a quantum, unless less is there
+-- payment of a pick in advance: a quantum, unless less is there
 abbrev pub paid_in : Terms → Account → ℕ
 paid_in t a = min (capped_owed t a) (quantum_in t)
 
@@ -130,7 +130,7 @@ picked_in t a = record a {
 abbrev pub picked : Reservations → Account → Account
 picked s a = picked_in (terms_of s) a
 
--- what is owed after a run of this time, for which so much was paid: what was not used of the
+-- amount owed after a run of this time, for which so much was paid: what was not used of the
 -- quantum comes back, and an overrun beyond it is paid now
 abbrev pub settled_owed : ℕ → ℕ → ℕ → ℕ → ℕ
 settled_owed quantum paid time owed = owed + min (quantum - time) paid - (time - quantum)

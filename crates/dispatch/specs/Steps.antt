@@ -91,7 +91,7 @@ account_picked t accounts (Some a) =
       _ ← number (picked_in t a).share.running
       Ok (picked_in t a)
 
--- what a pick takes of the leaf, if there is one
+-- payment of a pick of the leaf, if there is one
 abbrev pub paid_at : Terms → Option Account → ℕ
 paid_at t None = 0
 paid_at t (Some a) = paid_in t a
@@ -127,7 +127,7 @@ free_processor None = Err refusals.UnknownProcessor
 free_processor (Some (Some run)) = Err refusals.ProcessorBusy
 free_processor (Some None) = Ok tt
 
--- what the processor runs
+-- run of the processor
 abbrev pub run_of : Option (Option Run) → Result Run Refusal
 run_of None = Err refusals.UnknownProcessor
 run_of (Some None) = Err refusals.ProcessorIdle

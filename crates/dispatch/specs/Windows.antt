@@ -47,11 +47,11 @@ abbrev pub RunsWithin : ℕ → ℕ → Option Run → Type 0
 RunsWithin quantum t None = Unit {0}
 RunsWithin quantum t (Some run) = run.age + t ≤ quantum
 
--- What the leaf is owed is not above the most, so nothing of it is forgotten.
+-- The leaf is owed no more than the most, so nothing of it is forgotten.
 abbrev pub IsWhole : Reservations → ℕ → Type 0
 IsWhole s i = (account_at s i).owed ≤ most_of s (account_at s i)
 
--- the same of the leaf that a processor runs, if it runs one
+-- so it is of the leaf that a processor runs, if it runs one
 abbrev pub IsWholeAt : Reservations → Option (Option Run) → Type 0
 IsWholeAt s (Some (Some run)) = IsWhole s run.leaf
 IsWholeAt s _ = Unit {0}
@@ -96,7 +96,7 @@ abbrev pub after_all : Reservations → List Step → Reservations
 after_all s [] = s
 after_all s (e ∷ es) = after_all (after s e) es
 
--- what a run would give back if it ended now
+-- amount that a run would give back if it ended now
 abbrev pub back_of : ℕ → Run → ℕ
 back_of quantum run = min (quantum - WHOLE * run.age) run.paid
 
@@ -108,12 +108,12 @@ of_run i f (Some run) = if run.leaf == i then f run else 0
 abbrev pub over_runs : ℕ → (Run → ℕ) → List (Option Run) → ℕ
 over_runs i f qs = sum_by (of_run i f) qs
 
--- What the leaf would be owed if each of its runs ended now, and a quantum more.
+-- Amount that the leaf would be owed if each of its runs ended now, and a quantum more.
 abbrev pub owed_in_all : Reservations → ℕ → ℕ
 owed_in_all s i =
     (account_at s i).owed + over_runs i (back_of (quantum_of s)) s.processors
 
--- What a leaf is owed is bounded, whatever the others do and how many they are.
+-- A leaf is owed no more than this, whatever the others do and how many they are.
 abbrev pub OwedIsBounded : Type 0
 OwedIsBounded = (s : Reservations) (events : List Step) (most i : ℕ) → IsAtRest s → FitsHost s
     → IsFairRun most 0 s events → i < length s.accounts →

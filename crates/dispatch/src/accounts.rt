@@ -1,4 +1,4 @@
-//! What happens to a leaf with a guarantee.
+//! The events of a leaf with a guarantee.
 ghost use Rattle.std.specs.Prelude.{◌≡◌, ◌<◌, ◌^◌, true, map};
 ghost use Rattle.std.specs.List.{list_any, list_all, All};
 ghost use Rattle.dispatch.specs.Rule.{number, waits_behind};
@@ -30,14 +30,14 @@ pub fn tasks(account: Account) -> u128
     u128::from(account.share.waiting) + u128::from(account.share.running)
 }
 
-// What the leaf is owed in each nanosecond.
+// Amount that the leaf is owed in each nanosecond.
 fn rate(account: Account) -> u64
     ensures { result ≡ rate_of account }
 {
     (tasks(account) * u128::from(WHOLE)).min(u128::from(account.guarantee)) as u64
 }
 
-/// What is kept of a guarantee that nobody wants.
+/// Part of a guarantee that is kept while nobody wants it.
 pub fn credit(terms: Terms, account: Account) -> u128
     ensures { result ≡ credit_in terms account }
 {
@@ -63,7 +63,7 @@ pub fn new_account(terms: Terms, amount: u64, guarantee: u64) -> Account
     }
 }
 
-/// What the leaf is owed after so many nanoseconds.
+/// Amount that the leaf is owed after so many nanoseconds.
 pub fn passed_owed(terms: Terms, ns: u64, account: Account) -> u128
     ensures { result ≡ passed_owed terms ns account }
 {
@@ -111,7 +111,7 @@ pub fn pass_all(terms: Terms, ns: u64, accounts: &mut [Account])
     }
 }
 
-// What the leaf is owed, no more than the most.
+// Amount that the leaf is owed, no more than the most.
 fn capped_owed(terms: Terms, account: Account) -> u64
     ensures { result ≡ capped_owed terms account }
 {
@@ -227,14 +227,14 @@ pub fn account_woken(
     })
 }
 
-// What a pick takes of a leaf in advance: a quantum, unless less is there.
+// Payment of a pick in advance: a quantum, unless less is there.
 fn paid(terms: Terms, account: Account) -> u64
     ensures { result ≡ paid_in terms account }
 {
     capped_owed(terms, account).min(quantum(terms))
 }
 
-/// What a pick takes of a leaf in advance, and nothing if there is no leaf.
+/// Payment of a pick in advance, and nothing if there is no leaf.
 pub fn paid_at(terms: Terms, account: Option<Account>) -> u64
     ensures { result ≡ paid_at terms account }
 {
@@ -286,7 +286,7 @@ pub fn account_picked(
     })
 }
 
-// What is owed after a run of this time, for which so much was paid.
+// Amount owed after a run of this time, for which so much was paid.
 fn settled_owed(quantum: u64, paid: u64, time: u128, owed: u64) -> u128
     requires { time < 2 ^ 84 }
     ensures { result ≡ settled_owed quantum paid time owed }

@@ -66,7 +66,7 @@ pub fn only_sleepers_are_lifted()
     ensures least { LiftIsAtMostTheLeast }
 {}
 
-/// What a leaf is owed is bounded, whatever the others do and how many they are.
+/// A leaf is owed no more than this, whatever the others do and how many they are.
 ///
 /// It is at most what its guarantee brings in the time of the credit, two quanta less one for each
 /// processor, and the time that may be lost. It is never below a quantum less than nothing. The
@@ -115,7 +115,7 @@ pub fn trace_is_a_run()
     ensures { TraceIsARun }
 {}
 
-/// What is told of a trace is so: the tests of the premises pass exactly where they hold.
+/// A trace's premises are told as they are: the tests of the premises pass exactly where they hold.
 pub fn premises_are_told()
     ensures { PremisesAreTold }
 {}

@@ -20,7 +20,7 @@ use std::alloc::{AllocError, Global};
 // A whole processor, as a guarantee.
 const WHOLE: u64 = 1_048_576;
 
-/// How many events a trace has, and at how many of them a premise fails.
+/// Numbers of a trace's events, and of those at which a premise fails.
 #[derive(Clone, Copy, Debug, PartialEq)]
 pub struct Premises {
     /// Whether the trace has terms: else it has no guarantees and no time.

@@ -11,8 +11,8 @@ pub struct Account {
     pub share: Leaf,
     /// Guaranteed part of a processor, in 2^-20. A leaf may have more than one processor.
     pub guarantee: u64,
-    /// What the leaf is owed, and a quantum more, in 2^-20 ns. So 0 says that it had a quantum
-    /// beyond its guarantee, and what it had beyond that is forgotten.
+    /// Amount that the leaf is owed, and a quantum more, in 2^-20 ns. So 0 says that it had a
+    /// quantum beyond its guarantee, and what it had beyond that is forgotten.
     pub owed: u64,
 }
 
@@ -31,12 +31,12 @@ pub struct Terms {
     pub processors: u64,
 }
 
-/// What a processor runs.
+/// Run of a processor.
 #[derive(Clone, Copy, Debug, PartialEq)]
 pub struct Run {
     /// Leaf of the task.
     pub leaf: u64,
-    /// What the leaf paid of a quantum at the pick, in 2^-20 ns.
+    /// Part of a quantum that the leaf paid at the pick, in 2^-20 ns.
     pub paid: u64,
     /// Nanoseconds since the pick.
     pub age: u64,

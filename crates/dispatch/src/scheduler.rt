@@ -270,7 +270,7 @@ impl Scheduler {
         }
     }
 
-    // What a processor runs, if it runs a task, and if there is a processor of this number.
+    // Run of a processor, if it runs a task, and if there is a processor of this number.
     fn processor(&self, processor: u64) -> Option<Option<Run>>
         ensures { result ≡ slice_get self.now.processors processor }
     {
@@ -292,7 +292,7 @@ impl Scheduler {
         }
     }
 
-    // What a processor runs.
+    // Run of a processor.
     fn run_of(&self, processor: u64) -> Result<Run, Refusal>
         ensures { result ≡ run_of (slice_get self.now.processors processor) }
     {
@@ -303,7 +303,7 @@ impl Scheduler {
         }
     }
 
-    /// So many nanoseconds pass: what leaves are owed and the ages of runs rise.
+    /// Lets nanoseconds pass: the amounts that leaves are owed and the ages of runs rise.
     ///
     /// # Errors
     ///

@@ -60,7 +60,7 @@ class Served(NamedTuple):
 
 
 class Given(NamedTuple):
-    """What the scheduler is given: the host's slices, the limits, the leaves, and the groups with
+    """A plan as the scheduler takes it: the host's slices, the limits, the leaves, the groups with
     children, below which others may come, each with its nearest limit."""
 
     slices: int
@@ -254,8 +254,8 @@ class ScheduledLoop(hold.Loop):
         return len(given.leaves)
 
     def bounded(self, given: Given) -> Given:
-        """What the scheduler takes of it. Leaves beyond its rows are below the nearest group that
-        has one."""
+        """Cuts a plan to what the scheduler takes. Leaves beyond its rows are below the nearest group
+        that has one."""
         inner = given.inner[:self.most_leaves // 2]
         most = self.most_leaves - len(inner) - OWN_ROWS
         if len(given.leaves) > most:
@@ -265,12 +265,12 @@ class ScheduledLoop(hold.Loop):
             self.tell([f"more than {MOST_LIMITS} limits: the others bind no more"])
         kept, limits = given.leaves[:most], given.limits[:MOST_LIMITS]
         there = {0, *(each.group for each in limits)}
+        leaves = [each if each.limited in there else each._replace(limited=0) for each in kept]
         return given._replace(inner=[(each, above * (above in there)) for each, above in inner],
-                              limits=limits, leaves=[each if each.limited in there
-                                                     else each._replace(limited=0) for each in kept])
+                              limits=limits, leaves=leaves)
 
     def given(self) -> Given:
-        """What the scheduler is given. A group that cannot be read keeps what it had."""
+        """Makes the plan for the scheduler. A group that cannot be read keeps what it had."""
         limits, leaves, inner = list[Limit](), list[Served](), list[tuple[int, int]]()
         top, nearest = self.limits_above(limits)
         inner.append((top, nearest["."]))
