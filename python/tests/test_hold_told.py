@@ -387,7 +387,8 @@ def test_groups_to_which_limits_do_harm(free, last, paths, why):
     the rounds are judged anew."""
     harm, last = Harm(200), of_round(1, **last)
     # (nobody lacked anything in the first two rounds)
-    first = [of_round(held, a=(used, 100, True, False)) for held, used in ((0, 9), (0, 9), (1, free))]
+    first = [of_round(held, a=(used, 100, True, False))
+             for held, used in ((0, 9), (0, 9), (1, free))]
     assert [harm.take(each).paths for each in first] == [[]] * 3
     for _ in range(2 if paths else 1):
         assert [harm.take(last).paths for _ in range(MOST_ROUNDS - 1)] == [[]] * (MOST_ROUNDS - 1)

@@ -7,7 +7,8 @@ from arbiter_pages.calls import READ, TABLE, U8, Part
 from places import PACKAGE
 
 EXPORTS = PACKAGE.parent / "crates/bw_exports/src"
-HEAD = re.compile(r'^pub extern "C" fn arbiter_(\w+)\(\s*(.*?),?\s*\) -> (\w+)(?: \{)?$', re.M | re.S)
+HEAD = re.compile(r'^pub extern "C" fn arbiter_(\w+)\(\s*(.*?),?\s*\) -> (\w+)(?: \{)?$',
+                  re.M | re.S)
 # The calls of bw_exports: file, words with their types, type of the answer.
 EXPORTED = {name: (path.stem, [tuple(word.split(": ")) for word in re.split(r",\s*", words)],
                    answer)

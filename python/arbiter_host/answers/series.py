@@ -21,7 +21,7 @@ from arbiter_host.base.faults import HostFault, UsageFault
 from arbiter_host.base.model import Model, checked
 from arbiter_host.base.names import cut, parent_path, short, shown
 from arbiter_host.base.plan import Engine
-from arbiter_host.base.tables import Answer, Column, Forms, Table
+from arbiter_host.base.tables import Column, Forms, Table, TableAnswer
 from arbiter_host.sources.samples import History
 
 FLAGS = (("T", "throttled", "#b4231f"), ("t", "throttled, not by its limit", "#d97706"),
@@ -269,7 +269,7 @@ def column(key: str, value: Callable[[Sampled], Any]) -> Column[Sampled]:
 
 def forms(series: Series, unit: str) -> Forms:
     """The forms of samples."""
-    return {**Answer((), [table(series, unit)], dict).forms(),
+    return {**TableAnswer((), [table(series, unit)], dict).forms(),
             "csv": lambda: records(series, unit).csv(),
             "json": lambda: json.dumps({"unit": unit, "records": records(series, unit).data()},
                                        indent=1) + "\n",

@@ -14,7 +14,7 @@ from arbiter_host.base.demands import mean
 from arbiter_host.base.html import bar, rendered
 from arbiter_host.base.model import Group
 from arbiter_host.base.names import below, common_parent, cut, short, shown
-from arbiter_host.base.tables import Answer, Column, Table
+from arbiter_host.base.tables import Column, Table, TableAnswer
 
 # Keys of the cells of a group as data, and what they hold.
 CELLS = {"used_millicpu": "used", "demand_millicpu": "demand", "plan_millicpu": "planned",
@@ -176,10 +176,10 @@ def as_data(ranked: Ranked) -> dict[str, Any]:
             "groups": [row_data(row, audit.intervals) for row in ranked.rows]}
 
 
-def answer(ranked: Ranked) -> Answer:
+def answer(ranked: Ranked) -> TableAnswer:
     """An audit as lines and as data."""
-    return Answer([*((line, "") for line in head(ranked)), ("", "")], [table(ranked)],
-                  lambda: as_data(ranked), [(line, "") for line in foot(ranked)])
+    return TableAnswer([*((line, "") for line in head(ranked)), ("", "")], [table(ranked)],
+                       lambda: as_data(ranked), [(line, "") for line in foot(ranked)])
 
 
 def lines_of(row: AuditRow) -> list[tuple[str, str, list[float | None]]]:

@@ -94,7 +94,7 @@ class Table(Generic[R]):
 
 
 @dataclass(frozen=True)
-class Answer:
+class TableAnswer:
     """An answer: the lines above and below its tables, and all of it as data."""
 
     head: Styled

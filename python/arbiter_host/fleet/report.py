@@ -10,7 +10,7 @@ from typing import Any
 from arbiter_host.answers.series import COUNTS
 from arbiter_host.base.html import bar, rendered
 from arbiter_host.base.names import short, shown
-from arbiter_host.base.tables import Answer, Column, Table
+from arbiter_host.base.tables import Column, Table, TableAnswer
 from arbiter_host.fleet.answers import HostAnswer
 from arbiter_host.fleet.hosts import Fleet
 from arbiter_host.fleet.work import Action
@@ -323,13 +323,13 @@ def with_pending(to: Report, fleet: Fleet, hosts: Sequence[HostAnswer], rule: st
         *to.tables, listed("Pods that no node has yet", PENDING, rows)])
 
 
-def answer(report: Report, has_all: bool) -> Answer:
+def answer(report: Report, has_all: bool) -> TableAnswer:
     """The report as an answer. Each host without one is named."""
     foot = ["", "Not answered:", *(f"{name}: {shown(why)}" for name, why in report.missing)]
-    return Answer([(line, "") for line in report.lines],
-                  [each for each in report.tables if each.records], lambda: report.data,
-                  [(line, "") for line in foot] if report.missing else (),
-                  None if has_all else MOST_ROWS)
+    return TableAnswer([(line, "") for line in report.lines],
+                       [each for each in report.tables if each.records], lambda: report.data,
+                       [(line, "") for line in foot] if report.missing else (),
+                       None if has_all else MOST_ROWS)
 
 
 def page(report: Report, words: Sequence[str] = ()) -> str:

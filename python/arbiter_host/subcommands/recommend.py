@@ -15,7 +15,7 @@ from arbiter_host.base.model import Model
 from arbiter_host.base.names import cut, few, short, shown
 from arbiter_host.base.output import Styled
 from arbiter_host.base.plan import Engine, engine_of
-from arbiter_host.base.tables import Answer, Column, Table
+from arbiter_host.base.tables import Column, Table, TableAnswer
 from arbiter_host.fleet import hosts as cluster
 from arbiter_host.fleet.hosts import Fleet
 from arbiter_host.recommend import Advised, Proposal, Recommendation, SeenHost
@@ -173,7 +173,7 @@ def columns(advice: Recommendation) -> list[Column[Advised]]:
         Column(advice.noun, lambda each: title(each.proposal), True)]
 
 
-def answer(advice: Recommendation) -> Answer:
+def answer(advice: Recommendation) -> TableAnswer:
     """The answer of `recommend`. A container that is short then is red."""
     short_ = [shown(each.proposal.title) for each in advice.rows if each.is_short]
     notes = [(words, "") for words, is_told in (
@@ -181,6 +181,6 @@ def answer(advice: Recommendation) -> Answer:
          any(each.proposal.is_throttled for each in advice.rows)),
         (f"(N) N {advice.noun}s: `gets` and `guaranteed` are of the one that has least",
          any(len(each.proposal.groups) > 1 for each in advice.rows))) if is_told]
-    return Answer(heading(advice, short_), [Table(
+    return TableAnswer(heading(advice, short_), [Table(
         columns(advice), advice.rows, style=lambda each: "red" if each.is_short else "")],
-                  lambda: recommend.as_data(advice), notes)
+                       lambda: recommend.as_data(advice), notes)

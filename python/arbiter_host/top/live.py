@@ -105,5 +105,5 @@ def key_by_key() -> Iterator[int | None]:
         termios.tcsetattr(descriptor, termios.TCSADRAIN, before)
 
 
-class Ended(Exception):
+class ViewEnded(Exception):
     """A key that ends the view."""

@@ -137,7 +137,7 @@ class Viewer:
                   and (data := os.read(self.keyboard, 100))):
                 self.draw(data.decode("ascii", "ignore"))
             if self.keys.is_ended:
-                raise live.Ended
+                raise live.ViewEnded
             if not left:
                 return
             left = max(until - time.monotonic(), 0)
@@ -197,7 +197,7 @@ def show(rounds: Callable[[Callable[[float], None]], Iterator[PlannedRound]],
     from rich.live import Live
     from rich.text import Text
     console = Console(highlight=False)
-    with (live.ended_by_signals(), live.key_by_key() as keyboard, suppress(live.Ended),
+    with (live.ended_by_signals(), live.key_by_key() as keyboard, suppress(live.ViewEnded),
           Live(console=console, screen=True, auto_refresh=False) as screen):
         def put(lines: Lines) -> None:
             texts = (Text(names.cut(line, console.width), style) for line, style in lines)
