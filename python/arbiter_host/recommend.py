@@ -20,6 +20,7 @@ from arbiter_host.base.faults import HostFault, NothingFound, UsageFault
 from arbiter_host.base.model import Model
 from arbiter_host.base.owned import Amounts, Owned, Setting
 from arbiter_host.base.plan import Engine, Plan, guarantees, plan
+from arbiter_host.sources import prometheus
 from arbiter_host.sources.usage import Used, some
 
 # The least request that is proposed, in thousandths of a CPU, as krr has it.
@@ -212,6 +213,9 @@ def of_entries(kind: Owned, entries: Iterable[Used]) -> tuple[dict[str, Use], li
         elif paths[0] in uses:
             raise HostFault(f"{entry.title}: another one is of the same {kind.noun}")
         else:
+            if entry.labels:
+                prometheus.check_use(entry.title, entry.amounts,
+                                     kind.plain.host.processors, "--used")
             uses[paths[0]] = Use(entry.amounts, times=entry.times)
     return uses, [f"used by no {kind.noun} here, {some(missing)}"] if missing else []
 

@@ -54,7 +54,8 @@ def source_options(options: argparse.Namespace, **more: Any) -> SourceOptions:
     found: dict[str, Any] = {
         "kind": options.kind, "node": options.node, "want": options.want or "",
         "kubelet": "log" if weights == "log" else "linear",
-        "runtime": "linear" if weights == "linear" else "log", "scales": tuple(options.scale),
+        "runtime": "linear" if weights == "linear" else "log",
+        "are_conversions_said": "node_weights" in options.given, "scales": tuple(options.scale),
         "is_strict": options.strict, "times": times_of(options),
         "is_reread": "read" in options.given, "uses": use_options(options),
         "check": functools.partial(table.check, options)}

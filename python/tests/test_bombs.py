@@ -182,16 +182,14 @@ def test_a_file_of_refused_lines(engine, monkeypatch):
     ("+1", 1000), ("1.", 1000), (".5", 500), ("100n", 1), ("1001u", 2), ("2k", 2 * 10**6),
     ("1Ki", 1024000), ("0.0001", 1), ("0", 0)])
 def test_quantities_of_kubernetes(value, thousandths):
-    notes = []
-    assert (kubernetes.thousandths(value, "w", notes), notes) == (thousandths, [])
+    assert kubernetes.thousandths(value, "w") == thousandths
 
 
 @pytest.mark.parametrize("value", [
     True, False, "true", "250 m", " 250m", "250m ", "-250m", "40%", "1cpu", "1.5 cpu", "", "m",
     "1e", "1em", "1mm", "NaN", "inf", "1_0", "\u0661", "0x10", "1e309m", float("nan"), 1e300,
     "1e99", "9" * 40, [], {}, ["1"]], ids=repr)
-def test_what_is_no_quantity_is_told(value):
-    """As Kubernetes refuses it; the importer leaves it out with a warning."""
-    notes = []
-    assert kubernetes.thousandths(value, "w", notes) is None
-    assert len(notes) == 1 and notes[0].startswith("w: ") and notes[0].endswith("it is left out")
+def test_what_is_no_quantity_is_refused(value):
+    """As Kubernetes refuses it: none of its objects has one."""
+    with pytest.raises(HostFault, match="^w: .* (is no quantity of|is above [0-9]+) CPU"):
+        kubernetes.thousandths(value, "w")

@@ -146,10 +146,10 @@ def test_one_node_is_one_host(ctl):
 
 
 def test_a_broken_node_is_named(ctl):
-    """A node without CPUs is one host that is not answered."""
+    """A node whose CPUs are no quantity is one host that is not answered."""
     data = cluster(node("good"), node("bad", "x"), pending("p"))
     out, err = ctl.run("explain", "-", *NEEDS, given=data, status=1)
-    assert "answered: 1, not answered: 1" in out and "bad: number of CPUs unknown" in out
+    assert "answered: 1, not answered: 1" in out and "'x' is no quantity of CPU" in out
     assert "x/p" in out and "good" in out
 
 

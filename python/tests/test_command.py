@@ -89,7 +89,7 @@ def test_units(ctl, unit, gets):
 def test_as_wide_as_the_terminal(ctl, columns):
     ctl.environment["COLUMNS"] = str(columns)
     out, _ = ctl.run("explain", ROOT / "examples/node.script")
-    assert max(map(len, out.split("\n")[5:])) <= columns
+    assert max(map(len, out.split("\n")[6:])) <= columns
     assert "queue" in out
 
 
@@ -115,11 +115,11 @@ def test_long_identifiers_are_short(ctl):
 
 def test_only_and_sort(ctl):
     out, _ = ctl.run("explain", "--state", "starved", "-", given=REASONS.encode())
-    assert [line.split()[-1] for line in out.split("\n")[6:-1]] == ["small", "none"]
+    assert [line.split()[-1] for line in out.split("\n")[7:-1]] == ["small", "none"]
     ctl.environment["COLUMNS"] = "200"
     out, _ = ctl.run("explain", "--state", "asking", "--sort", "lack", "--unit", "slices", "-",
                      given=REASONS.encode())
-    rows = [line.split() for line in out.split("\n")[6:-1]]
+    rows = [line.split() for line in out.split("\n")[7:-1]]
     lacks = [int(row[1]) - int(row[0]) for row in rows]
     assert lacks == sorted(lacks, reverse=True) and len(rows) == 8
 
@@ -323,7 +323,7 @@ def test_groups_that_are_chosen(ctl, folder):
 def test_one_pod_in_text(ctl):
     """The pod stands by its path, and what asks for nothing is counted."""
     out, _ = ctl.run("explain", PODS, NODE, "-g", "prod/web-7c9f")
-    rows = [line.split("  ") for line in out.split("\n")[6:]]
+    rows = [line.split("  ") for line in out.split("\n")[7:]]
     assert [row[-1].strip() for row in rows[:3]] == [
         "kubepods/burstable/prod:web-7c9f", "nginx", "metrics"]
     assert "left out (--all shows them): 1" in out

@@ -288,7 +288,7 @@ def test_page_has_requests_and_names_once(ctl, folder):
     ctl.run("explain", *PODS, "-o", f"html={folder / 'p.html'}")
     page = (folder / "p.html").read_text()
     found = cells_of(page)
-    assert (found["nginx"]["request"], found["nginx"]["limit"]) == ("0.250", "1.00")
+    assert (found["nginx"]["request"], found["nginx"]["limit"]) == ("0.250", "1.000")
     assert found["metrics"]["request"] == "0.100" and found["prod:web-7c9f"]["request"] == ""
     row = re.search(r"<tr data-path[^>]*>\s*<th(?:(?!</tr>).)*>nginx<.*?</th>", page, re.S).group()
     assert re.sub(r"<[^>]+>", " ", row).split() == ["nginx", "in", "burstable/prod:web-7c9f"]

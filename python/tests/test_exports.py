@@ -354,7 +354,7 @@ def test_all_pods_of_an_owner(ctl, folder):
     (folder / "pods.json").write_text(json.dumps(pods))
     resources(pods, "web-7c9f", "nginx")["requests"]["cpu"] = "1"
     _, err = patched(ctl, folder, pods, status=1)
-    assert "prod:web-2/nginx: weight 10, max 100000 100000, burst 0 is asked for" in err
+    assert "prod:web-2/nginx: its pod has the owner of one that is changed, and so the same" in err
     resources(pods, "web-2", "nginx")["requests"]["cpu"] = "1"
     found, err = patched(ctl, folder, pods)
     assert list(found) == ["prod.deployment.web.yaml"] and "here it has 2" in err

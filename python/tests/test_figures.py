@@ -5,9 +5,11 @@ import re
 from fractions import Fraction
 
 import pytest
+import reading
+import trees
 from arbiter import Host
 from arbiter_host.answers import explain
-from arbiter_host.base.model import Group, Model, host_of, with_cpus
+from arbiter_host.base.model import Group, Model, cpus_in, host_of, with_cpus
 from arbiter_host.base.plan import plan
 from arbiter_host.sources import kubernetes
 from arbiter_host.sources.source_options import SourceOptions
@@ -42,7 +44,9 @@ def small(folder):
     """A node of 8 CPUs with 105 pods of 51m and 21m, which fit: 7.56 CPUs of 7.91."""
     pods = [pod(f"p{at}", ("51m", None), ("21m", None)) for at in range(105)]
     (folder / "pods.json").write_bytes(items(*pods))
-    (folder / "node.json").write_text(json.dumps(node(8, 7910)))
+    real = node(8, 7910)
+    real["status"]["nodeInfo"] = {"kubeletVersion": "v1.31.2"}
+    (folder / "node.json").write_text(json.dumps(real))
     return folder / "pods.json", folder / "node.json"
 
 
@@ -165,3 +169,106 @@ def test_on_a_node_whose_requests_fit_no_group_is_short(calls, engine, seed):
     assert all(each.gets == each.want for each in found.groups)
     by_leaf = sum(found.thousandths(each.gets) for each in found.groups if not each.children)
     assert by_leaf == total
+
+
+# What is asked
+
+@pytest.mark.parametrize("words, wanted", [
+    ((), "demands: requests; weights: of requests (linear)"),
+    (("--want", "busy"), "demands: all CPUs (busy); weights: of requests (linear)"),
+    (("--node-weights", "runtime-log"),
+     "demands: requests; weights: of requests (linear and log for containers)"),
+    (("--scale", "n/p0/c0=2"), "demands: requests, n/p0/c0 times 2; weights: of requests (linear)"),
+])
+def test_what_is_asked_is_said(ctl, small, words, wanted):
+    out, _ = ctl.run("explain", *small, *words)
+    assert out.split("\n")[2] == wanted
+    data = json.loads(ctl.run("explain", *small, *words, "-o", "json")[0])
+    assert f"demands: {data['demands']}; weights: {data['weights']}" == wanted
+
+
+@pytest.mark.parametrize("times, wanted", [
+    (["2026-01-05T10:00:00Z", "2026-01-06T10:00:00Z"], "mean of use in 1 d (2 samples)"),
+    (["a", "b", "c"], "mean of use (3 samples)"), (["2026-01-05T10:00:00Z"], "use at one moment")])
+def test_use_says_its_time(ctl, folder, small, times, wanted):
+    (folder / "h.csv").write_text("time,n/p0/c0\n" + "".join(f"{each},1\n" for each in times))
+    out, _ = ctl.run("explain", *small, "--used", folder / "h.csv")
+    assert f"\ndemands: {wanted}; weights: of requests (linear)\n" in out
+
+
+@pytest.fixture
+def two(folder):
+    """A node of one CPU with two pods of 300m and 100m."""
+    (folder / "two.json").write_bytes(items(
+        node(1, 1000), pod("a", ("300m", None)), pod("b", ("100m", None), namespace="m")))
+    return folder / "two.json"
+
+
+def test_a_request_is_no_demand(ctl, two):
+    """Where all fit, a greater request changes nothing. If both are busy somebody pays: by 307 and
+    102 shares the pods have weights 12 and 4, by 716 and 102 weights 28 and 4."""
+    out, err = ctl.run("diff", two, "--set", "n/a/c0.request=700m", "-o", "json")
+    data = json.loads(out)
+    assert data["after"]["demands"] == "requests before the change" and err == ""
+    assert all(each["change_millicpu"] == 0 for each in data["changed"])
+    (asked,) = [each for each in data["after"]["groups"] if each["title"] == "n/a/c0"]
+    assert (asked["request_millicpu"], asked["asks_millicpu"]) == (700, 300)
+    busy = {each["group"]: each["change_millicpu"] for each in data["busy"]["changed"]}
+    assert (busy["kubepods/burstable/n:a/c0"], busy["kubepods/burstable/m:b/c0"]) == (125, -125)
+    out, _ = ctl.run("diff", two, "--set", "n/a/c0.request=700m")
+    assert "\nif all are busy (--want busy):\n" in out and "0.750  0.875  +0.125" in out
+
+
+def test_other_changes_are_not_shown_for_busy(ctl, two):
+    for words in (("--want", "busy", "--set", "n/a/c0.request=700m"), ("--set", "n:a.weight=7")):
+        assert "busy" not in json.loads(ctl.run("diff", two, *words, "-o", "json")[0])
+
+
+def test_a_namespace_alone_is_told(ctl, small, two):
+    assert "all pods are of the namespace n: where others run" in ctl.run("explain", *small)[1]
+    assert "namespace" not in ctl.run("explain", two)[1]
+
+
+# The true node
+
+@pytest.mark.parametrize("properties, wanted", [
+    ("FreezerState=frozen\n", (0, None)), ("FreezerState=running\n", (4000, None)),
+    ("AllowedCPUs=0-1 3\n", (4000, 3)), ("AllowedCPUs=0-3\n", (4000, None))])
+def test_units_that_are_frozen_or_keep_to_cpus(properties, wanted):
+    """What is below a frozen slice is frozen too. All CPUs are no bound."""
+    text = ("Id=a.slice\nControlGroup=/a.slice\n" + properties
+            + "\nId=b.service\nControlGroup=/a.slice/b.service\n")
+    model = reading.units([("u", text.encode())], Host(4, 1000000, 1000), "busy")
+    assert (model.groups["a.slice/b.service"].demand, model.groups["a.slice"].keeps_to) == wanted
+
+
+def tree_of(folder, **files):
+    """A tree of two groups, of which the second has these files."""
+    trees.root2(folder / "t")
+    for name in "ab":
+        trees.group2(folder / "t" / name)
+    for name, text in files.items():
+        (folder / "t/b" / name.replace("__", ".")).write_text(text)
+    return folder / "t"
+
+
+def test_a_frozen_group_of_a_tree(ctl, folder):
+    out, err = ctl.run("explain", tree_of(folder, cgroup__freeze="1\n"), "--cpus", "2", "--want",
+                       "limit", "-o", "json")
+    assert {each["group"]: each["wants"]["millicpu"] for each in json.loads(out)["groups"]} == {
+        ".": 1000, "a": 1000, "b": 0}
+    assert "frozen: b: it asks for nothing" in err
+
+
+def test_a_group_gets_the_cpus_that_it_keeps_to(ctl, folder):
+    """By its own file, and by the effective one where some are offline."""
+    words = (tree_of(folder, cpuset__cpus="0-2\n", cpuset__cpus__effective="0\n"), "--cpus", "4",
+             "--want", "limit")
+    out, err = ctl.run("explain", *words)
+    assert re.search(r"1\.000 +1\.000 +1\.000 .* b$", out, re.M)
+    assert "bound to CPUs: b: each has as many at most" in err
+
+
+def test_a_list_of_cpus():
+    assert [cpus_in(each) for each in ("0", "0-3,8", "1,1-2", "", "x", "3-1")] == [
+        1, 5, 2, None, None, None]

@@ -139,11 +139,12 @@ def examples(ctl, folder):
 
 
 class Counters(http.server.BaseHTTPRequestHandler):
-    """Answers each range query with a counter of a container of the fixtures."""
+    """Answers each range query with the use of a container of the fixtures, or with its counter."""
 
     def do_GET(self):
         labels = {"namespace": "prod", "pod": "db-0", "container": "postgres"}
-        series = {"metric": labels, "values": [[60 * at, str(60 * at)] for at in range(3)]}
+        each = 0 if "rate" in self.path else 60
+        series = {"metric": labels, "values": [[60 * at, str(1 + each * at)] for at in range(3)]}
         self.send_response(200)
         self.end_headers()
         self.wfile.write(json.dumps({"data": {"result": [series]}}).encode())

@@ -43,7 +43,7 @@ def test_weights_follow_a_request(ctl):
     weights = [found[path]["weight"] for path in (f"{WEB}/nginx", WEB, "kubepods/burstable",
                                                   "kubepods", "kubepods/burstable/prod:proxy-1")]
     assert weights == [39, 43, 77, 137, 34]
-    assert found[f"{WEB}/nginx"]["demand"] == "1cpu"
+    assert found[f"{WEB}/nginx"]["demand"] == "250m"
 
 
 def test_limits_follow_a_limit(ctl):
@@ -78,7 +78,7 @@ def edited(folder, name, requests, limits):
                                    ("--node-weights", "runtime-log"),
                                    ("--cpus", "6", "--slice", "5ms")])
 def test_a_change_is_an_edit_of_the_json(ctl, folder, name, requests, limits, words):
-    """Each group is the one that the edited JSON gives."""
+    """Each group is the one that the edited JSON gives, but that a request is no demand."""
     changes = [("request", requests), ("limit", limits)]
     if name == "report" and limits:
         changes = [("limit", limits), ("request", limits)]
@@ -86,6 +86,12 @@ def test_a_change_is_an_edit_of_the_json(ctl, folder, name, requests, limits, wo
             for word in ("--set", f"{CONTAINERS[name][0]}.{key}={value}")]
     found = groups_of(ctl, PODS, NODE, *sets, *words)
     wanted = groups_of(ctl, edited(folder, name, requests, limits), NODE, *words)
+    if "--want" not in words:
+        before = groups_of(ctl, PODS, NODE, *words)
+        assert ([each.pop("demand", "") for each in found.values()]
+                == [each.pop("demand", "") for each in before.values()])
+        for each in wanted.values():
+            each.pop("demand", "")
     assert list(found.items()) == list(wanted.items())
 
 
@@ -117,9 +123,12 @@ def test_more_than_the_node_has_is_told(ctl):
 
 
 def test_patterns_name_titles(ctl):
-    """`*` stands for letters of namespace/pod/container too; what has no request is left out."""
+    """`*` stands for letters of namespace/pod/container too; what has no request is left out.
+
+    200m are 204 shares: 1 + 202 * 9999 / 262142 = 8.7.
+    """
     found = groups_of(ctl, PODS, NODE, "--set", "prod/web-*/*.request=200m")
-    assert (found[f"{WEB}/nginx"]["demand"], found[f"{WEB}/metrics"]["demand"]) == ("200m", "200m")
+    assert (found[f"{WEB}/nginx"]["weight"], found[f"{WEB}/metrics"]["weight"]) == (8, 8)
     assert "demand" not in found[f"{WEB}/pause"]
 
 

@@ -264,6 +264,86 @@ def test_series_that_may_be_one_use_twice(labels, told):
         prometheus.history_of(series(*labels), "U")
 
 
+def over(labels, begin, end, each=0.2):
+    """A series of use in each minute from one to another."""
+    return prometheus.Metric({**POD, **labels}, {60.0 * at: str(each) for at in range(begin, end)})
+
+
+@pytest.mark.parametrize("one, two, told", [
+    (over({"id": "/a", "node": "x"}, 0, 61), over({"id": "/b", "node": "y"}, 0, 61), "id, node"),
+    (over({"id": "/a"}, 0, 40), over({"id": "/b"}, 30, 60), "id"),
+    (over({"uid": "/a"}, 0, 3), over({"uid": "/b"}, 0, 3), "uid"),
+    (over({"id": "/a"}, 0, 40), over({"id": "/b"}, 36, 60), ""),
+    (over({"id": "/a"}, 0, 40), over({"id": "/b"}, 0, 40, 0), ""),
+])
+def test_a_container_has_one_home_at_one_time(one, two, told):
+    """One that is made anew is beside itself for five minutes at most. What is idle adds nothing.
+    """
+    if not told:
+        assert prometheus.history_of([one, two], "U").columns == ["n/p/c"]
+        return
+    with pytest.raises(HostFault, match=f"2 series of n/p/c differ in {told}, and may be one use"
+                                        " twice: choose by --query, as 'rate"):
+        prometheus.history_of([one, two], "U")
+
+
+# The same pod as two jobs scrape it, and in two clusters of one server.
+TWICE = [({**POD, "id": "/a", "job": job}, [60] * 5) for job in ("kubelet", "other")]
+CLUSTERS = [({**POD, "id": f"/{name}", "cluster": name}, [used] * 5)
+            for name, used in (("eu", 300), ("us", 60))]
+
+
+@pytest.mark.parametrize("record, key, value, used", [
+    (TWICE, "job", "kubelet", 200), (CLUSTERS, "cluster", "us", 200)])
+def test_one_reading_of_a_server(ctl, folder, record, key, value, used):
+    """Each command refuses two scrapes and two clusters, and its advice gives the right use."""
+    data, name = pods_of(("n", "p", "c")), folder / "p.json"
+    name.write_bytes(data)
+    with running(folder, counters_of(record)) as url:
+        range_ = ["--used", url, "--range", f"{BEGIN + STEP}/{BEGIN + STEP * 5}", "--step", "5m"]
+        for command in ("explain", "recommend", "replay", "audit", "export"):
+            _, err = ctl.run(command, name, *range_, status=1)
+            assert "2 series of" in err and f"differ in {key}" in err.replace("id, ", ""), err
+        query = f'rate(container_cpu_usage_seconds_total{{{key}="{value}"}}[5m])'
+        out, _ = ctl.run("export", name, *range_, "--query", query, "-o", "json")
+        found = [each["demand"] for each in json.loads(out)["groups"].values() if "demand" in each]
+        assert found == [f"{used}m"]
+        out, _ = ctl.run("audit", name, *range_, "--query", f'{{{key}="{value}"}}', "-o", "json")
+        assert used in {each for row in json.loads(out)["groups"]
+                        for each in row["used_millicpu"]}
+
+
+def test_replicas_of_another_cluster_are_none(ctl, folder):
+    """`web-77cc` of eu is no history of `web-5d9c` of us."""
+    def used(pod, cluster, seconds):
+        return ({"namespace": "a", "pod": pod, "container": "app", "id": f"/{pod}",
+                 "cluster": cluster}, [seconds] * 5)
+
+    data = json.loads(pods_of(("a", "web-5d9c-bbbbb", "app")))
+    data["items"][1]["metadata"] |= {"labels": {"pod-template-hash": "5d9c"}, "ownerReferences": [
+        {"kind": "ReplicaSet", "name": "web-5d9c", "controller": True}]}
+    record = [used("web-5d9c-bbbbb", "us", 60), used("web-77cc-kkkkk", "eu", 750)]
+    with running(folder, counters_of(record)) as url:
+        _, err = ctl.run("recommend", "-", "--used", url, "--range",
+                         f"{BEGIN + STEP}/{BEGIN + STEP * 5}", "--step", "5m",
+                         given=json.dumps(data).encode(), status=1)
+    assert ("a/web-77cc-kkkkk/app has cluster=eu, and what runs here has cluster=us: choose by"
+            " --query, as 'rate(container_cpu_usage_seconds_total{cluster=\"us\"}[120s])'") in err
+
+
+def test_more_use_than_a_node_has_is_none(ctl, cadvisor):
+    """A counter without its rate, and a rate times 1000, on a node of 4 CPUs."""
+    words = ("--used", cadvisor, "--range", f"{BEGIN + STEP}/{BEGIN + STEP * 5}", "--step", "5m")
+    counter = 'container_cpu_usage_seconds_total{namespace="test"}'
+    for command in ("explain", "recommend", "replay"):
+        _, err = ctl.run(command, "-", *words, "--query", counter, given=PODS, status=1)
+        assert ("test/web/app used 750000m, and the node has 4000m: it only rises, as a counter"
+                " does: rate(..) is missing?") in err
+        _, err = ctl.run(command, "-", *words, "--query", f"1000 * rate({counter}[10m])",
+                         given=PODS, status=1)
+        assert "test/web/app used 500000m, and the node has 4000m: it is in another unit," in err
+
+
 def test_series_of_many_hosts():
     """By the label of the host; one without it is refused."""
     found = prometheus.by_host(series({"node": "a", "pod": "p"}, {"node": "b", "pod": "p"}), "U")

@@ -108,8 +108,8 @@ def test_units():
             for each in model.groups.values()} == found
     assert model.groups["app.slice/db.service"].title == "A database"
     assert model.groups["system.slice/web.service"].tasks == 1
-    assert model.notes == ["bound to CPUs: system.slice/web.service: each keeps to its own CPUs, so"
-                           " what others leave idle does not reach it"]
+    assert model.notes == ["bound to CPUs: system.slice/web.service: each has as many at most;"
+                           " which they are, and who else is on them, the plan does not know"]
 
 
 def test_systemd_took_the_dropin(ctl, folder):
@@ -169,6 +169,8 @@ def test_kubectl_took_the_patch(ctl, engine, folder, words, patch, patched):
     before, found = (reading.pods(files(name), HOST, engine.library)
                      for name in ("deployment.json", patched))
     wanted = change.changed(before, sets)
+    for each in (*found.groups.values(), *wanted.groups.values()):
+        each.demand = Fraction(0)  # (a request that is changed is no demand)
     assert found.groups == wanted.groups != before.groups
 
 

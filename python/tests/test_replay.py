@@ -331,7 +331,7 @@ def test_use_below_ten_thousandths(ctl, folder):
     assert wanted("--step", "1m") == wanted()
     assert wanted("--step", "500ms") == (["0.002", "0.002", "0.004", "0.006"], True)
     assert wanted("--period", "100ms") == wanted("--step", "100ms") == (["0.01"] * 4, True)
-    assert wanted("--unit", "slices")[0] == ["1"] * 4
+    assert wanted("--unit", "slices")[0] == ["1", "2", "3", "5"]
     out, _ = ctl.run("replay", ROOT / "examples/day.script", "--used", ROOT / "examples/day.csv",
                      "--unit", "slices", "--step", "30m", "-o", "csv")
     assert {row["periods"] for row in rows_of(out)} == {"18000"}

@@ -454,18 +454,20 @@ def test_want_of_what_says_its_demands(ctl, folder, name, text):
 # files
 
 def test_groups_with_cpus_of_their_own_are_told(engine, folder):
-    """The plan knows no such bounds: of a tree, of units and of containers the groups are named."""
+    """They have as many CPUs at most. Of a tree, of units and of containers they are named."""
     trees.root2(folder)
     for name, cpus in (("a", "0-1"), ("b", ""), ("c", "3")):
         trees.group2(folder / name)
         trees.put(folder / name, cpuset_cpus=cpus)
-    told = "bound to CPUs: {}: each keeps to its own CPUs, so what others leave idle does not"
-    tree = cgroups.read([str(folder)], EIGHT, QUICK).notes
-    assert sum(each.startswith(told.format("a, c")) for each in tree) == 1
+    told = "bound to CPUs: {}: each has as many at most; which they are, and who else is on them"
+    tree = cgroups.read([str(folder)], EIGHT, QUICK)
+    assert sum(each.startswith(told.format("a, c")) for each in tree.notes) == 1
+    assert [each.keeps_to for each in tree.groups.values()] == [2, None, 1]
     units_ = b"Id=a.service\nControlGroup=/a.service\nAllowedCPUs=0-1\n\nId=b.service\n" \
         b"ControlGroup=/b.service\nAllowedCPUs=\n"
-    assert [each.startswith(told.format("a.service"))
-            for each in reading.units([("u", units_)], EIGHT).notes] == [True]
+    model = reading.units([("u", units_)], EIGHT)
+    assert [each.startswith(told.format("a.service")) for each in model.notes] == [True]
+    assert [each.keeps_to for each in model.groups.values()] == [2, None]
     raw = [{"Id": f"{at}", "Name": f"/c{at}", "HostConfig": {"CpusetCpus": "0" if at < 7 else ""}}
            for at in range(8)]
     notes = reading.docker([("d", json.dumps(raw).encode())], EIGHT, engine.library).notes

@@ -89,7 +89,7 @@ def test_two_goals(ctl, folder):
     assert changes(way) == {"a": ("100", "272"), "b": ("100", "186")}
     assert (way["then_millicpu"], way["pays"]) == ([500, 350], [{"group": "c", "millicpu": 150}])
     out, _ = ctl.run("tune", three(folder), "--goal", "a=500m", "--goal", "b=350m")
-    assert [line.split() for line in out.split("\n")[1:]] == [
+    assert [line.split() for line in out.split("\n")[2:]] == [
         "all goals are met at once by today's demands, in CPUs; the proved check accepted the"
         " plan".split(), [], ["goal", "now", "then", "wants", "group"],
         ["0.50", "0.35", "0.50", "1.00", "a"], ["0.35", "0.35", "0.35", "1.00", "b"], [],
@@ -125,7 +125,8 @@ def test_goals_that_cannot_be_met(ctl, folder):
     assert found["conflict"] == {"group": ".", "together": ["a", "b"], "asked_millicpu": 1200,
                                  "served_millicpu": 1000}
     out, _ = ctl.run("tune", three(folder), "--goal", "a=600m", "--goal", "b=600m", status=6)
-    assert "weights that may change cannot meet these goals together by today's demands" in out
+    assert ("no raise of weights that may change meets these goals together by today's demands"
+            ) in out
     assert "asked for in all: 1.20; served in all: 1.00" in out
 
 
@@ -136,8 +137,8 @@ def test_goals_that_clash_in_a_group(ctl, folder):
              "--set", "sys.max=400m"]
     out, _ = ctl.run("tune", deep(folder), *words, status=6)
     lines = [line.split() for line in out.split("\n")]
-    assert ("weights that may change cannot meet these goals together in sys by today's demands,"
-            " in CPUs" in out)
+    assert ("no raise of weights that may change meets these goals together in sys by today's"
+            " demands, in CPUs" in out)
     assert ["0.30", "0.40", "2.00", "sys"] in lines and "user" not in out
     assert "asked for in all: 0.45; sys can be given 0.40 at most" in out
     found = json.loads(ctl.run("tune", deep(folder), *words, "-o", "json", status=6)[0])
@@ -149,7 +150,7 @@ def test_more_than_is_asked(ctl, folder):
     """No weight gives a group more than it asks for, and a line says so."""
     out, _ = ctl.run("tune", host_file(folder, ("a", 100, 300), ("b", 100, 300)), "--goal",
                      "a=400m", status=6)
-    assert "weights that may change cannot meet this goal by today's demands, in CPUs" in out
+    assert "no raise of weights that may change meets this goal by today's demands, in CPUs" in out
     assert "asked for in all: 0.40; a can be given 0.30 at most" in out
     assert "a asks for less: no setting gives it more than it asks for" in out
 
@@ -230,7 +231,7 @@ def test_groups_that_may_not_change(ctl, folder):
     """Beside db no weight gives web all 60 slices of sys, whose own weight stays."""
     out, _ = ctl.run("tune", deep(folder), "--goal", "web=600m", "-g", "sys/*",
                      status=6)
-    assert "weights that may change cannot meet this goal by today's demands" in out
+    assert "no raise of weights that may change meets this goal by today's demands" in out
     assert "nor were limits of other groups found with which they are met" in out
     assert "the settings of sys stay as they are (-g)" in out
 

@@ -63,7 +63,8 @@ def test_usage_without_namespaces_or_containers(ctl, folder):
     assert demands_of(ctl, PODS, NODE, "--used", folder / "top")[0] == {
         "prod/db-0/postgres": "70m"}
     _, err = ctl.run("explain", PODS, NODE, "--used", folder / "top")
-    assert "not here, 1: prod/web-7c9f (2 containers)" in err
+    assert ("used by pods of several containers, left out: `kubectl top pods -A --containers` has"
+            " each, 1: prod/web-7c9f (2 containers)") in err
     assert "prod:web-7c9f/nginx: nothing read for --want usage: no demand" in err
 
 

@@ -92,15 +92,24 @@ def differing(one: Plan, two: Plan, view: View = View()) -> list[Pair]:
 
 def heads(one: Plan, two: Plan, view: View) -> Iterator[tuple[str, str]]:
     for name, plan in (("before", one), ("after", two)):
-        for line in list(explain.head(plan, view))[:3]:
+        for line in list(explain.head(plan, view))[:4]:
             yield cut(f"{name:<7} {line}", max(view.width, 80)), ""
             name = ""
     yield "", ""
 
 
-def table(one: Plan, two: Plan, view: View) -> list[tuple[str, str]]:
-    """All lines with their styles. Groups that are the same are counted."""
-    answer = list(heads(one, two, view))
+def table(one: Plan, two: Plan, view: View,
+          busy: tuple[Plan, Plan] | None = None) -> list[tuple[str, str]]:
+    """All lines with their styles: of both plans, and of those with all busy where they are given.
+    """
+    more = [] if busy is None else [
+        ("", ""), ("if all are busy (--want busy):", "bold"), ("", ""), *changes(*busy, view)]
+    return [*heads(one, two, view), *changes(one, two, view), *more]
+
+
+def changes(one: Plan, two: Plan, view: View) -> list[tuple[str, str]]:
+    """The lines of the groups that differ. Those that are the same are counted."""
+    answer = list[tuple[str, str]]()
     count, differ = len(pairs(one, two, view)), differing(one, two, view)
     if differ:
         # In a narrow table names are cut and not reasons.
@@ -113,9 +122,12 @@ def table(one: Plan, two: Plan, view: View) -> list[tuple[str, str]]:
     return answer
 
 
-def as_data(one: Plan, two: Plan, view: View = View()) -> dict[str, Any]:
-    """Both plans as data, and the paths that differ with their change."""
+def as_data(one: Plan, two: Plan, view: View = View(),
+            busy: tuple[Plan, Plan] | None = None) -> dict[str, Any]:
+    """Both plans as data, and the paths that differ with their change; the same with all busy
+    where these plans are given."""
     changed = [{"group": pair.path, "change_millicpu": pair.gain}
                for pair in differing(one, two, view)]
+    more = {} if busy is None else {"busy": as_data(*busy, view)}
     return {"before": explain.as_data(one, view), "after": explain.as_data(two, view),
-            "changed": changed}
+            "changed": changed, **more}

@@ -233,6 +233,7 @@ def head(plan: Plan, view: View) -> Iterator[str]:
                            for each in (root.gets, plan.capacity, root.want))
     yield (f"{served} of {all_} {text.UNIT_WORDS[unit]} served, {asked} wanted; the proved check"
            " accepted the plan")
+    yield text.asked_words(plan.model)
     yield f"what limits the total: {limiting(plan, unit)}"
     lacks = sum(1 for group in plan.groups[1:] if group.gets < group.want and not group.children)
     starved = sum(1 for group in plan.groups[1:] if group.is_starved and not group.children)
@@ -375,7 +376,8 @@ def as_data(plan: Plan, view: View = View()) -> dict[str, Any]:
     return {
         "host": {"cpus": host.processors, "period_usec": host.period_us,
                  "slice_usec": host.slice_us, "capacity": amounts(plan, plan.capacity)},
-        "check": "accepted", "engine": plan.by, "served": amounts(plan, plan.root.gets),
+        "check": "accepted", "engine": plan.by, "demands": plan.model.asked,
+        "weights": plan.model.weighed, "served": amounts(plan, plan.root.gets),
         "wanted": amounts(plan, plan.root.want),
         "limiting": [{"group": group.path, "limit": amounts(plan, group.limit)}
                      for group in plan.limiting],

@@ -13,11 +13,11 @@ from arbiter_host.base.faults import HostFault, UsageFault
 from arbiter_host.base.model import Model
 from arbiter_host.base.names import cut, last_name, shown
 from arbiter_host.sources import prometheus
+from arbiter_host.sources.prometheus import USAGE, Metric
 from arbiter_host.sources.readings import Counted, TreeReading
 from arbiter_host.sources.samples import time_name
 from arbiter_host.sources.usage import some
 
-USAGE = "container_cpu_usage_seconds_total"
 # The metrics by what they are here. USAGE alone has to be there.
 METRICS = {
     "usage": USAGE,
@@ -162,6 +162,20 @@ class Fetched:
         return limits
 
 
+def check_leaves(server: Prometheus, usage: Mapping[Labels, Values],
+                 leaves: Mapping[Labels, str]) -> None:
+    """A fault where the series of one group may be the same use twice."""
+    by_path: dict[str, list[Metric]] = {}
+    for labels, path in leaves.items():
+        values = sorted(usage[labels].items())
+        by_path.setdefault(path, []).append(Metric(dict(labels), {
+            at / 1000: f"{value - before}" for (_, before), (at, value) in zip(values, values[1:])
+            if value > before}))
+    for path, parts in by_path.items():
+        prometheus.check_parts(path, parts, server.url,
+                               prometheus.window_of(None, server.range.step), "{}")
+
+
 def fetched(server: Prometheus, model: Model) -> tuple[Fetched, list[str]]:
     """All series, and what is told of those of no group."""
     usage = server.series(METRICS["usage"])
@@ -175,6 +189,7 @@ def fetched(server: Prometheus, model: Model) -> tuple[Fetched, list[str]]:
             leaves[labels] = path
         elif path is None and not is_of_none(dict(labels)):
             missing.append(title_of(dict(labels)))
+    check_leaves(server, usage, leaves)
     if not leaves:
         raise HostFault(f"{shown(server.url)}: series of no group here, {some(sorted(missing))}:"
                         " --query names others")

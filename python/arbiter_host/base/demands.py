@@ -15,6 +15,9 @@ from arbiter_host.base.model import Group, Model
 # What demands are taken from, and the first of them: from what was used.
 WANTS = ("usage", "peak", "p95", "psi", "limit", "request", "busy")
 OF_USE = WANTS[:4]
+# What demands by each rule are, in words.
+RULES = {"request": "requests", "limit": "limits", "busy": "all CPUs (busy)", "usage": "mean",
+         "peak": "greatest", "p95": "95th percentile", "psi": "mean, raised by waiting,"}
 # The greatest part of the time that pressure is taken for: above it the estimate has no meaning.
 MOST_PRESSURE = Fraction(19, 20)
 # The place of a group among what a source has read.
@@ -109,7 +112,7 @@ def percentile(values: Sequence[Fraction], percent: int) -> Fraction:
 
 def limit_of(group: Group, host: Host) -> Fraction:
     """Thousandths of a CPU that the group's own limit allows, at most the host's."""
-    most = Fraction(1000 * host.processors)
+    most = Fraction(1000 * (host.processors if group.keeps_to is None else group.keeps_to))
     return most if group.quota is None else min(Fraction(1000 * group.quota, group.period), most)
 
 
@@ -162,10 +165,27 @@ def wanted(want: str, group: Group, measured: Measured, host: Host,
     return {"usage": mean(values), "peak": max(values), "p95": percentile(values, 95)}[want]
 
 
+def asked_words(want: str, measured: Sequence[Measured], seconds: Fraction) -> str:
+    """What demands by a rule are, and of use in which time."""
+    if want not in OF_USE:
+        return RULES[want]
+    steps = max((len(each.readings) - 1 for each in measured), default=0)
+    times = [each.times for each in measured if each.told and each.times is not None]
+    most = max([steps, *(len(each.told) for each in measured)])
+    span = seconds * steps if steps > 0 else (
+        max(last for _, last in times) - min(times)[0] if times else Fraction(0))
+    over = f" in {units.span_words(span)}" if span else ""
+    if most <= 1:
+        return f"use{over or ' at one moment'}{', raised by waiting' if want == 'psi' else ''}"
+    return f"{RULES[want]} of use{over} ({most} samples)"
+
+
 def set_demands(model: Model, measured: dict[str, Measured], want: str, seconds: Fraction) -> None:
     """Sets the demand of each group without children. A group that is known to request nothing, as
     a pause container, is not meant to be busy."""
     leaves = [path for path, below in model.children().items() if path != "." and not below]
+    model.asked = asked_words(want, [measured[path] for path in leaves if path in measured],
+                              seconds)
     idle = sum(each.tasks == 0 and each.request is None
                for each in (measured[path] for path in leaves if path in measured))
     if want == "busy" and idle:
@@ -192,9 +212,11 @@ def set_demands(model: Model, measured: dict[str, Measured], want: str, seconds:
 
 
 def stop(model: Model, paths: Sequence[str], why: str) -> None:
-    """Lets groups whose tasks cannot run ask for nothing, and tells it."""
+    """Lets groups whose tasks cannot run, and all below them, ask for nothing, and tells it."""
     for path in paths:
-        model.groups[path].demand = Fraction(0)
+        for each in model.groups.values():
+            if f"{each.path}/".startswith(f"{path}/"):
+                each.demand = Fraction(0)
     if paths:
         model.notes.append(f"{why}: {names.listed(paths)}: it asks for nothing")
 
@@ -225,6 +247,7 @@ def scale(model: Model, words: Sequence[str]) -> None:
         parsed = units.number_and_unit(factor.removesuffix("x"))
         if not pattern or parsed is None or parsed[1]:
             raise UsageFault(f"--scale {names.shown(word)}: not GROUP=FACTOR")
+        model.asked += f", {names.shown(pattern)} times {units.decimal(parsed[0])}"
         tops = {group.path for group in matching(model, pattern)}
         for group in model.groups.values():
             if pattern == "." or any(group.path == top or group.path.startswith(top + "/")

@@ -1,7 +1,8 @@
 """A host and its groups, in microseconds and thousandths of a CPU."""
 from __future__ import annotations
 
-from collections.abc import Sequence
+import re
+from collections.abc import Mapping
 from contextlib import suppress
 from dataclasses import dataclass, field, replace
 from fractions import Fraction
@@ -95,7 +96,8 @@ class Group:
     below the top of the tree. It is `names.NOWHERE` where that is not known, and empty where the
     path says it. `identity` is the device and inode of the folder that it was read from. `request`
     is in thousandths of a CPU, and None where the source has none. `pod` has namespace, pod and
-    container as Kubernetes names them.
+    container as Kubernetes names them. `keeps_to` is the number of CPUs that it keeps to, and None
+    where it may run on all.
     """
 
     path: str
@@ -111,6 +113,7 @@ class Group:
     identity: tuple[int, int] | None = None
     request: Fraction | None = None
     pod: PodNames = NO_POD
+    keeps_to: int | None = None
 
     @property
     def usable(self) -> Fraction:
@@ -145,6 +148,9 @@ class Model:
     slices: Slices | None = None
     # The source as it was read, where people own settings of it.
     owned: Owned | None = None
+    # What its demands are and where its weights are from, in words.
+    asked: str = ""
+    weighed: str = ""
 
     def add(self, group: Group) -> Group:
         """Adds a group whose parent is there."""
@@ -180,8 +186,11 @@ class Model:
         for path, group in self.groups.items():
             place[path] = len(rows)
             demand = slices.demand(group.usable) if group.demand else 0
-            rows.append(Row(place[path.rpartition("/")[0]], group.weight,
-                            slices.limit(*group.bandwidth), demand))
+            limit = slices.limit(*group.bandwidth)
+            if group.keeps_to is not None:
+                cpus = group.keeps_to * (self.host.period_us // self.host.slice_us)
+                limit = cpus if limit is None else min(limit, cpus)
+            rows.append(Row(place[path.rpartition("/")[0]], group.weight, limit, demand))
         return rows
 
     def with_host(self, host: Host) -> Model:
@@ -196,10 +205,26 @@ class Model:
         return replace(self, groups=groups, notes=list(self.notes), refused=list(self.refused))
 
 
-def bound_notes(paths: Sequence[str]) -> list[str]:
-    """A warning of groups that keep to CPUs of their own, if there are any."""
-    return [f"bound to CPUs: {names.listed(paths)}: each keeps to its own CPUs, so what others"
-            " leave idle does not reach it"] if paths else []
+def bind(model: Model, cpus: Mapping[str, int | None]) -> None:
+    """Lets groups that keep to so many CPUs have at most these, and tells it. None stands for a
+    number that is not known."""
+    for path, count in cpus.items():
+        if count is not None and count < model.host.processors:
+            model.groups[path].keeps_to = count
+    if cpus:
+        model.notes.append(f"bound to CPUs: {names.listed(list(cpus))}: each has as many at most;"
+                           " which they are, and who else is on them, the plan does not know")
+
+
+def cpus_in(text: str) -> int | None:
+    """The number of CPUs of a list such as `0-3,8`; None for one that is none."""
+    cpus = set[int]()
+    for part in text.strip().split(","):
+        match = re.fullmatch(r"\s*([0-9]{1,5})(?:-([0-9]{1,5}))?\s*", part)
+        if not match:
+            return None
+        cpus.update(range(int(match[1]), int(match[2] or match[1]) + 1))
+    return len(cpus) or None
 
 
 class TooMany(HostFault):

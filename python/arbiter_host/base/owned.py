@@ -93,6 +93,15 @@ class Owned:
         demands.scale(model, self.scales)
         return model
 
+    @property
+    def rule(self) -> str:
+        """The rule by which its demands are made; empty where it has them itself."""
+        return ""
+
+    def busy(self) -> Owned | None:
+        """This source with each container busy; None unless its demands are requests."""
+        return None
+
     def has(self, path: str) -> bool:
         """Whether a group of the model has such settings."""
         raise NotImplementedError

@@ -247,7 +247,11 @@ def explained(plan_: Plan, group: PlannedGroup) -> Explanation:
         which = "1 task" if tasks == 1 else f"{tasks} tasks"
         return Explanation("tasks", f"all that its {which} can use at once", group.path)
     if kind is Kind.OWN_LIMIT:
+        own, host = group.group, plan_.model.host
         words = "its own limit" if group.limit else "its own limit, less than a slice"
+        if own is not None and own.keeps_to is not None and group.limit == (
+                own.keeps_to * (host.period_us // host.slice_us)):
+            words = f"it keeps to {own.keeps_to} CPU{'s' if own.keeps_to > 1 else ''}"
         return Explanation("own limit", words, group.path)
     if group.parent is None:
         return Explanation("the host is full", "the host is full", group.path)

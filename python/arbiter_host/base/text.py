@@ -10,6 +10,7 @@ from typing import NamedTuple
 
 from arbiter import Host
 from arbiter_host.base import units
+from arbiter_host.base.model import Model
 from arbiter_host.base.names import cut, padded, width
 from arbiter_host.base.plan import Plan
 
@@ -91,6 +92,11 @@ def host_words(host: Host) -> str:
                       for usec in (host.period_us, host.slice_us))
     return (f"{cpus(host.processors)}, period {period} ms, slice {slice_} ms (one slice is"
             f" {one}m)")
+
+
+def asked_words(model: Model) -> str:
+    """What the demands and the weights of a model are, in one line."""
+    return f"demands: {model.asked or 'none'}; weights: {model.weighed or 'none'}"
 
 
 def laid_out(rows: Sequence[Sequence[str]], left: Collection[int], least: int = 0) -> list[str]:

@@ -56,6 +56,14 @@ def number_and_unit(text: str) -> tuple[Fraction, str] | None:
     return value, text.strip()[match.end():].strip()
 
 
+def span_words(seconds: Fraction) -> str:
+    """A time in the greatest unit of which it has a whole number, or in seconds."""
+    for name, usec in (("d", 86400), ("h", 3600), ("min", 60)):
+        if seconds >= usec and seconds % usec == 0:
+            return f"{seconds // usec} {name}"
+    return f"{decimal(seconds, 1)} s"
+
+
 def whole(text: str, most: int = 9) -> int | None:
     """The number that a text of at most so many digits is; None for any other text."""
     return int(text) if text.isascii() and text.isdigit() and len(text) <= most else None

@@ -111,7 +111,17 @@ def settings_of(source: PodSource, patches: Mapping[Target, Rows]) -> Iterator[S
 
 
 def check(draft: Draft, groups: Mapping[str, Group]) -> None:
-    """Refuses each group that kubelet and the runtime would set otherwise than is asked."""
+    """Refuses each group that kubelet and the runtime would set otherwise than is asked; or of
+    these alone the containers that the patch changes though nobody has named them."""
+    unnamed = [path for path, group in draft.after.groups.items()
+               if group.pod[2] and path in draft.before.groups and path in groups
+               and apply.settings_of(draft.before.groups[path]) == apply.settings_of(group)
+               != apply.settings_of(groups[path])]
+    for path in unnamed:
+        draft.refuse(path, "its pod has the owner of one that is changed, and so the same patch:"
+                     " name all of them, as --set 'NAMESPACE/NAME-*/CONTAINER.request=..'")
+    if unnamed:
+        return
     for path, group in draft.after.groups.items():
         if path not in draft.before.groups and path not in draft.moved:
             continue

@@ -5,6 +5,7 @@ import json
 import math
 import os
 from collections.abc import Callable, Mapping, Sequence
+from contextlib import suppress
 from dataclasses import dataclass, replace
 from typing import Any
 
@@ -184,10 +185,12 @@ def host_of(word: str, node: dict[str, Any], of_node: Sequence[dict[str, Any]],
     name = names.shown(name_of(node) or "unnamed")
     used = [metrics[each] for each in dict.fromkeys(map(title, of_node)) if each in metrics]
     data = json.dumps({"kind": "List", "items": [node, *of_node, *used]}).encode()
-    allocatable = pods.thousandths(table(node, "status", "allocatable").get("cpu"), "", [])
-    asked = kubernetes.requested_by([pods.pod_of(pod, []) for pod in of_node
-                                     if not kubernetes.has_ended(pod)])
-    room = None if allocatable is None else allocatable - asked
+    room = None
+    with suppress(HostFault):  # (what cannot be read is told when the host is)
+        allocatable = pods.thousandths(table(node, "status", "allocatable").get("cpu"), name)
+        asked = kubernetes.requested_by([pods.pod_of(pod, []) for pod in of_node
+                                         if not kubernetes.has_ended(pod)])
+        room = None if allocatable is None else allocatable - asked
     return HostFile(name, f"{word}: {name}", data, frozenset(map(title, of_node))), room
 
 

@@ -105,9 +105,15 @@ def read_settings(group: Group, folder: int, notes: list[str]) -> None:
         take("burst", burst, 0, most, "cpu.max.burst")
 
 
-def is_bound(folder: int) -> bool:
-    """Whether a group keeps to CPUs of its own."""
-    return bool((file_text(folder, "cpuset.cpus") or "").strip())
+def cpus(folder: int) -> str:
+    """The CPUs that a group keeps to, as a list; empty where it has none of its own."""
+    own = (file_text(folder, "cpuset.cpus") or "").strip()
+    return (file_text(folder, "cpuset.cpus.effective") or "").strip() or own if own else ""
+
+
+def is_frozen(folder: int) -> bool:
+    """Whether the tasks of a group are stopped, by its own file."""
+    return (file_text(folder, "cgroup.freeze") or "").strip() == "1"
 
 
 def has_cpu(folder: str) -> bool:

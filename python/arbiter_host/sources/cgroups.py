@@ -6,7 +6,7 @@ from fractions import Fraction
 
 from arbiter import Host
 from arbiter_host.base import demands, units
-from arbiter_host.base.model import Model, bound_notes
+from arbiter_host.base.model import Model, bind
 from arbiter_host.sources import readings, systemd
 from arbiter_host.sources.readings import OverTime
 from arbiter_host.sources.times import Times
@@ -48,10 +48,11 @@ def read(folders: Sequence[str], host: Host, times: Times = Times(), want: str =
     model = series.first.model
     if not model.groups:
         model.notes.append("no groups with the cpu controller are below this folder")
-    model.notes += bound_notes(series.first.bound)
+    bind(model, series.first.bound)
     model.notes += [f"{path}: gone at a later reading" for path in series.gone if path != "."]
     measured = {path: series.measured(path) for path in model.groups}
     demands.set_demands(model, measured, want, series.seconds)
+    demands.stop(model, series.first.frozen, "frozen")
     model.notes += [*own_notes(model, series), *slice_notes(model)]
     model.owned = systemd.TreeSource(model.copy(), measured, seconds=series.seconds)
     return model

@@ -95,10 +95,25 @@ def made_again(model: Model, words: Sequence[str]) -> Model:
             settings += settings_of(model, model.owned, word)
     assert model.owned is not None
     try:
+        # (a request is no change of what tasks want; a demand that is a limit follows it)
+        if model.owned.rule != "limit":
+            after = owned.remade(model, model.owned, settings)
+            is_of_requests = model.owned.rule == "request"
+            return replace(after, asked="requests before the change") if is_of_requests else after
         after = model.owned.changed(settings).model()
     except HostFault as fault:
         raise UsageFault(f"--set {fault.message}") from fault
     return after if after.host == model.host else after.with_host(model.host)
+
+
+def if_busy(before: Model, after: Model, words: Sequence[str]) -> tuple[Model, Model] | None:
+    """Both models with each container busy, where the words change requests of containers whose
+    demands are requests: these stay, so that where all fit the change gives nobody more or less."""
+    if not any(not is_host(word) and split(word)[1] == "request" for word in words):
+        return None
+    sources = [None if each.owned is None else each.owned.busy() for each in (before, after)]
+    one, two = (None if each is None else each.model() for each in sources)
+    return None if one is None or two is None else (one, two)
 
 
 def on_host(model: Model, host: Host) -> Model:

@@ -11,7 +11,7 @@ from arbiter import Host, Library
 from arbiter_host.base import demands, names, units
 from arbiter_host.base.demands import Measured, Place
 from arbiter_host.base.faults import HostFault
-from arbiter_host.base.model import MAX_CAPACITY, Group, Model, bound_notes, check_count, checked
+from arbiter_host.base.model import MAX_CAPACITY, Group, Model, bind, check_count, checked, cpus_in
 from arbiter_host.base.owned import NONE, Range, Setting
 from arbiter_host.sources import systemd
 from arbiter_host.sources.data import field, loads, number, table, text_field
@@ -138,15 +138,16 @@ class ContainerSource(Measurable):
 
     @functools.cached_property
     def built(self) -> tuple[Model, Mapping[str, Place]]:
-        model = Model(checked(self.host), notes=list(self.notes))
+        model = Model(checked(self.host), notes=list(self.notes),
+                      weighed=f"of shares ({self.options.runtime})")
         check_count(len(self.running), f"{len(self.running)} containers")
         # Folders come first, so that no container's name takes the path of one.
         for each in self.running:
             parent_path(model, place_of(each, self.options.driver)[0])
         taken: dict[str, set[str]] = {}
         paths = [self.add(model, each, taken) for each in self.running]
-        model.notes += bound_notes([path for path, each in zip(paths, self.running)
-                                    if text_field(each, "HostConfig", "CpusetCpus")])
+        words = [text_field(each, "HostConfig", "CpusetCpus") for each in self.running]
+        bind(model, {path: cpus_in(word) for path, word in zip(paths, words) if word})
         want, places = self.options.want, {path: (at, 0) for at, path in enumerate(paths)}
         if want == "request" or want in demands.OF_USE and not self.known:
             raise HostFault(f"--want {want} needs --used: containers have limit and busy", 2)
@@ -158,6 +159,7 @@ class ContainerSource(Measurable):
             demands.stop(model, [path for path, each in zip(paths, self.running)
                                  if field(each, "State", state) is True
                                  or text_field(each, "State", "Status") == word], word)
+        self.follow_tree(model, places)
         return model, places
 
     def add(self, model: Model, container: Inspected, taken: dict[str, set[str]]) -> str:

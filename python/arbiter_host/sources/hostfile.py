@@ -195,7 +195,8 @@ def model_of(data: bytes, name: str, is_toml: bool, library: Library,
     with naming(name):
         host, groups = tables_in(entry)
         with naming("host"):
-            model = Model(read_host(host, library, options), names_host="host" in entry)
+            model = Model(read_host(host, library, options), names_host="host" in entry,
+                          asked="of the host file", weighed="of the host file")
         check_count(len(groups), f"{len(groups)} groups")
         for path, each in groups.items():
             with naming(names.shown(path)):

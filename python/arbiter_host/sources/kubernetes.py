@@ -131,13 +131,19 @@ def node_of(items: Sequence[dict[str, Any]], options: SourceOptions) -> dict[str
     return meant[0] if meant else None
 
 
+# The conversions of kubelet and of the runtime that nodes have together.
+CONVERTED = (("linear", "linear"), ("linear", "log"), ("log", "log"))
+
+
 class PodBuilder:
     """Makes the groups of pods."""
 
     def __init__(self, source: PodSource) -> None:
         self.source, self.options = source, source.options
+        one, two = source.options.kubelet, source.options.runtime
+        by = one if one == two else f"{one} and {two} for containers"
         self.model = Model(checked(source.host), notes=list(source.notes),
-                           names_host=source.names_host)
+                           names_host=source.names_host, weighed=f"of requests ({by})")
         self.measured: dict[str, Measured] = {}
         self.taken: dict[str, set[str]] = {}
         # The places of a pod and of its container, by the path of the group.
@@ -244,7 +250,23 @@ class PodSource(Measurable):
         for place, pod in enumerate(self.pods):
             builder.pod(pod, place)
         builder.set_demands()
+        self.follow_tree(builder.model, builder.places)
         return builder.model, builder.places
+
+    def compared(self) -> PodSource:
+        """This with the conversion of shares that fits the weights of the tree best, unless one is
+        asked for."""
+        said = self.options
+        others = () if said.are_conversions_said else CONVERTED
+        made = [replace(self, options=replace(said, kubelet=kubelet, runtime=runtime))
+                for kubelet, runtime in dict.fromkeys([(said.kubelet, said.runtime), *others])]
+        best = min(made, key=lambda each: len(each.unlike()[0]))
+        notes = best.told_of_tree()
+        if best is not made[0]:
+            notes.insert(0, f"weights: {best.options.runtime} for containers,"
+                            f" {best.options.kubelet} above"
+                            " them, as the tree has them (--node-weights)")
+        return replace(best, notes=(*best.notes, *notes)) if notes else best
 
     @property
     def every(self) -> Iterator[tuple[Place, Pod, Container]]:
@@ -442,13 +464,18 @@ def read(files: Sequence[File], library: Library, options: SourceOptions) -> Mod
     items = [item for name, data in files for item in items_of(loads(data, name), name)]
     node = node_of(items, options)
     notes = other_kinds(items)
-    capacity, allocatable = (thousandths(field(node, "status", key, "cpu"), "node", notes)
+    capacity, allocatable = (thousandths(field(node, "status", key, "cpu"), f"node, {key}")
                              for key in ("capacity", "allocatable"))
     if not capacity and options.cpus is None:
         raise NoHost("number of CPUs unknown: pass the node's JSON or --cpus")
     host = options.host(library, max((capacity or 0) // 1000, 1))
     pods = pods_on(items, text_field(node, "metadata", "name") if node else options.node, notes)
     notes += [] if pods else ["no pod is in these files that has not ended"]
+    spaces = {each.namespace for each in pods}
+    # (a node that a cluster has runs pods of the cluster's own too)
+    if field(node, "status", "nodeInfo") and len(spaces) == 1:
+        notes.append(f"all pods are of the namespace {shown(spaces.pop())}: where others run on"
+                     " this node too, these are given what is theirs (kubectl get pods -A)")
     if node is None:
         notes.append("no node's JSON: kubepods has weight 100")
     source = PodSource(library, options, host, tuple(pods), allocatable, capacity is not None,

@@ -18,6 +18,8 @@ from arbiter_host.sources.register import BLANK, NODE, READERS, SERVICE
 from arbiter_host.sources.source_options import File, SourceOptions
 from arbiter_host.sources.times import turns
 
+KIND_OF_SERVICE = {"k8s": "kubernetes", "docker": "docker", "podman": "docker",
+                   "systemd": "systemd"}
 # A path and its bytes; None stands for a folder.
 Opened = tuple[str, bytes | None]
 
@@ -26,6 +28,8 @@ def kind_of(path: str, data: bytes | None) -> str:
     """The kind of a source: by its name, else by its first bytes. No data stands for a folder."""
     if data is None:
         return "cgroup"
+    if SERVICE.match(path):
+        return KIND_OF_SERVICE[path.partition("://")[0]]
     name = path.lower()
     if name.endswith((".yaml", ".yml")):
         raise HostFault(f"{names.shown(path)}: YAML is not read: write TOML or JSON (of pods:"

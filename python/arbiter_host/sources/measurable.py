@@ -8,10 +8,12 @@ from fractions import Fraction
 from typing import TypeVar
 
 from arbiter import Host, Library
-from arbiter_host.base.demands import Measured, Place, Use, use_of
+from arbiter_host.base.demands import Measured, Place, Use, stop, use_of
 from arbiter_host.base.faults import HostFault
-from arbiter_host.base.model import Model
+from arbiter_host.base.model import Group, Model, bind
+from arbiter_host.base.names import parent_path
 from arbiter_host.base.owned import Owned
+from arbiter_host.sources import prometheus
 from arbiter_host.sources.source_options import DRIVERS, SourceOptions
 from arbiter_host.sources.usage import Used, some
 
@@ -19,6 +21,7 @@ S = TypeVar("S", bound="Measurable")
 # What entries are of that name no container here.
 REPLICAS = "by the names of their pods replicas of these"
 OTHERS = "used by containers that are not here"
+WHOLE = "used by pods of several containers, left out: `kubectl top pods -A --containers` has each"
 
 
 @dataclass(frozen=True)
@@ -32,6 +35,45 @@ class Measurable(Owned):
     # What was measured of containers, and the seconds from one reading to the next.
     known: Mapping[Place, Measured] = field(default_factory=dict, kw_only=True)
     seconds: Fraction = field(default=Fraction(1), kw_only=True)
+    # The groups of containers in a tree, each with the one above it.
+    there: Mapping[Place, tuple[Group, Group | None]] = field(default_factory=dict, kw_only=True)
+
+    def compared(self: S) -> S:
+        """This with what is told of weights and limits that the tree has otherwise."""
+        notes = self.told_of_tree()
+        return replace(self, notes=(*self.notes, *notes)) if notes else self
+
+    def told_of_tree(self) -> list[str]:
+        """What is told of the groups that the tree has with other weights or limits."""
+        off, checked_ = self.unlike()
+        return [f"groups whose cpu.weight or cpu.max in the tree is another than is derived here:"
+                f" {len(off)} of {checked_}: {some(off)}"] if off else []
+
+    def unlike(self) -> tuple[list[str], int]:
+        """The groups that the tree has with another weight or limit, in words, and the number of
+        all that were compared."""
+        model, places = self.built
+        off, compared = dict[str, None](), set[str]()
+        for path, place in places.items():
+            for mine, theirs in zip((path, parent_path(path)), self.there.get(place, ())):
+                if theirs is None or mine in compared or mine not in model.groups:
+                    continue
+                compared.add(mine)
+                own = model.groups[mine]
+                if (own.weight, own.quota and Fraction(own.quota, own.period)) != (
+                        theirs.weight, theirs.quota and Fraction(theirs.quota, theirs.period)):
+                    off[f"{mine} has weight {theirs.weight}, max {theirs.max_words}, derived"
+                        f" {own.weight}, max {own.max_words}"] = None
+        return list(off), len(compared)
+
+    def follow_tree(self, model: Model, places: Mapping[str, Place]) -> None:
+        """Lets groups that the tree has bound to CPUs or frozen have so many, or ask for nothing.
+        """
+        found = {path: self.there[place][0] for path, place in places.items()
+                 if place in self.there}
+        bind(model, {path: each.keeps_to for path, each in found.items()
+                     if each.keeps_to is not None})
+        stop(model, [path for path, each in found.items() if each.tasks == 0], "frozen")
 
     @functools.cached_property
     def built(self) -> tuple[Model, Mapping[str, Place]]:
@@ -55,6 +97,14 @@ class Measurable(Owned):
     @functools.cached_property
     def plain(self) -> Model:
         return self.built[0]
+
+    @property
+    def rule(self) -> str:
+        return self.options.want
+
+    def busy(self: S) -> S | None:
+        is_asked = self.options.want == "request"
+        return replace(self, options=replace(self.options, want="busy")) if is_asked else None
 
     def has(self, path: str) -> bool:
         return path in self.built[1]
@@ -83,8 +133,9 @@ def measured(sources: Sequence[S], entries: Sequence[Used],
     """Sources with what others measured of them, also of replicas that are gone or elsewhere, and
     what is told of these and of all other entries."""
     known: list[dict[Place, Measured]] = [{} for _ in sources]
-    replicas = list[tuple[str, Use]]()
-    told: dict[str, list[str]] = {REPLICAS: [], OTHERS: []}
+    replicas, here = list[tuple[str, Use]](), list[Mapping[str, str]]()
+    away = list[Used]()
+    told: dict[str, list[str]] = {REPLICAS: [], WHOLE: [], OTHERS: []}
     for entry in entries:
         places = [(at, place) for at, each in enumerate(sources)
                   for place in each.places_of(entry)]
@@ -93,12 +144,20 @@ def measured(sources: Sequence[S], entries: Sequence[Used],
             at, place = places[0]
             if place in known[at]:
                 raise HostFault(f"{name}: {entry.title}: two numbers for what one container used")
+            if entry.labels:
+                prometheus.check_use(entry.title, entry.amounts, sources[at].host.processors, name)
+                here.append(entry.labels)
             known[at][place] = Measured(told=entry.amounts, times=entry.times)
         elif len(makers) == 1:
+            away.append(entry)
             replicas.append((makers.pop(), Use(entry.amounts, times=entry.times)))
             told[REPLICAS].append(entry.title)
+        elif len(places) > 1 and entry.pod and not entry.container:
+            told[WHOLE].append(f"{entry.title} ({len(places)} containers)")
         else:
             told[OTHERS].append(entry.title + (f" ({len(places)} containers)" if places else ""))
+    for entry in away:
+        prometheus.check_homes(here, entry.title, entry.labels, name)
     notes = [f"{name}: {what}, {some(titles)}" for what, titles in told.items() if titles]
     if not any(known) and not replicas:
         raise HostFault(notes[-1] if notes else f"{name}: nothing was used by any container")

@@ -190,18 +190,15 @@ def quantity(value: Any) -> Fraction:
     return amount
 
 
-def thousandths(value: Any, where: str, notes: list[str]) -> int | None:
-    """A quantity in whole thousandths, rounded up as kubelet does."""
-    try:
+def thousandths(value: Any, where: str) -> int | None:
+    """A quantity in whole thousandths, rounded up as kubelet does. A fault names where it is."""
+    with naming(where):
         return None if value is None else math.ceil(quantity(value))
-    except HostFault as fault:
-        notes.append(f"{where}: {fault.message}: it is left out")
-        return None
 
 
-def amounts_of(resources: dict[str, Any], where: str, notes: list[str]) -> Amounts:
+def amounts_of(resources: dict[str, Any], where: str) -> Amounts:
     """Request and limit of CPU. A limit without a request is the request too."""
-    limit, request = (thousandths(field(resources, key, "cpu"), where, notes)
+    limit, request = (thousandths(field(resources, key, "cpu"), where)
                       for key in ("limits", "requests"))
     return Amounts(limit if request is None else request, limit)
 
@@ -209,7 +206,7 @@ def amounts_of(resources: dict[str, Any], where: str, notes: list[str]) -> Amoun
 def asked_amounts(container: dict[str, Any], status: dict[str, Any], where: str,
                   notes: list[str]) -> Amounts:
     """Request and limit of a container. What its status says is set otherwise is told."""
-    asked, now = (amounts_of(table(each, "resources"), where, notes)
+    asked, now = (amounts_of(table(each, "resources"), where)
                   for each in (container, status))
     if now not in (asked, Amounts()):
         words = ", ".join(f"{key} {value}m" for key, value in (
@@ -332,7 +329,7 @@ def pod_of(pod: dict[str, Any], notes: list[str]) -> Pod:
     parts, asked = containers_of(pod, where, notes), table(spec, "resources", "requests")
     memory = [memory_of(each, where) for key in ("initContainers", "containers")
               for each in tables(spec, key)]
-    own = whole_amounts(amounts_of(table(spec, "resources"), where, notes), "cpu" in asked, parts)
+    own = whole_amounts(amounts_of(table(spec, "resources"), where), "cpu" in asked, parts)
     if is_whole:
         memory = [whole_amounts(memory_of(spec, where), "memory" in asked, [
             replace(part, amounts=each) for part, each in zip(parts, memory)])]
@@ -341,7 +338,7 @@ def pod_of(pod: dict[str, Any], notes: list[str]) -> Pod:
         # The mirror of a static pod has an identifier that is not the one of its group.
         uid=text_field(metadata, "annotations", MIRROR) or text_field(metadata, "uid"),
         parts=parts,
-        overhead=thousandths(field(spec, "overhead", "cpu"), where, notes) or 0,
+        overhead=thousandths(field(spec, "overhead", "cpu"), where) or 0,
         own=own, is_whole=is_whole,
         told=told if told in CLASSES else "",
         asks_memory=any(each.request or each.limit for each in memory),

@@ -1,10 +1,13 @@
 """The use of groups over time, from a server of Prometheus."""
 from __future__ import annotations
 
+import itertools
+import json
 import math
+import re
 import time
 import urllib.parse
-from collections.abc import Callable, Mapping, Sequence
+from collections.abc import Callable, Mapping, Sequence, Set
 from datetime import datetime
 from fractions import Fraction
 from typing import Any, NamedTuple, TypeVar
@@ -17,17 +20,27 @@ from arbiter_host.sources.samples import EMPTY, TABLE, History, Sample, time_nam
 
 Parsed = TypeVar("Parsed")
 
+# The counter of cAdvisor, in seconds.
+USAGE = "container_cpu_usage_seconds_total"
 # The series of cAdvisor that are no totals: containers of pods without pause containers, containers
 # of docker, and units.
 LEAVES = ('container!="",container!="POD"', 'container="",name!=""',
           'container="",name="",id=~".*[.](service|scope)"')
 # Seconds of the rate at least: the time of some readings of cAdvisor.
 LEAST_RATE = 120
+# Part of a value below which a difference of two is none.
+NOISE = Fraction(1, 10**9)
+# Labels that tell apart what one server has of several clusters, scrapes or servers.
+HOMES = re.compile(r"cluster|prometheus|replica|tenant|^job$|^monitor$")
+# Part of a node above which use is none: rates may be somewhat above it.
+MOST_USE = Fraction(5, 4)
+# Seconds for which a server shows a series that has ended.
+LOOKBACK = 300
 # Samples of a series where no step is said. A server gives 11,000 at most.
 MOST_SAMPLES = 5000
 # Labels that tell the parts of one container's use apart.
 PARTS = frozenset({"cpu", "image", "name", "uid", "container_id"})
-# Labels that change where a container is made anew, maybe on another node.
+# Labels that change where a container is made anew, maybe on another node: then its series ends.
 ANEW = frozenset({"id", "instance", "node", "host"})
 
 
@@ -112,22 +125,90 @@ def column_of(labels: Mapping[str, str], url: str) -> str:
                     " --query 'sum by (pod) (..)' leaves one")
 
 
-def told_apart(labels: Sequence[Mapping[str, str]]) -> set[str]:
-    """The labels in which series of one name differ so that they may be the same use twice. Parts
-    of a use differ in `PARTS`. Where each has an `id` of its own, a container was made anew."""
-    if len({tuple(sorted(each.items())) for each in labels}) < len(labels):
-        return {"nothing"}
-    keys = {key for each in labels for key in each}
-    differ = {key for key in keys if len({each.get(key) for each in labels}) > 1}
-    made = {(each["id"], each.get("cpu")) for each in labels if each.get("id")}
-    return differ - PARTS - (ANEW if len(made) == len(labels) else frozenset())
-
-
 class Metric(NamedTuple):
     """The labels of a series, and its values as they were written, by time."""
 
     labels: Mapping[str, str]
     values: Mapping[float, str]
+
+
+def told_apart(parts: Sequence[Metric], window: float) -> set[str]:
+    """The labels in which series of one name differ so that they may be the same use twice.
+
+    Series of several CPUs are parts of a use. Where each has an `id` of its own, and none is used
+    beside another for longer than the window in seconds, a container was made anew.
+    """
+    labels = [each.labels for each in parts]
+    if len({tuple(sorted(each.items())) for each in labels}) < len(labels):
+        return {"nothing"}
+    keys = {key for each in labels for key in each}
+    differ = {key for key in keys if len({each.get(key) for each in labels}) > 1}
+    made = {(each["id"], each.get("cpu")) for each in labels if each.get("id")}
+    others = differ - PARTS - (ANEW if len(made) == len(labels) else frozenset())
+    lives: dict[tuple[tuple[str, str], ...], set[float]] = {}
+    for each in parts:
+        life = sorted(pair for pair in each.labels.items() if pair[0] != "cpu")
+        lives.setdefault(tuple(life), set()).update(
+            at for at, value in each.values.items() if value.strip("0."))
+    if others or not any(are_at_once(one, two, window)
+                         for one, two in itertools.combinations(lives.values(), 2)):
+        return others
+    return differ - {"cpu"}
+
+
+def are_at_once(one: Set[float], two: Set[float], window: float) -> bool:
+    """Whether two series are used at the same times: at all of several, or for longer than a window
+    in seconds."""
+    common = one & two
+    return len(common) > 1 and (one == two or max(common) - min(common) > window)
+
+
+def check_parts(name: str, parts: Sequence[Metric], url: str, window: float,
+                example: str) -> None:
+    """A fault where series of one name may be the same use twice. It advises a selector, which
+    stands for `{}` in the example of a query."""
+    apart = sorted(told_apart(parts, window)) if len(parts) > 1 else []
+    if not apart:
+        return
+    named = next((key for key in apart if parts[0].labels.get(key)), "")
+    selector = f"{{{named}={json.dumps(parts[0].labels[named])}}}" if named else ""
+    advice = (f"choose by --query, as '{shown(cut(example.replace('{}', selector), 200))}'"
+              if named else "--query 'max by (namespace, pod, container) (..)' takes one of them")
+    raise HostFault(f"{shown(url)}: {len(parts)} series of {shown(cut(name, 100))} differ in"
+                    f" {', '.join(map(shown, apart))}, and may be one use twice: {advice}")
+
+
+def check_homes(here: Sequence[Mapping[str, str]], title: str, labels: Mapping[str, str],
+                where: str) -> None:
+    """A fault where a series that is taken for a replica of some containers is of another cluster
+    or scrape than all of these."""
+    for key, value in (common(here) if here else {}).items():
+        if HOMES.search(key) and labels.get(key, value) != value:
+            raise HostFault(
+                f"{where}: {title} has {shown(key)}={shown(labels[key])}, and what runs here has"
+                f" {shown(key)}={shown(value)}: choose by --query, as 'rate({USAGE}"
+                f"{{{shown(key)}={shown(json.dumps(value))}}}[{LEAST_RATE}s])'")
+
+
+def check_use(title: str, amounts: Sequence[Fraction], cpus: int, where: str) -> None:
+    """A fault where what a server tells is no use of a node: more than all of its CPUs."""
+    most = max(amounts, default=Fraction(0))
+    if most <= MOST_USE * 1000 * cpus:
+        return
+    # (a rate that stays the same differs in its last digits)
+    is_counter = len(amounts) > 2 and all(
+        one * (1 + NOISE) < two for one, two in zip(amounts, amounts[1:]))
+    why = (": it only rises, as a counter does: rate(..) is missing?" if is_counter else
+           ": it is in another unit, or rate(..) is missing?")
+    raise HostFault(f"{where}: {title} used {units.decimal(most, 0)}m, and the node has"
+                    f" {1000 * cpus}m{why}")
+
+
+def window_of(query: str | None, step: float) -> float:
+    """The seconds for which a container that has ended still has samples of a query."""
+    windows = [units.parse_time(each) / 10**6
+               for each in re.findall(r"\[([0-9]+[a-z]+)", query or "")]
+    return max(step, LOOKBACK, *windows)
 
 
 def series_of(answer: Any) -> list[Metric]:
@@ -147,41 +228,46 @@ def total(words: Sequence[str]) -> str:
     return units.decimal(sum((each[0] for each in parsed if each), Fraction(0)), 12)
 
 
-def summed(name: str, parts: Sequence[Metric], url: str) -> dict[float, str]:
+def summed(name: str, parts: Sequence[Metric], url: str, window: float) -> dict[float, str]:
     """The values of a column. Series that are parts of one are added up; else a fault."""
-    apart = told_apart([each.labels for each in parts]) if len(parts) > 1 else ()
-    if apart:
-        raise HostFault(f"{shown(url)}: {len(parts)} series of {shown(cut(name, 100))} differ"
-                        f" in {', '.join(sorted(map(shown, apart)))}: choose by --query, as"
-                        " 'sum by (namespace, pod, container) (..)'")
+    check_parts(name, parts, url, window, f"rate({USAGE}{{}}[{LEAST_RATE}s])")
     return {at: total([each.values[at] for each in parts if at in each.values])
             for at in dict.fromkeys(at for each in parts for at in each.values)}
 
 
-def history_of(metrics: Sequence[Metric], url: str) -> History:
-    """The samples of series. Those of pods whose containers have series of their own are none."""
+def history_of(metrics: Sequence[Metric], url: str, window: float = LOOKBACK) -> History:
+    """The samples of series. Those of pods whose containers have series of their own are none.
+    A container that has ended has samples for so many seconds."""
     columns: dict[str, list[Metric]] = {}
     for each in metrics:
         columns.setdefault(column_of(each.labels, url), []).append(each)
     leaves = {name for name, parts in columns.items() if parts[0].labels.get("container")}
     above = {name.rpartition("/")[0] for name in leaves} - leaves
-    values = {name: summed(name, parts, url) for name, parts in columns.items()
-              if name not in above}
+    columns = {name: parts for name, parts in columns.items() if name not in above}
+    values = {name: summed(name, parts, url, window) for name, parts in columns.items()}
     return History(list(values), [
         Sample(time_name(str(int(at))), {name: each[at] for name, each in values.items()
                                          if at in each}, shown(url))
-        for at in sorted({at for each in values.values() for at in each})])
+        for at in sorted({at for each in values.values() for at in each})],
+        {name: common([each.labels for each in parts]) for name, parts in columns.items()})
+
+
+def common(labels: Sequence[Mapping[str, str]]) -> dict[str, str]:
+    """The labels that all of some series have alike."""
+    first, *others = labels
+    return {key: value for key, value in first.items()
+            if all(each.get(key) == value for each in others)}
 
 
 def read(url: str, query: str | None, asked: QueryRange) -> list[Metric]:
     """The series of a query. That of the CPU which cAdvisor counts is asked unless it is said."""
     rate = f"{max(asked.step, LEAST_RATE):g}s"
-    default = " or ".join(f"rate(container_cpu_usage_seconds_total{{{each}}}[{rate}])"
+    default = " or ".join(f"rate({USAGE}{{{each}}}[{rate}])"
                           for each in LEAVES)
     return of_range(url, query or default, asked, series_of)
 
 
-def by_host(metrics: Sequence[Metric], url: str) -> dict[str, History]:
+def by_host(metrics: Sequence[Metric], url: str, window: float = LOOKBACK) -> dict[str, History]:
     """The samples of each host, by the label of its name."""
     hosts: dict[str, list[Metric]] = {}
     for each in metrics:
@@ -190,4 +276,4 @@ def by_host(metrics: Sequence[Metric], url: str) -> dict[str, History]:
             raise HostFault(f"{shown(url)}: a series without a label of its host:"
                             f" {', '.join(TABLE['host'])}")
         hosts.setdefault(host, []).append(each)
-    return {host: history_of(each, url) for host, each in hosts.items()}
+    return {host: history_of(each, url, window) for host, each in hosts.items()}

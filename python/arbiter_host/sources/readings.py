@@ -16,9 +16,9 @@ from arbiter import Host, Library, Reading, RoundTimes
 from arbiter_host.base import names, progress, safe_files, units
 from arbiter_host.base.demands import CounterReading, Measured, Place, rise
 from arbiter_host.base.faults import HostFault, strerror
-from arbiter_host.base.model import (MAX_DEPTH, NO_POD, Group, Model, PodNames, checked,
-                                     up_to_64_cpus)
-from arbiter_host.base.names import shown
+from arbiter_host.base.model import (MAX_CAPACITY, MAX_DEPTH, NO_POD, Group, Model, PodNames, bind,
+                                     checked, cpus_in, up_to_64_cpus)
+from arbiter_host.base.names import parent_path, shown
 from arbiter_host.sources import cgroup2, task_times
 from arbiter_host.sources.times import MICROSECONDS, Clock, Sleep, Times, turns
 
@@ -49,8 +49,9 @@ class TreeReading:
     counted: dict[str, dict[Hashable, Counted]] = field(default_factory=dict)
     # The number of tasks of each leaf where it was read.
     tasks: dict[str, int] = field(default_factory=dict)
-    # The groups that keep to CPUs of their own.
-    bound: list[str] = field(default_factory=list)
+    # The numbers of CPUs of the groups that keep to CPUs of their own, and the frozen groups.
+    bound: dict[str, int | None] = field(default_factory=dict)
+    frozen: list[str] = field(default_factory=list)
     name: str = ""
     # The folders of pods and containers that have no name of theirs.
     unnamed: set[str] = field(default_factory=set)
@@ -154,7 +155,8 @@ class Tree:
     def look(self) -> TreeReading:
         """A look at all groups. That at a copy is of second 0."""
         cgroup2.check_folder(self.top)
-        look = TreeReading(Fraction(0), Model(self.host, notes=cgroup2.top_notes(self.top)))
+        look = TreeReading(Fraction(0), Model(self.host, notes=cgroup2.top_notes(self.top),
+                                              weighed="cpu.weight"))
         top = Group(".", place=self.top)
         self.count(look, top, cgroup2.reading(self.top))
         self.add_below(look, top, 0)
@@ -215,7 +217,9 @@ class Tree:
 
     def measure(self, look: TreeReading, group: Group, handle: int) -> None:
         """Reads what is counted of a group."""
-        look.bound += [group.path] if cgroup2.is_bound(handle) else []
+        cpus = cgroup2.cpus(handle)
+        look.bound |= {group.path: cpus_in(cpus)} if cpus else {}
+        look.frozen += [group.path] if cgroup2.is_frozen(handle) else []
         self.count(look, group, cgroup2.reading(handle))
 
     def pod_at(self, look: TreeReading, folder: str) -> PodNames:
@@ -323,12 +327,21 @@ def series_of(folders: Sequence[str], host: Host, times: Times) -> OverTime:
     return found
 
 
-def measured_at(folders: Sequence[str], times: Times, places: Mapping[Place, Sequence[str]]
-                ) -> tuple[dict[Place, Measured], Fraction]:
-    """The measures in a tree, or its copies, of groups that a source has no counters of; and the
-    seconds from one reading to the next. Each has the folders below the top at which it may be. It
-    is measured at the first that is there."""
-    series = series_of(folders, Host(), times)
+class Seen(NamedTuple):
+    """What a tree has of groups of a source: their counters, the seconds from one reading to the
+    next, and each group as it is there, with the one above it. A frozen one has 0 tasks."""
+
+    known: dict[Place, Measured]
+    seconds: Fraction
+    there: dict[Place, tuple[Group, Group | None]]
+
+
+def measured_at(folders: Sequence[str], times: Times,
+                places: Mapping[Place, Sequence[str]]) -> Seen:
+    """What a tree, or its copies, have of groups that a source has no counters of. Each has the
+    folders below the top at which it may be. It is measured at the first that is there."""
+    series = series_of(folders, Host(MAX_CAPACITY), times)
+    first = series.first
     top = os.path.realpath(folders[0])
     paths = {os.path.relpath(group.place, top): path
              for path, group in series.first.model.groups.items() if path in series.counters}
@@ -337,5 +350,11 @@ def measured_at(folders: Sequence[str], times: Times, places: Mapping[Place, Seq
     if places and not any(known.values()):
         raise HostFault(f"{shown(folders[0])}: no group of these containers is below it, such as"
                         f" {shown(next(iter(places.values()), ('',))[0])}")
-    found = {place: series.measured(each[0]) for place, each in known.items() if each}
-    return found, series.seconds
+    at, groups = {place: each[0] for place, each in known.items() if each}, first.model.groups
+    bind(first.model, {path: count for path, count in first.bound.items() if path in groups})
+    for path in at.values():
+        if any(f"{path}/".startswith(f"{each}/") for each in first.frozen):
+            groups[path].tasks = 0
+    return Seen({place: series.measured(path) for place, path in at.items()}, series.seconds,
+                {place: (groups[path], groups.get(parent_path(path)))
+                 for place, path in at.items()})

@@ -52,6 +52,8 @@ class History(NamedTuple):
     # The columns that a whole sample asks nothing of where it has no number.
     holes: list[str]
     samples: list[Sample]
+    # The labels of columns that a server has, where it told them.
+    labels: Mapping[str, Mapping[str, str]] = {}
 
     @property
     def columns(self) -> list[str]:
@@ -76,7 +78,8 @@ def joined(histories: Iterable[History]) -> History:
     """Histories one after another."""
     every = list(histories)
     return History(list(dict.fromkeys(name for each in every for name in each.holes)),
-                   [sample for each in every for sample in each.samples])
+                   [sample for each in every for sample in each.samples],
+                   {name: labels for each in every for name, labels in each.labels.items()})
 
 
 def demand_of(text: str, unit: str, host: Host, where: str) -> Fraction:

@@ -138,7 +138,8 @@ def model_of(data: bytes, name: str, library: Library, host: Host | None = None)
     """The model at the end of a script. `host` stands in place of that of the head line."""
     lines = script_lines(data)
     told = head_host(lines)
-    model = Model(host or told or Host(), names_host=told is not None)
+    model = Model(host or told or Host(), names_host=told is not None,
+                  asked="of the script", weighed="of the script")
     checked(model.host)
     if told is None and host is None:
         model.notes.append("no head line '# arbiter run --processors N --period U --slice U': 1 CPU"

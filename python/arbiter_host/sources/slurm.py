@@ -371,7 +371,7 @@ def read(files: Sequence[File], library: Library, options: SourceOptions) -> Mod
     name = node or node_of(nodes, jobs.values())
     host = options.host(library, 1 if options.cpus is not None else cpus_of(nodes, name))
     want = options.want or ("usage" if parts["sacct"] else "request")
-    model = Model(host, names_host=options.cpus is None)
+    model = Model(host, names_host=options.cpus is None, weighed="100 of each job")
     here = on_node(jobs.values(), name)
     if parts["sacct"] and not options.want:
         take_allotted(here, model)
@@ -385,5 +385,7 @@ def read(files: Sequence[File], library: Library, options: SourceOptions) -> Mod
     if want not in ("usage", "request", "busy"):
         raise HostFault(f"--want {want} needs readings: jobs have usage, request and busy", 2)
     demands.set_demands(model, measured, want, Fraction(1))
+    model.asked = {"request": "CPUs of each job", "usage": "mean of use while it ran"}.get(
+        want, model.asked)
     demands.stop(model, suspended, "suspended")
     return model

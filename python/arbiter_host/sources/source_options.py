@@ -68,6 +68,8 @@ class SourceOptions:
     node: str = ""
     kubelet: str = "linear"
     runtime: str = "linear"
+    # Whether these conversions are asked for, or else those are taken that a tree has.
+    are_conversions_said: bool = False
     # How the runtime names groups, `systemd` or `cgroupfs`. A tree that is named tells it.
     driver: str = "systemd"
     tree: str = ""

@@ -15,7 +15,8 @@ from arbiter import Host, Library
 from arbiter_host.base import demands, names, units
 from arbiter_host.base.demands import CounterReading, Measured, Use, use_of
 from arbiter_host.base.faults import HostFault
-from arbiter_host.base.model import MAX_DEPTH, Group, Model, bound_notes, check_settings, checked
+from arbiter_host.base.model import (MAX_DEPTH, Group, Model, bind, check_settings, checked,
+                                     cpus_in)
 from arbiter_host.base.names import shown
 from arbiter_host.base.owned import NONE, Owned, Range, Setting
 from arbiter_host.sources.source_options import File, SourceOptions
@@ -202,6 +203,10 @@ class UnitSource(Units):
     readings: tuple[Mapping[str, Properties], ...]
     has_left_out: bool = False
 
+    @property
+    def rule(self) -> str:
+        return self.want
+
     def counters(self) -> dict[str, Measured]:
         by_path = {}
         for path, unit in self.properties.items():
@@ -212,15 +217,18 @@ class UnitSource(Units):
 
     @functools.cached_property
     def plain(self) -> Model:
-        model = Model(checked(self.host))
+        model = Model(checked(self.host), weighed="CPUWeight")
         # Each stands after those above it, siblings by name.
         for path in sorted(self.properties, key=lambda path: path.split("/")):
             add(model, self.properties[path], path)
         if self.has_left_out:
             model.notes.append("units without a group are left out")
-        model.notes += bound_notes([path for path in model.groups
-                                    if self.properties.get(path, {}).get("AllowedCPUs")])
+        words = {path: self.properties.get(path, {}).get("AllowedCPUs") for path in model.groups}
+        bind(model, {path: cpus_in(word.replace(" ", ",")) for path, word in words.items()
+                     if word})
         demands.set_demands(model, self.counters(), self.want, self.seconds)
+        demands.stop(model, [path for path in model.groups if self.properties.get(path, {}).get(
+            "FreezerState") in ("frozen", "freezing")], "frozen")
         return model
 
     def has(self, path: str) -> bool:

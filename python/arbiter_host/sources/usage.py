@@ -12,7 +12,7 @@ from __future__ import annotations
 import itertools
 import json
 import re
-from collections.abc import Iterator, Sequence
+from collections.abc import Iterator, Mapping, Sequence
 from fractions import Fraction
 from typing import Any, NamedTuple
 
@@ -50,6 +50,8 @@ class Used(NamedTuple):
     identifier: str = ""
     # When the first and the last amount was used; None where that is not told.
     times: Times | None = None
+    # The labels of its series, where a server has it.
+    labels: Mapping[str, str] = {}
 
     @property
     def word(self) -> str:
@@ -89,6 +91,9 @@ def amount_of(word: str, where: str) -> Fraction:
 def columns_of(words: Sequence[str], name: str) -> list[str]:
     """The entries' names of the columns of `kubectl top pods`; empty for other columns."""
     columns = [COLUMNS.get(each, "") for each in words]
+    if any("%" in each for each in words):
+        raise HostFault(f"{name}:1: what nodes use, as `kubectl top nodes` prints it: pods have it"
+                        " by `kubectl top pods -A --containers`")
     if "cpu" not in columns or "container" not in columns:
         raise HostFault(f"{name}:1: no usage as `kubectl top pods -A --containers`, metrics-server"
                         " or `docker stats --no-stream` prints it")

@@ -83,6 +83,11 @@ def metrics_of(uses: UseOptions, word: str) -> list[prometheus.Metric]:
     return prometheus.read(word, uses.query, asked_range(uses))
 
 
+def window_of(uses: UseOptions) -> float:
+    """The seconds for which a container that has ended still has samples of the query."""
+    return prometheus.window_of(uses.query, asked_range(uses).step)
+
+
 def of_file(uses: UseOptions, word: str, first: int) -> History:
     """The samples of a file. Those without a time are numbered from `first + 1` on. What was used
     at one time is one sample, in thousandths of a CPU."""
@@ -100,7 +105,7 @@ def history(uses: UseOptions) -> History:
     histories: list[History] = []
     for word in uses.words:
         if prometheus.is_address(word):
-            histories.append(prometheus.history_of(metrics_of(uses, word), word))
+            histories.append(prometheus.history_of(metrics_of(uses, word), word, window_of(uses)))
         elif os.path.isdir(word):
             raise UsageFault(f"--used {shown(word)}: a folder has samples of many hosts")
         else:
@@ -140,7 +145,8 @@ def entries(uses: UseOptions) -> list[Used]:
             return used
     host, mapping = uses.host, mapped(uses.columns)
     values: dict[str, list[tuple[str, Fraction]]] = {}
-    for sample in history(uses).samples:
+    told = history(uses)
+    for sample in told.samples:
         for column, demand in sample.demands(uses.unit, host).items():
             values.setdefault(mapping.get(column, column), []).append((sample.name, demand))
     used = []
@@ -148,7 +154,8 @@ def entries(uses: UseOptions) -> list[Used]:
         namespace, pod, container = (column.split("/") if column.count("/") == 2
                                      else ("", "", column))
         used.append(Used(tuple(demand for _, demand in each), namespace, pod, container,
-                          times=times_of([name for name, _ in each])))
+                          times=times_of([name for name, _ in each]),
+                          labels=told.labels.get(column, {})))
     return used
 
 
@@ -166,8 +173,8 @@ def measured(uses: UseOptions, source: Measurable) -> Owned:
     """A source with the use of its groups."""
     if not is_tree(uses):
         return source.with_usage(entries(uses), name(uses))
-    known, seconds = readings.measured_at(uses.words, uses.times, source.folders())
-    return replace(source, known=known, seconds=seconds)
+    known, seconds, there = readings.measured_at(uses.words, uses.times, source.folders())
+    return replace(source, known=known, seconds=seconds, there=there).compared()
 
 
 # Many hosts
@@ -185,7 +192,8 @@ def by_host(uses: UseOptions) -> Callable[[str], History]:
 
     if os.path.isdir(word):
         return of_folder
-    known = (prometheus.by_host(metrics_of(uses, word), word) if prometheus.is_address(word)
+    known = (prometheus.by_host(metrics_of(uses, word), word, window_of(uses))
+             if prometheus.is_address(word)
              else samples.read_table(bytes_of(uses, word), shown(word)))
 
     def of_table(host: str) -> History:

@@ -55,7 +55,7 @@ def exchanged(url: str) -> Any:
         told = str(cause)[:400] or type(error).__name__
         if isinstance(error, urllib.error.HTTPError):
             told = f"{error.code}: {error.read(400).decode(errors='replace') or told}"
-        raise HostFault(f"{shown(url)}: {shown(told)}") from error
+        raise HostFault(f"{shown(url.partition('?')[0])}: {shown(told)}") from error
 
 
 def fetched(url: str) -> Any:

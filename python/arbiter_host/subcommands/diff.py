@@ -77,8 +77,10 @@ def run(options: argparse.Namespace) -> None:
     before, after = compared(options, source, files, by)
     view = view_of(options, chosen_in(options, [before, after]))
     one, two = plan(by, before), plan(by, after)
-    write_forms(outputs, {"text": lambda: diff.table(one, two, view),
-                          "json": lambda: json_text(diff.as_data(one, two, view)),
+    models = change.if_busy(before, after, options.set)
+    busy = None if models is None else (plan(by, models[0]), plan(by, models[1]))
+    write_forms(outputs, {"text": lambda: diff.table(one, two, view, busy),
+                          "json": lambda: json_text(diff.as_data(one, two, view, busy)),
                           "html": lambda: report.page(
                               two, view, f"Change of {source_name(options.source)}", one,
                               [shown(word) for word in options.set])})

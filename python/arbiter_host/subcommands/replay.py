@@ -2,7 +2,8 @@
 from __future__ import annotations
 
 import argparse
-from collections.abc import Sequence
+from collections.abc import Collection, Sequence
+from fractions import Fraction
 
 from arbiter_host import options as table
 from arbiter_host.answers import series
@@ -10,10 +11,12 @@ from arbiter_host.answers.series import Series
 from arbiter_host.base import output, progress
 from arbiter_host.base.faults import HostFault, UsageFault
 from arbiter_host.base.model import Model
+from arbiter_host.base.names import shown
 from arbiter_host.base.plan import Engine, engine_of
 from arbiter_host.records import source_options, time_option, use_options
-from arbiter_host.sources import load, selection, used
+from arbiter_host.sources import load, prometheus, selection, used
 from arbiter_host.sources.load import Opened
+from arbiter_host.sources.samples import History
 from arbiter_host.sources.selection import Selection
 from arbiter_host.sources.source_options import UseOptions
 from arbiter_host.sources.usage import some
@@ -35,6 +38,17 @@ def shown_groups(options: argparse.Namespace, model: Model) -> list[str]:
     return host + [path for path in model.groups if path in (paths or ())]
 
 
+def check_use(unit: str, model: Model, history: History, columns: Collection[str],
+              where: str) -> None:
+    """A fault where a server tells of more use than the host has CPUs."""
+    amounts: dict[str, list[Fraction]] = {}
+    for _, sample in history.demands(unit, model.host):
+        for column, amount in sample.items():
+            amounts.setdefault(column, []).append(amount)
+    for column in columns:
+        prometheus.check_use(shown(column), amounts.get(column, []), model.host.processors, where)
+
+
 def replayed(options: argparse.Namespace, files: Sequence[Opened], uses: UseOptions,
              by: Engine) -> Series:
     source = source_options(options)
@@ -49,6 +63,8 @@ def replayed(options: argparse.Namespace, files: Sequence[Opened], uses: UseOpti
                              missing if used.is_served(uses) else None)
     if history.columns and not path_of:
         raise HostFault(f"{used.name(uses)}: series of no group here, {some(missing)}")
+    if used.is_served(uses):
+        check_use(options.unit, model, history, path_of, used.name(uses))
     if missing:
         output.warn(f"{used.name(uses)}: series of no group here, {some(missing)}")
     paths = shown_groups(options, model)

@@ -61,7 +61,8 @@ class TuneText:
 
     def lines(self) -> Lines:
         answer = self.answer
-        lines: Lines = [(text.host_words(self.before.model.host), ""), *self.rounded()]
+        lines: Lines = [(text.host_words(self.before.model.host), ""),
+                        (text.asked_words(self.before.model), ""), *self.rounded()]
         if answer.best is not None:
             lines += self.way(answer.best)
         else:
@@ -105,10 +106,12 @@ class TuneText:
         inside = f" in {where}" if are_many and not is_host else ""
         asked = self.amount(self.answer.asked.needs[clash.group.row])
         there = f"served in all: {most}" if is_host else f"{where} can be given {most} at most"
-        lines = [(f"weights that may change cannot meet {which}{inside} {self.where}", "yellow"),
+        lines = [(f"no raise of weights that may change meets {which}{inside} {self.where}",
+                  "yellow"),
                  ("", ""), *self.goals(clash.goals), ("", ""),
                  (f"asked for in all: {asked}; {there}", ""),
-                 ("nor were limits of other groups found with which they are met", "")]
+                 ("nor were limits of other groups found with which they are met; lower weights of"
+                  " these were not tried", "")]
         lines += [(f"{name(goal.group.path)} asks for less: no setting gives it more than it asks"
                    " for", "yellow") for goal in clash.goals if goal.group.want < goal.amount]
         return lines + [(f"the settings of {name(path)} stay as they are (-g)", "")

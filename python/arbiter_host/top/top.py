@@ -11,7 +11,7 @@ from typing import Any, NamedTuple
 from arbiter_host.base import demands, names, output, units
 from arbiter_host.base.demands import Measured
 from arbiter_host.base.faults import HostFault, UsageFault
-from arbiter_host.base.model import NO_POD, PodNames
+from arbiter_host.base.model import NO_POD, PodNames, bind
 from arbiter_host.base.names import shown
 from arbiter_host.base.plan import Engine, Plan, plan
 from arbiter_host.sources import readings
@@ -204,7 +204,9 @@ class Watched:
             periods, stopped = span.risen.periods, span.risen.throttled
             if periods is not None and stopped is not None:
                 throttled[path] = Fraction(min(stopped, periods), max(periods, 1))
+        bind(now.model, now.bound)
         demands.set_demands(now.model, measured, self.want, seconds)
+        demands.stop(now.model, now.frozen, "frozen")
         return PlannedRound(plan(self.engine, now.model), got, throttled)
 
 

@@ -149,7 +149,7 @@ class Viewer:
         yield (f"{time.strftime('%H:%M:%S')}  {text.cpus(plan.model.host.processors)}:"
                f" {planned} planned, {left} left, {wanted} wanted"
                + (f", {used(plan, got, view.unit)} used" if got is not None else ""))
-        yield list(explain.head(plan, view))[3]
+        yield list(explain.head(plan, view))[4]
 
     def table(self, plan: Plan, view: View) -> tuple[str, list[tuple[str, str, str]]]:
         """The heads of the columns; and each row with its path and its style."""

@@ -177,7 +177,8 @@ def goals_of(before: Plan, words: Sequence[str]) -> tuple[Goal, ...]:
     slices, groups = before.model.conversions(before.engine.library), before.by_path()
     goals = [Goal(groups[each.path], slices.demand(thousandths), thousandths)
              for pattern, thousandths in map(goal_of, words)
-             for each in demands.matching(before.model, pattern)]
+             for each in demands.matching(before.model, pattern)
+             if pattern in (each.path, each.title) or not each.title.endswith("/pause")]
     for path, many in Counter(goal.group.path for goal in goals).items():
         if many > 1:
             raise UsageFault(f"--goal: {shown(path)} has two goals: name it once")
