@@ -342,7 +342,7 @@ def nodes(draw):
 
 @settings(max_examples=8, deadline=None,
           suppress_health_check=[HealthCheck.function_scoped_fixture])
-@given(data=nodes(), slices=st.integers(1, 60))
+@given(data=nodes(), slices=st.integers(1, 60).map(lambda each: 10 * each))
 def test_no_lesser_request_reaches(engine, data, slices):
     """Of the requests and limits that can be asked for the least that reaches is found, over all
     classes: those just below it, and each third of the lesser ones, do not reach."""
@@ -355,7 +355,7 @@ def test_no_lesser_request_reaches(engine, data, slices):
         return plan(engine, remade(model, model.owned, [setting])).groups[row].gets
 
     before = plan(engine, model)
-    goals = Goals(before, goals_of(before, [f"{path}={10 * slices}m"]), False)
+    goals = Goals(before, goals_of(before, [f"{path}={slices}m"]), False)
     found = [single for single in single_settings.each_of(goals) if single.is_owned]
     for of, single in zip(model.owned.ranges(path), found, strict=True):
         values = range(of.parts[0][0], of.parts[-1][1] + 1) if of.parts else ()
@@ -463,7 +463,7 @@ def test_a_fleet_takes_requests(ctl, folder):
     whole = json.loads(ctl.run("diff", PODS, NODE, *words)[0])
     rise = [each["change_millicpu"] for each in whole["changed"]
             if each["group"] == f"{WEB}/nginx"]
-    assert [each * 10 for path, each in one["gains"] if path == f"{WEB}/nginx"] == rise
+    assert [each for path, each in one["gains"] if path == f"{WEB}/nginx"] == rise
     assert (one["matched"], two["matched"], two["changes"][0][0]) == (1, 0, 0)
 
 
@@ -475,8 +475,9 @@ def test_a_class_that_changes_in_a_fleet(ctl, folder):
     (folder / "h/n1.json").write_text(json.dumps(both))
     found = json.loads(ctl.run("diff", folder / "h", "--set", "batch/report-x/report.request=233m",
                                "--want", "busy", "--workers", "0", "-o", "json")[0])
-    # 52 slices and not 6.
-    assert ["kubepods/besteffort/batch:report-x/report", 46] in found["hosts"][0]["gains"]
+    # By hundredths of a CPU it has 52 and not 6.
+    gains = dict(found["hosts"][0]["gains"])
+    assert abs(gains["kubepods/besteffort/batch:report-x/report"] - 460) <= 10
 
 
 # Units in a tree of cgroups

@@ -20,7 +20,8 @@ SEED, TREES = 20261127, 60
 HOSTS = (Host(), Host(2, 100000, 1000), Host(64, 1000000, 1000), Host(3, 20000, 4000))
 NO_HOSTS = (Host(0), Host(65), Host(1, 999, 1000), Host(1, 100000, 3000), Host(1, 100000, 0))
 # What no call is: they hold, make or read what the calls answer.
-NO_CALLS = {"host", "ask", "ask_host", "refused", "of_rows", "of_group", "of_host", "is_proved"}
+NO_CALLS = {"call", "host", "ask", "ask_host", "refused", "of_rows", "of_group", "of_host",
+            "is_proved"}
 MOST = 2**64 - 1
 
 

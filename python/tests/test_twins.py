@@ -217,7 +217,9 @@ def test_series(seed):
             key = chance.choice(["cpu", "image"]) if at % 3 else "id"
             more = {"cpu": {"cpu": f"cpu{part:02}"}, "image": {"cpu": "total", "image": f"i{part}"},
                     "id": {"id": f"/{at}/{part}", "instance": f"h{part}"}}[key]
-            values = {60.0 * step: str(chance.randint(0, 10 ** 6) / 10 ** 6)
+            # one that was made anew begins when the one before has ended
+            begin = 0 if key == "cpu" else 10 * (part + 1)
+            values = {60.0 * (begin + step): str(chance.randint(0, 10 ** 6) / 10 ** 6)
                       for step in range(chance.randint(1, 4))}
             series.append(({**labels, **more}, values))
     answer = {"data": {"result": [{"metric": labels, "values": list(map(list, values.items()))}

@@ -28,8 +28,8 @@ FOLDERS = "/usr/sbin:/usr/local/sbin"
 LONGEST = 60
 # Bytes of a line of it.
 MOST_LINE = 1 << 12
-# The rows of a plan that it takes, beside the rest: leaves, groups with children, and the loop's own
-# group. And the limits.
+# The rows of a plan that it takes, beside the rest: leaves, groups with children, and the loop's
+# own group. And the limits.
 MOST_LEAVES = MOST_LIMITS = 4095
 # The period of limits in nanoseconds; the greatest amount and limit that it takes.
 LIMIT_PERIOD, MOST_AMOUNT, MOST_LIMIT = 10**8, 10**9, 512 * 10**8
@@ -254,8 +254,8 @@ class ScheduledLoop(hold.Loop):
         return len(given.leaves)
 
     def bounded(self, given: Given) -> Given:
-        """Cuts a plan to what the scheduler takes. Leaves beyond its rows are below the nearest group
-        that has one."""
+        """Cuts a plan to what the scheduler takes. Leaves beyond its rows are below the nearest
+        group that has one."""
         inner = given.inner[:self.most_leaves // 2]
         most = self.most_leaves - len(inner) - OWN_ROWS
         if len(given.leaves) > most:
