@@ -48,7 +48,7 @@ case ${1-both} in
     make_program &
     began=$!
     make_tests_library
-    made=$?
-    wait "$began" && [ "$made" = 0 ]
+    status=$?
+    wait "$began" && [ "$status" = 0 ]
     ;;
 esac

@@ -61,11 +61,12 @@ pytest_all() {
 
 # Tests that need no build and take about a minute: what is quick fails first.
 pytest_quick() {
-  local some=(python/tests/test_layers.py python/tests/test_interface.py
-    python/tests/test_package.py::test_{mypy,pyflakes,columns,functions_are_short_and_have_comments}
-    python/tests/test_manual.py::test_files_are_made_from_the_help tests/test_pages.py)
-  [ -d python/tests ] || some=(tests/test_pages.py)
-  "$python" -B -m pytest "${some[@]}" -k 'not readme_command' -n "$(nproc)" -q -x </dev/null
+  local package=python/tests/test_package.py manual=python/tests/test_manual.py
+  "$python" -B -m pytest tests/test_pages.py -q -x -k 'not readme_command' </dev/null || return
+  [ -d python/tests ] || return 0
+  "$python" -B -m pytest python/tests/test_{layers,interface}.py "$package"::test_{mypy,pyflakes} \
+    "$package"::test_{columns,functions_are_short_and_have_comments} \
+    "$manual"::test_files_are_made_from_the_help -q -x </dev/null
 }
 
 # What a checked build can show, without the tests of tests/checked/left_out.txt.

@@ -166,7 +166,7 @@ def wanted(want: str, group: Group, measured: Measured, host: Host,
 
 
 def asked_words(want: str, measured: Sequence[Measured], seconds: Fraction) -> str:
-    """What demands by a rule are, and of use in which time."""
+    """The words for demands: their rule, and the time of the use that they are of."""
     if want not in OF_USE:
         return RULES[want]
     steps = max((len(each.readings) - 1 for each in measured), default=0)

@@ -95,7 +95,7 @@ def host_words(host: Host) -> str:
 
 
 def asked_words(model: Model) -> str:
-    """What the demands and the weights of a model are, in one line."""
+    """The line that says what the demands and the weights of a model are."""
     return f"demands: {model.asked or 'none'}; weights: {model.weighed or 'none'}"
 
 

@@ -44,7 +44,7 @@ class Measurable(Owned):
         return replace(self, notes=(*self.notes, *notes)) if notes else self
 
     def told_of_tree(self) -> list[str]:
-        """What is told of the groups that the tree has with other weights or limits."""
+        """The warnings about groups that the tree has with other weights or limits."""
         off, checked_ = self.unlike()
         return [f"groups whose cpu.weight or cpu.max in the tree is another than is derived here:"
                 f" {len(off)} of {checked_}: {some(off)}"] if off else []

@@ -328,7 +328,7 @@ def series_of(folders: Sequence[str], host: Host, times: Times) -> OverTime:
 
 
 class Seen(NamedTuple):
-    """What a tree has of groups of a source: their counters, the seconds from one reading to the
+    """The groups of a source in a tree: their counters, the seconds from one reading to the
     next, and each group as it is there, with the one above it. A frozen one has 0 tasks."""
 
     known: dict[Place, Measured]
@@ -338,7 +338,7 @@ class Seen(NamedTuple):
 
 def measured_at(folders: Sequence[str], times: Times,
                 places: Mapping[Place, Sequence[str]]) -> Seen:
-    """What a tree, or its copies, have of groups that a source has no counters of. Each has the
+    """The groups in a tree, or its copies, that a source has no counters of. Each has the
     folders below the top at which it may be. It is measured at the first that is there."""
     series = series_of(folders, Host(MAX_CAPACITY), times)
     first = series.first
