@@ -141,11 +141,11 @@ def test_host_file_is_a_scenario(tmp_path):
     file.write_text("[host]\ncpus = 4\nslice = '1ms'\n[groups.web]\nweight = 300\ndemand = '3cpu'\n"
                     "[groups.batch]\nmax = '20%'\ndemand = '4cpu'\ntasks = 2\n")
     found, = sources([str(file)])
-    assert (found.name, found.processors, found.slice) == ("small", 4, 1000)
+    assert (found.name, found.processors, found.period, found.slice) == ("small", 4, 10**6, 1000)
     assert found.files("cpu.weight") == {"web": "300"}
     assert found.files("cpu.max") == {"batch": "20000 100000"}
     assert {path: (leaf.demands, leaf.tasks) for path, leaf in found.leaves.items()} == {
-        "web": ((300,), 3), "batch": ((200,), 2)}
+        "web": ((3000,), 3), "batch": ((2000,), 2)}
 
 
 def test_runs_of_a_boot():
