@@ -52,8 +52,8 @@ module _ {C R : Type 0} where
       × Each (λ p. BringsBack y p.lock_id (st.first / 8) p.part) m.0)
       × (n ≢ st.first → m' ≡ m)
 
-  -- step claim: a helper has the place of another seat, if its state is what was expected. That seat
-  -- has the ticket of the state
+  -- step claim: a helper has the place of another seat, if its state is what was expected. That
+  -- seat has the ticket of the state
   abbrev pub claimed : Step (Content C R) → Mine C R → ℕ → Mine C R → Type 0
   claimed st m n m' = (n ≡ st.first → (lock : TableId) × (lent : Holder C R)
       × (y : Content C R)

@@ -1,6 +1,6 @@
 -- The rule of the table of places: what each state says of its place, and which parts seats have in
--- it. A state is a ticket times 8 and a code. The states alone are under the rule: hints may have any
--- value.
+-- it. A state is a ticket times 8 and a code. The states alone are under the rule: hints may have
+-- any value.
 use Rattle.std.specs.Prelude.{◌≡◌, ℕ, zero, suc, ◌+◌, ◌*◌, ◌/◌, ◌%◌, ◌<◌, ◌≤◌, ◌==◌, List, []}
 use Rattle.std.specs.Prelude.{◌∷◌, length, slice_index}
 use mathlib.Core.Option.{some}

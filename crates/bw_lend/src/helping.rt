@@ -67,8 +67,8 @@ fn make_at<M: Machine, R: Wait + Clock>(
     (made, errand)
 }
 
-// Does the errand: makes the call of the ticket, if its seat is lent, or gives the seat back as it is
-// and wakes its owner. Returns the wake that is owed, and the next errand.
+// Does the errand: makes the call of the ticket, if its seat is lent, or gives the seat back as it
+// is and wakes its owner. Returns the wake that is owed, and the next errand.
 fn help_one<M: Machine, R: Wait + Clock>(
     rt: &R,
     lock: &TicketLock<M>,

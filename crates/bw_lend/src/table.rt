@@ -1,8 +1,8 @@
 //! The table of places. Each seat of a lock owns one of the 64 places.
 //!
 //! Word k is the state of place k, and slot k its content. A state has a ticket and one of six
-//! codes. The ticket is that of the seat that was lent. The other 64 words are hints: the hint of a ticket names the place where its seat is
-//! lent. Any value of a hint is safe.
+//! codes. The ticket is that of the seat that was lent. The other 64 words are hints: the hint of a
+//! ticket names the place where its seat is lent. Any value of a hint is safe.
 ghost use Rattle.std.specs.Prelude.{◌≡◌, ◌≢◌, ◌/◌, ◌%◌, ◌^◌, ◌<◌, IfSome, IfNone, MatchBool};
 ghost use Rattle.bw_lend.specs.Rule.{hint_word, hint_for};
 ghost use Rattle.bw_lend.specs.declared.table.TheConstants.{TICKETS, DONE, BACK};

@@ -1,7 +1,7 @@
 //! The wakes of the owners of places.
 //!
-//! No other file of the crate names `.wake_one(`. A wake that is owed is a value that only this file
-//! takes apart, and that cannot be dropped: [`Owed`] goes into [`Owners`], and these go into
+//! No other file of the crate names `.wake_one(`. A wake that is owed is a value that only this
+//! file takes apart, and that cannot be dropped: [`Owed`] goes into [`Owners`], and these go into
 //! [`wake_all`]. That is proved of any [`Bells`], where only its own calls count an owner as woken.
 ghost use Rattle.std.specs.Prelude.{◌≡◌, ℕ, ◌<◌, MatchBool};
 ghost use Rattle.bw_lend.specs.Bells.{IsIn, IsWith, AreIn};

@@ -28,7 +28,8 @@ pub fn no_wake_is_lost<M: Machine>()
 {}
 
 /// The limits of a lock: 64 seats, 65536 calls of each, so 4194304 tickets, and 42043 looks, spins
-/// and yields of a waiting seat between two sleeps. The definitions read the first two from the code.
+/// and yields of a waiting seat between two sleeps. The definitions read the first two from the
+/// code.
 pub fn lock_numbers()
     ensures seats { MAX_SEATS ≡ 64 }
     ensures calls { MAX_CALLS ≡ 65536 }
