@@ -27,6 +27,7 @@ use Rattle.dispatch.specs.Steps.{age_fits, AgeFits, account_woken, account_picke
 use Rattle.dispatch.specs.Steps.{account_given, account_left, account_cut, free_processor, run_of}
 use Rattle.dispatch.specs.Steps.{end_allowed, and_then, allowed, HasRoom, HasRoomAtEnd}
 use Rattle.dispatch.specs.Steps.{RefusalIsExact}
+use Rattle.dispatch.proofs.Backlog.{known_at}
 use Rattle.dispatch.proofs.Deadlines.{owed_by, deadline_by}
 use Rattle.dispatch.proofs.Happens.{ended_parts as end_parts}
 
@@ -89,15 +90,6 @@ found (l ∷ xs) (suc i) = up (found xs i) where
       ⊎ ((slice_get xs i ≡ None) × (length (l ∷ xs) ≤ suc i))
   up (inl p) = inl (omega (arith, p.0), p.1)
   up (inr p) = inr (p.0, omega (arith, p.1))
-
-known_is : (s : Reservations) (i : ℕ) → i < length s.accounts
-    → slice_get s.accounts i ≡ Some (account_at s i)
-known_is s i known = by_case (found s.accounts i) where
-  by_case : ((i < length s.accounts) × (slice_get s.accounts i ≡ Some (account_at s i)))
-      ⊎ ((slice_get s.accounts i ≡ None) × (length s.accounts ≤ i))
-      → slice_get s.accounts i ≡ Some (account_at s i)
-  by_case (inl p) = p.1
-  by_case (inr p) = absurd (let clash : ⊥ = omega (arith, known, p.1) in clash)
 
 -- what holds of a leaf of which an event is not refused
 of_known : (P : Type 0) (s : Reservations) (i : ℕ) (f : Option Account → Result Account Refusal)
@@ -186,7 +178,7 @@ wake_complete : (s : Reservations) (i tasks : ℕ)
 wake_complete s i tasks p =
     let w = woken_in (terms_of s) s.accounts tasks (account_at s i) in
     ap (λ (o : Option Account). without_value (account_woken (terms_of s) s.accounts tasks o))
-    (known_is s i p.0)
+    (known_at s i p.0)
     ∙ ap without_value (two_numbers_fit w w.share.charged w.share.waiting p.1.0 p.1.1)
 
 -- ---- deadlines
@@ -450,7 +442,7 @@ pick_complete s p i may room =
     ap (λ (q : Option (Option Run)). and_then (free_processor q)
     (without_value (account_picked t s.accounts (slice_get s.accounts i)))) may.free
     ∙ ap (λ (o : Option Account). without_value (account_picked t s.accounts o))
-    (known_is s i may.known)
+    (known_at s i may.known)
     ∙ ap (λ (b : Bool). without_value (if b then Err refusals.NothingWaits
     else if list_any (is_passed_over t a) s.accounts then Err refusals.NotEarliest
     else if not (is_due t a) && lesser a s.accounts then Err refusals.NotLeast
@@ -504,7 +496,7 @@ end_complete s p used remains on room' =
     ∙ two_numbers_fit e e.used e.waiting room.1 room.2 in
     ap (λ (q : Option (Option Run)). end_allowed s used remains (run_of q)) on.runs
     ∙ ap (λ (o : Option Account). without_value (account_ended t run used remains o))
-    (known_is s on.run.leaf on.known)
+    (known_at s on.run.leaf on.known)
     ∙ ap (λ (r : Result Leaf Refusal). without_value (r >>= λ l. (number owed >>= λ n.
     Ok (cut_if_less t a (record a { share = l; owed = n }))))) leaf
     ∙ ap (λ (r : Result ℕ Refusal). without_value (r >>= λ n.
@@ -537,7 +529,7 @@ give_complete : (s : Reservations) (i amount guarantee : ℕ)
 give_complete s i amount guarantee p =
     let g = given_in (terms_of s) s.level amount guarantee (account_at s i) in
     ap (λ (o : Option Account).
-    without_value (account_given (terms_of s) s.level amount guarantee o)) (known_is s i p.0.0)
+    without_value (account_given (terms_of s) s.level amount guarantee o)) (known_at s i p.0.0)
     ∙ ap (λ (b : Bool). without_value (if b then Err refusals.TooGreat
     else (number g.share.charged >>= λ _. Ok g))) (not_zero amount p.0.1)
     ∙ ap (λ (r : Result ℕ Refusal). without_value (r >>= λ _. Ok g))
@@ -556,7 +548,7 @@ leave_sound s i ok =
 
 leave_complete : (s : Reservations) (i : ℕ) → Allows s (Leave i) → allowed s (Leave i) ≡ Ok tt
 leave_complete s i p =
-    ap (λ (o : Option Account). without_value (account_left (terms_of s) o)) (known_is s i p.0)
+    ap (λ (o : Option Account). without_value (account_left (terms_of s) o)) (known_at s i p.0)
     ∙ ap (λ (b : Bool). without_value (if b then Err refusals.NothingWaits
     else Ok (left_in (terms_of s) (account_at s i))))
     (not_zero (account_at s i).share.waiting p.1)
@@ -568,7 +560,7 @@ cut_sound s i ok =
 
 cut_complete : (s : Reservations) (i : ℕ) → Allows s (Cut i) → allowed s (Cut i) ≡ Ok tt
 cut_complete s i known =
-    ap (λ (o : Option Account). without_value (account_cut (terms_of s) o)) (known_is s i known)
+    ap (λ (o : Option Account). without_value (account_cut (terms_of s) o)) (known_at s i known)
 
 pub refusal_is_exact : RefusalIsExact
 refusal_is_exact s (Pass ns) = (λ ok. (tt, pass_sound s ns ok), λ p. pass_complete s ns p.1)

@@ -25,7 +25,8 @@ use Rattle.dispatch.specs.Windows.{WantsAt, held_at, IsWholeAt}
 use Rattle.dispatch.proofs.Counts.{length_set}
 use Rattle.dispatch.proofs.Demands.{demand, demand_is}
 use Rattle.dispatch.proofs.Totals.{sum_set, one_of_sum}
-use Rattle.dispatch.proofs.Backlog.{Backlog, rest, one, demand_by, by_order, account_set, passed_at}
+use Rattle.dispatch.proofs.Backlog.{Backlog, rest, one, demand_by, by_order, account_set}
+use Rattle.dispatch.proofs.BacklogTime.{passed_at}
 
 -- ---- the bound
 

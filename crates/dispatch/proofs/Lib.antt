@@ -1,6 +1,10 @@
 -- The files of lemmas.
 mod Accepts
 mod Backlog
+mod BacklogEnds
+mod BacklogPicks
+mod BacklogRuns
+mod BacklogTime
 mod Counts
 mod Deadlines
 mod Demands

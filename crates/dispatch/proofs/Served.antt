@@ -13,7 +13,8 @@ use Rattle.dispatch.specs.declared.reservation.Step.TheVariants.{Give, Leave, Cu
 use Rattle.dispatch.specs.Reservation.{Reservations, WHOLE, account_at, after, most_of, quantum_of}
 use Rattle.dispatch.specs.Windows.{after_all, IsFairRun, time_of}
 use Rattle.dispatch.specs.Windows.{held_in, Wants, OwedIsBounded, WindowsAreServed}
-use Rattle.dispatch.proofs.Backlog.{Backlog, backlog_at_rest, backlog_all, backlog_after, by_order, Ends}
+use Rattle.dispatch.proofs.Backlog.{Backlog, by_order}
+use Rattle.dispatch.proofs.BacklogRuns.{backlog_at_rest, backlog_all, backlog_after, Ends}
 use Rattle.dispatch.proofs.Ledger.{bounded, IsKept, kept_after, time_at}
 
 -- ---- what no event changes
