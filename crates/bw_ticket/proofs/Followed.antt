@@ -29,7 +29,7 @@ use Rattle.bw_ticket.specs.Plays.{missed, marked, saw_next, saw_word, took, one_
 use Rattle.bw_ticket.specs.Plays.{MayMark}
 use Rattle.bw_ticket.specs.Follows.{words_of, in_protocol, IsEvent, IsWake, StepsAreEvents}
 use Rattle.bw_ticket.proofs.KeptLemmas.{waits_is}
-use Rattle.bw_ticket.proofs.OwedCounts.{same_words}
+use Rattle.bw_wake.proofs.CallerLemmas.{same_words}
 
 -- a list that has at a place what is written there stays
 set_same : {A : Type 0} (xs : List A) (i : ℕ) (a : A) → slice_get xs i ≡ Some a

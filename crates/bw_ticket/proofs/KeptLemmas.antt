@@ -18,7 +18,7 @@ use Rattle.bw_ticket.specs.Rule.{is_done, ticket_of, holds}
 use Rattle.bw_ticket.specs.Rule.{Acts, Fits, is_seat, IsNews}
 use Rattle.bw_machine.specs.declared.history.Entry.{Entry}
 use Rattle.bw_machine.proofs.CallerLemmas.{equal_or_not}
-use Rattle.bw_ticket.proofs.OwedCounts.{same_words}
+use Rattle.bw_wake.proofs.CallerLemmas.{same_words}
 
 -- the word 0 after an addition of 1
 pub raised_first : (ws : List ℕ) (a b : ℕ) (cs : List ℕ) → ws ≡ a ∷ b ∷ cs → a + 1 < 2 ^ 64

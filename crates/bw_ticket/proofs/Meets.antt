@@ -11,14 +11,13 @@ use Rattle.bw_wake.specs.Protocol.{WaitState, after, happens, run, or_same}
 use Rattle.bw_wake.specs.Progress.{seat_of}
 use Rattle.bw_wake.specs.Rounds.{MakesOne}
 use Rattle.bw_wake.proofs.CallerLemmas.{Sound, happens_sound}
-use Rattle.bw_wake.proofs.CallerLemmas.{get_map}
+use Rattle.bw_wake.proofs.CallerLemmas.{get_map, same_words}
 use Rattle.bw_ticket.specs.declared.limits.TheConstants.{MAX_SEATS}
 use Rattle.bw_ticket.specs.declared.board.SeatView.{SeatView}
 use Rattle.bw_ticket.specs.declared.board.Phase.{Phase}
 use Rattle.bw_ticket.specs.Follows.{words_of, IsLike, in_protocol, IsEvent}
 use Rattle.bw_ticket.specs.Turns.{Doing, Sitter, Hall, seated, where_is}
 use Rattle.bw_ticket.specs.Turns.Doing.{IsUp}
-use Rattle.bw_ticket.proofs.OwedCounts.{same_words}
 
 abbrev head_or : {X : Type 0} → X → List X → X
 head_or a [] = a

@@ -1,23 +1,17 @@
 -- The wakes that are owed, where one view changes.
-use Rattle.std.proofs.Common.{◌≡◌, ◌≢◌, ℕ, zero, suc, ◌+◌, ◌<◌, ◌≤◌, List, [], ◌∷◌, length, set}
+use Rattle.std.proofs.Common.{◌≡◌, ◌≢◌, ℕ, ◌+◌, ◌<◌, ◌≤◌, List, [], ◌∷◌, length, set}
 use Rattle.std.proofs.Common.{slice_index, refl, sym, ap, ◌∙◌, arith}
 use mathlib.Core.Option.{some}
 use mathlib.Core.Logic.{dite}
 use native.Mathlib.Decide.{ℕ_discrete}
 use lib.ListN.{get_elem?}
-use Rattle.bw_wake.proofs.CallerLemmas.{index_here, index_else}
+use Rattle.bw_wake.proofs.CallerLemmas.{same_words, index_here, index_else}
 use Rattle.bw_ticket.specs.declared.board.SeatView.{SeatView}
 use Rattle.bw_ticket.specs.declared.board.Phase.{Phase}
 use Rattle.bw_ticket.specs.declared.board.Phase.TheVariants.{Idle, Waiting, Marked, Looked, Inside}
 use Rattle.bw_ticket.specs.declared.board.Phase.TheVariants.{Done, Served, Owes, Found, Wakes}
 use Rattle.bw_ticket.specs.Rule.{waits, holds, may_sleep, will_peek, wake_word, IsOwed}
 use Rattle.bw_ticket.proofs.Views.{weigh_set}
-
--- a word that is read stays
-pub same_words : (ws : List ℕ) (i : ℕ) → set ws i (slice_index ws i) ≡ ws
-same_words [] i = refl
-same_words (x ∷ xs) zero = refl
-same_words (x ∷ xs) (suc i) = ap (λ l. x ∷ l) (same_words xs i)
 
 -- a mark that stands after a word was read stood before
 pub read_stands : (ws : List ℕ) (i x : ℕ) → slice_index (set ws i (slice_index ws i)) (wake_word x)

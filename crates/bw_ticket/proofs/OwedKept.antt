@@ -11,7 +11,7 @@ use native.Mathlib.Decide.{ℕ_discrete}
 use lib.ListN.{get_elem?}
 use prog.Atomic.{either}
 use Rattle.bw_wake.specs.Progress.{among}
-use Rattle.bw_wake.proofs.CallerLemmas.{among_none, among_rest, one_less-will_peek, index_here}
+use Rattle.bw_wake.proofs.CallerLemmas.{among_none, among_rest, one_less-will_peek, index_here, same_one}
 use Rattle.bw_ticket.specs.declared.board.SeatView.{SeatView}
 use Rattle.bw_ticket.specs.declared.board.Phase.{Phase}
 use Rattle.bw_ticket.specs.declared.board.Phase.TheVariants.{Idle, Waiting, Marked, Looked, Inside}
@@ -20,7 +20,7 @@ use Rattle.bw_wake.specs.Progress.{one_if}
 use Rattle.bw_ticket.specs.Rule.{weigh_all, waits, may_sleep, will_peek, wake_word, IsOwed}
 use Rattle.bw_ticket.specs.Plays.{placed, missed, marked, MayMark, saw_next, one_less, saw_word}
 use Rattle.bw_ticket.specs.Plays.{took, woke}
-use Rattle.bw_ticket.proofs.Views.{weigh_set, weigh_le_at, weigh_all-le, same_one}
+use Rattle.bw_ticket.proofs.Views.{weigh_set, weigh_le_at, weigh_all-le}
 use Rattle.bw_ticket.proofs.OwedCounts.{owed_still, read_stands, other_stands, waits-no_peek}
 use Rattle.bw_ticket.proofs.KeptLemmas.{waits_only}
 

@@ -19,7 +19,8 @@ use Rattle.bw_machine.specs.History.{replay, entry, own_from}
 use Rattle.bw_machine.proofs.CallerLemmas.{replay-snoc, legal-snoc, own_from-snoc, own_from-other}
 use Rattle.bw_ticket.specs.Plays.{recorded}
 use Rattle.bw_ticket.proofs.Views.{weigh_set, weigh_at, weigh_two, each_map, each_both, each_zero}
-use Rattle.bw_ticket.proofs.Views.{each_set, same_one}
+use Rattle.bw_ticket.proofs.Views.{each_set}
+use Rattle.bw_wake.proofs.CallerLemmas.{same_one}
 use Rattle.bw_ticket.proofs.Queues.{queue_turn, queue_same}
 use Rattle.bw_ticket.proofs.OwedCounts.{read_stands}
 use Rattle.bw_ticket.proofs.OwedCounts.{owed_still}

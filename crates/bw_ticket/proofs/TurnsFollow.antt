@@ -20,7 +20,7 @@ use Rattle.bw_wake.specs.Protocol.{one_less as one_less_in}
 use Rattle.bw_wake.specs.Progress.{one_if}
 use Rattle.bw_wake.specs.Rounds.{MakesOne}
 use Rattle.bw_wake.proofs.CallerLemmas.{waits as waits_there, to_next}
-use Rattle.bw_wake.proofs.CallerLemmas.{count_at, index_here, index_else}
+use Rattle.bw_wake.proofs.CallerLemmas.{count_at, same_words, index_here, index_else}
 use Rattle.bw_ticket.specs.declared.limits.TheConstants.{MAX_SEATS}
 use Rattle.bw_ticket.specs.declared.board.SeatView.{SeatView}
 use Rattle.bw_ticket.specs.declared.board.Phase.{Phase}
@@ -36,7 +36,6 @@ use Rattle.bw_ticket.specs.Turns.Turn.{Draws, Looks, Marks, Records, Serves, Pee
 use Rattle.bw_ticket.specs.Turns.Turn.{TakesMark, Fronts, Sleeps, Returns, Rings, RingsNobody}
 use Rattle.bw_ticket.specs.Turns.Turn.{NotesWake, LooksAgain, MarksAgain, SleepsInVain}
 use Rattle.bw_ticket.specs.Turns.Doing.{IsUp, Sleeping, HasSlept, HasRung}
-use Rattle.bw_ticket.proofs.OwedCounts.{same_words}
 use Rattle.bw_ticket.proofs.Followed.{steps_are_events, index_past, small}
 use Rattle.bw_ticket.proofs.Meets.{first_is, either_below, left_in, left_set, left_at, Follows}
 use Rattle.bw_ticket.proofs.Meets.{Goes, next_is, at_place, by_event_of, by_event, no_event}

@@ -122,12 +122,37 @@ pub(crate) fn glance<M: Machine>(board: &Board<M>, awake: &mut Awake) -> u64
     board.shared.peek(SERVING)
 }
 
+/// The ticket that one load found served. Only a look at a lock makes one.
+#[derive(Drop)]
+pub struct Sighting {
+    served: u64,
+}
+
+impl Model for Sighting {
+    ghost use Rattle.bw_ticket.specs.Sights.{Sighted};
+
+    ghost Value = { Sighted };
+
+    ghost view = { λ s. record { served = s.served } };
+}
+
+impl Sighting {
+    /// The ticket that was found served.
+    pub fn served(&self) -> u64
+        ensures { result ≡ self.now.served }
+    {
+        self.served
+    }
+}
+
 /// The number of tickets served, by one load that is no step of the table. It is not counted: the
 /// caller is no seat that waits.
-pub(crate) fn tickets_served<M: Machine>(board: &Board<M>) -> u64
+pub(crate) fn tickets_served<M: Machine>(board: &Board<M>) -> Sighting
     requires { IsBoard board.now.shared.table_id }
 {
-    board.shared.peek(SERVING)
+    Sighting {
+        served: board.shared.peek(SERVING),
+    }
 }
 
 /// Spins once, and counts it.

@@ -1,8 +1,11 @@
 -- How a count over the seats changes with one of them.
-use Rattle.std.proofs.Common.{◌≡◌, ℕ, zero, suc, ◌+◌, ◌≤◌, List, [], ◌∷◌, length, set, ap}
-use Rattle.std.proofs.Common.{arith, slice_get, Some}
+use Rattle.std.proofs.Common.{◌≡◌, ℕ, zero, suc, ◌+◌, ◌≤◌, ◌==◌, List, [], ◌∷◌, length, set, ap}
+use Rattle.std.proofs.Common.{arith, slice_get, Some, eq-eqb}
 use Rattle.bw_wake.specs.declared.seats.Phase.{Phase}
-use Rattle.bw_wake.specs.Progress.{count}
+use Rattle.bw_wake.specs.Progress.{count, one_if}
+
+pub same_one : (a b : ℕ) → a ≡ b → one_if (a == b) ≡ 1
+same_one a b e = ap one_if (eq-eqb a b e)
 
 pub count_set : (g : Phase → ℕ) (ps : List Phase) (i : ℕ) (p q : Phase) → slice_get ps i ≡ Some p
     → count g (set ps i q) + g p ≡ count g ps + g q

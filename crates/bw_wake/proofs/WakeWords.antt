@@ -1,6 +1,11 @@
--- What a list of wake words has after one of them is written.
+-- What a list of wake words has after one of them is read or written.
 use Rattle.std.proofs.Common.{◌≡◌, ◌≢◌, ℕ, zero, suc, ◌<◌, List, [], ◌∷◌, length, set, refl, ap}
 use Rattle.std.proofs.Common.{arith, slice_index}
+
+pub same_words : (ws : List ℕ) (i : ℕ) → set ws i (slice_index ws i) ≡ ws
+same_words [] i = refl
+same_words (x ∷ xs) zero = refl
+same_words (x ∷ xs) (suc i) = ap (λ l. x ∷ l) (same_words xs i)
 
 pub index_here : (ws : List ℕ) (i v : ℕ) → i < length ws → slice_index (set ws i v) i ≡ v
 index_here [] i v h = absurd (omega arith)
