@@ -12,7 +12,8 @@ use Rattle.bw_lend.proofs.CrowdInvariant.{NotEarly, Hinted, Stands}
 use Rattle.bw_lend.proofs.CrowdInvariant.{OkErrand, Ok, Sound}
 use Rattle.bw_lend.proofs.CrowdKept.{put_here, put_else}
 use Rattle.bw_lend.proofs.CrowdKept.{quiet_sound, quiet_hinted}
-use Rattle.bw_lend.proofs.CrowdWalks.{differ, by_test}
+use Rattle.bw_wake.proofs.CallerLemmas.{differ}
+use Rattle.bw_lend.proofs.CrowdWalks.{by_test}
 
 -- the phase is of a seat that has no ticket
 abbrev pub IsOut : Phase → Type 0

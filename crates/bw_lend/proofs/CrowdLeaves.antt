@@ -15,7 +15,8 @@ use Rattle.bw_lend.proofs.CrowdInvariant.{NotEarly, Hinted, Stands}
 use Rattle.bw_lend.proofs.CrowdInvariant.{OkPlace, Ok, Sound}
 use Rattle.bw_lend.proofs.CrowdKept.{put_here, put_else, Steps, ok_kept, carry}
 use Rattle.bw_lend.proofs.CrowdWalks.{at_place}
-use Rattle.bw_lend.proofs.CrowdTurns.{one_turn, at_most}
+use Rattle.bw_lend.proofs.CrowdTurns.{at_most}
+use Rattle.bw_wake.proofs.CallerLemmas.{one_turn}
 use Rattle.bw_lend.proofs.CrowdErrands.{IsOut, out_early, at_errand}
 
 -- only the seat a is elsewhere, and all others rest on what they did

@@ -1,7 +1,7 @@
 -- The invariant is kept by the events of a seat that has a ticket, where nothing else changes.
 use Rattle.std.proofs.Common.{◌≡◌, ◌≢◌, ℕ, ◌==◌, ◌<◌, ◌≤◌, []}
 use Rattle.std.proofs.Common.{Bool, true, false, if◌then◌else◌, refl, sym, ap}
-use Rattle.std.proofs.Common.{◌∙◌, subst, arith, eq-eqb, eqb-true}
+use Rattle.std.proofs.Common.{subst, arith, eqb-true}
 use Rattle.bw_lend.specs.Crowd.{Stage, Drawn, Hinting, Reading, Looking, Retracting, Parking}
 use Rattle.bw_lend.specs.Crowd.{ParkingHeld, Asleep, Fetching, Entering, Inside}
 use Rattle.bw_lend.specs.Crowd.{Phase, Has, Wakes, Place, Away, Posted, Claimed, Done, Back}
@@ -11,6 +11,7 @@ use Rattle.bw_lend.proofs.CrowdInvariant.{NotEarly}
 use Rattle.bw_lend.proofs.CrowdInvariant.{OkPlace, Ok, Sound}
 use Rattle.bw_lend.proofs.CrowdKept.{put_here, put_else, Quiet, Aside, ok_kept, quiet_steps}
 use Rattle.bw_lend.proofs.CrowdKept.{quiet_sound}
+use Rattle.bw_wake.proofs.CallerLemmas.{differ}
 
 module _ (s : Crowd) (a t : ℕ) (w v : Stage) where
   walk_quiet : (E : ℕ → Phase → Place → Type 0) → s.phase a ≡ Has t w
@@ -101,9 +102,6 @@ module _ {A : Type 0} where
       → B (if b then x else y)
   by_test B true x y f g = f refl
   by_test B false x y f g = g refl
-
-pub differ : (a b : ℕ) → (a == b) ≡ false → a ≢ b
-differ a b e same = cc (sym (eq-eqb a b same) ∙ e)
 
 module _ (s : Crowd) (a t : ℕ) (y : Sound s) where
   pub look_drawn : s.phase a ≡ Has t Drawn

@@ -2,7 +2,7 @@
 use Rattle.std.proofs.Common.{◌≡◌, ℕ, zero, suc, ◌+◌, ◌<◌, List, [], ◌∷◌, ◌++◌, length, refl, ap, arith}
 use Rattle.atomic_table.specs.Seated.{TableId}
 use Rattle.bw_lend.specs.declared.stake.Part.TheVariants.{Fresh}
-use Rattle.bw_lend.specs.Rule.{stake, stakes_from}
+use Rattle.bw_lend.specs.Rule.{stake, stakes_from, Each}
 use Rattle.bw_lend.specs.Plays.{others, first_one}
 
 module _ {X : Type 0} where
@@ -29,3 +29,13 @@ module _ (S : Type 0) where
   other_places lock k zero m h = absurd (omega arith)
   other_places lock k (suc n) m h =
       let e : n ≡ m = omega arith in ap (λ (x : ℕ). stakes_from lock (k + 1) x) e
+
+module _ {X : Type 0} (P : X → Type 0) where
+  -- of a list with one more at its end
+  pub each_snoc : (xs : List X) (x : X) → Each P xs → P x → Each P (xs ++ x ∷ [])
+  each_snoc [] x e p = (p, tt)
+  each_snoc (y ∷ ys) x e p = (e.0, each_snoc ys x e.1 p)
+
+  pub each_init : (xs : List X) (x : X) → Each P (xs ++ x ∷ []) → Each P xs × P x
+  each_init [] x e = (tt, e.0)
+  each_init (y ∷ ys) x e = let rest = each_init ys x e.1 in ((e.0, rest.0), rest.1)

@@ -14,7 +14,7 @@ use Rattle.atomic_table.proofs.Lists.{set_here, set_else, set_again, at_snoc, so
 use Rattle.bw_ticket.specs.Holder.{Holder}
 use Rattle.bw_wake.specs.Progress.{one_if}
 use Rattle.bw_machine.proofs.CallerLemmas.{equal_or_not}
-use Rattle.bw_wake.proofs.CallerLemmas.{index_here, index_else}
+use Rattle.bw_wake.proofs.CallerLemmas.{same_one, same_words, index_here, index_else}
 use Rattle.bw_lend.specs.declared.stake.Part.{Part}
 use Rattle.bw_lend.specs.declared.stake.Part.TheVariants.{Fresh, Owns, Hints, Lends, Helps}
 use Rattle.bw_lend.specs.declared.stake.Stake.{Stake}
@@ -24,7 +24,7 @@ use Rattle.bw_lend.specs.Rule.{weigh, weigh_all, Each, EachIn, stake, stakes_fro
 use Rattle.bw_lend.specs.Rule.{helper_at, owns, helps, Suits, Fits, Ruled, hint_word, hint_for}
 use Rattle.bw_lend.specs.Plays.{Mine, opened, posted, taken_back, claimed, given_back, hinted}
 use Rattle.bw_lend.specs.Plays.{others, first_one}
-use Rattle.bw_lend.proofs.Lists.{same_one, here_or_else, weigh_set, weigh_snoc, weigh_at, alone}
+use Rattle.bw_lend.proofs.Lists.{here_or_else, weigh_set, weigh_snoc, weigh_at, alone}
 use Rattle.bw_lend.proofs.Lists.{each_anything, each_zero, each_with, each_set, each_snoc}
 use Rattle.bw_lend.proofs.Moved.{no_owner, lent_stays, no_helper, fits_now, moved}
 
@@ -32,12 +32,6 @@ use Rattle.bw_lend.proofs.Moved.{no_owner, lent_stays, no_helper, fits_now, move
 pub is_home : (made : Bool) (n : ℕ) → MatchBool made (n % 8 ≡ 4) (n % 8 ≡ 5) → 3 ≤ n % 8
 is_home true n h = omega arith
 is_home false n h = omega arith
-
--- a word that is read stays
-same_words : (ws : List ℕ) (i : ℕ) → set ws i (slice_index ws i) ≡ ws
-same_words [] i = refl
-same_words (x ∷ xs) zero = refl
-same_words (x ∷ xs) (suc i) = ap (λ l. x ∷ l) (same_words xs i)
 
 all_zero : (n k : ℕ) → slice_index (replicate {A = ℕ} n 0) k ≡ 0
 all_zero zero k = refl

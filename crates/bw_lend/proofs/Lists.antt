@@ -1,16 +1,12 @@
 -- Sums over the members of all lists, and facts about each member, where one list changes.
-use Rattle.std.proofs.Common.{◌≡◌, ◌≢◌, ℕ, zero, suc, ◌+◌, ◌≤◌, ◌==◌, List, [], ◌∷◌, ◌++◌, set}
-use Rattle.std.proofs.Common.{refl, sym, ap, subst, ⊎_elim, arith, eq-eqb}
+use Rattle.std.proofs.Common.{◌≡◌, ◌≢◌, ℕ, zero, suc, ◌+◌, ◌≤◌, List, [], ◌∷◌, ◌++◌, set}
+use Rattle.std.proofs.Common.{refl, sym, ap, subst, ⊎_elim, arith}
 use mathlib.Core.Option.{some, some-injective, some-ne-none}
 use mathlib.Core.Logic.{dite}
 use native.Mathlib.Decide.{ℕ_discrete}
 use lib.ListN.{get_elem?}
 use Rattle.atomic_table.proofs.Lists.{at_set, at_snoc}
-use Rattle.bw_wake.specs.Progress.{one_if}
 use Rattle.bw_lend.specs.Rule.{weigh, weigh_all, Each, EachIn}
-
-pub same_one : (a b : ℕ) → a ≡ b → one_if (a == b) ≡ 1
-same_one a b e = ap one_if (eq-eqb a b e)
 
 -- what holds at k and at each other number holds at every number
 pub here_or_else : (P : ℕ → Type 0) (k : ℕ) → P k → ((j : ℕ) → j ≢ k → P j) → (j : ℕ) → P j

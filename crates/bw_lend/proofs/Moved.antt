@@ -6,13 +6,13 @@ use mathlib.Core.Option.{Option, some}
 use lib.ListN.{get_elem?}
 use Rattle.atomic_table.specs.Seated.{TableId}
 use Rattle.atomic_table.specs.Table.{State}
-use Rattle.bw_wake.proofs.CallerLemmas.{index_here, index_else}
+use Rattle.bw_wake.proofs.CallerLemmas.{same_one, index_here, index_else}
 use Rattle.bw_lend.specs.declared.stake.Part.{Part}
 use Rattle.bw_lend.specs.declared.stake.Part.TheVariants.{Fresh, Owns, Hints, Lends, Helps}
 use Rattle.bw_lend.specs.declared.stake.Stake.{Stake}
 use Rattle.bw_lend.specs.Rule.{weigh, weigh_all, Each, owner_at, helper_at, owns, helps, Suits}
 use Rattle.bw_lend.specs.Rule.{Fits, Ruled}
-use Rattle.bw_lend.proofs.Lists.{same_one, here_or_else, weigh_set, each_with, each_set}
+use Rattle.bw_lend.proofs.Lists.{here_or_else, weigh_set, each_with, each_set}
 
 module _ {S : Type 0} where
   -- beside the owner of a place only a helper has a part in it, while it is claimed

@@ -3,7 +3,7 @@
 //! An errand is a value that only this file takes apart, and that cannot be dropped. Each call that
 //! is made gives one, unless the next ticket was not drawn then. The one way to get rid of it is
 //! [`seek`], which is proved of any [`Hints`]: it has looked for the seat of that ticket.
-ghost use Rattle.std.specs.Prelude.{◌≡◌, ℕ, ◌+◌, ◌<◌, IsSome, IfSome, IfNone, Option, Some};
+ghost use Rattle.std.specs.Prelude.{◌≡◌, ℕ, ◌+◌, ◌<◌, ◌≤◌, IsSome, IfSome, IfNone, Option, Some};
 ghost use Rattle.bw_lend.specs.Lent.{IsFinished};
 ghost use Rattle.bw_lend.specs.Parts.{IsTable, IsOwner, IsHelper};
 ghost use Rattle.bw_lend.specs.declared.table.TheConstants.{TICKETS};
@@ -11,7 +11,7 @@ ghost use Rattle.bw_lend.specs.declared.table.TheConstants.{TICKETS};
 use crate::steps::claim;
 use crate::table::{Shared, Token, hint_word_of, hinted_place};
 use bw_machine::Machine;
-use bw_ticket::{Answer, Seat, TicketLock};
+use bw_ticket::{Answer, Behind, Seat, TicketLock};
 use std::rt::Clock;
 use std::sync::Wait;
 
@@ -62,25 +62,28 @@ impl<'a, M: Machine> Hints for TableHints<'a, M> {
     }
 }
 
-/// Makes the pending call of the seat. If the next ticket was drawn when the seat had left, an
-/// errand is due. Otherwise that ticket's seat is lent nowhere, and will find its ticket served.
+/// Makes the pending call of the seat. An errand is due, unless the seat found the next ticket not
+/// drawn when it had left. Then that ticket's seat is lent nowhere, and will find its ticket
+/// served.
 pub(crate) fn finish_owing<M: Machine, R: Wait + Clock>(
     rt: &R,
     lock: &TicketLock<M>,
     seat: &mut Seat<M>,
-) -> (Answer<M::Reply>, Option<Errand>)
+) -> (Answer<M::Reply>, Behind, Option<Errand>)
     requires lock { seat.old.lock_id ≡ lock.now.lock_id }
     requires pending { IsSome seat.old.pending }
     ensures finished { IsFinished seat.old result.0 seat.new }
-    ensures next { IfSome result.1 (λ errand. errand.ticket ≡ result.0.at + 1) }
-    ensures small { IfSome result.1 (λ errand. errand.ticket < TICKETS) }
+    ensures behind { result.1.left ≡ result.0.at }
+    ensures next { IfSome result.2 (λ errand. errand.ticket ≡ result.0.at + 1) }
+    ensures small { IfSome result.2 (λ errand. errand.ticket < TICKETS) }
+    ensures none { IfNone result.2 (result.1.next ≤ result.0.at + 1) }
 {
-    let (answer, followed) = seat.finish_and_look(rt, lock);
-    if followed {
+    let (answer, behind) = seat.finish_and_look(rt, lock);
+    if behind.is_drawn() {
         let ticket = answer.at + 1;
-        return (answer, Some(Errand { ticket }));
+        return (answer, behind, Some(Errand { ticket }));
     }
-    (answer, None)
+    (answer, behind, None)
 }
 
 /// Looks for the seat with the ticket, and claims it if it is lent. Returns its place and its

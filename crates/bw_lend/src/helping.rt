@@ -30,7 +30,7 @@ fn make<M: Machine, R: Wait + Clock>(
     match content {
         Place::Lent(seat) => {
             let mut seat = seat;
-            let (answer, errand) = finish_owing(rt, lock, &mut seat);
+            let (answer, _behind, errand) = finish_owing(rt, lock, &mut seat);
             (Place::Made(seat, answer), true, errand)
         }
         other => (other, false, None),

@@ -27,7 +27,7 @@ const NEAR: u64 = 1;
 // Looks whether the ticket is served, some times while it is the next one.
 fn is_served_soon<M: Machine>(lock: &TicketLock<M>, ticket: u64) -> bool {
     for _look in 0..LOOKS {
-        let ahead = ticket.saturating_sub(lock.served());
+        let ahead = ticket.saturating_sub(lock.look().served());
         if ahead == 0 {
             return true;
         }
@@ -96,7 +96,7 @@ pub(crate) fn finish_and_help<M: Machine, R: Wait + Clock>(
     ensures same { token.new.me ≡ token.old.me }
     ensures finished { IsFinished seat.old result seat.new }
 {
-    let (answer, due) = finish_owing(rt, lock, seat);
+    let (answer, _behind, due) = finish_owing(rt, lock, seat);
     let Some(errand) = due else {
         return answer;
     };

@@ -1,11 +1,11 @@
 //! Seats that may lend themselves.
 ghost use Rattle.std.specs.Prelude.{◌≡◌, ◌+◌, ◌-◌, ◌<◌, ◌≤◌, ◌∷◌, [], ◌++◌};
-ghost use Rattle.std.specs.Prelude.{All, None, Some, length};
+ghost use Rattle.std.specs.Prelude.{All, None, Some, length, vec_capacity};
 ghost use Rattle.std.specs.Prelude.{IfOk, IfErr, IsSome, MatchOption};
 ghost use Rattle.bw_machine.specs.History.{made};
 ghost use Rattle.bw_ticket.specs.Holder.{ticket_pending};
-ghost use Rattle.bw_lend.specs.Parts.{IsTable, IsOwner};
-ghost use Rattle.bw_lend.specs.Rule.{stakes_from};
+ghost use Rattle.bw_lend.specs.Parts.{IsTable};
+ghost use Rattle.bw_lend.specs.Rule.{Each, stakes_from};
 ghost use Rattle.std.specs.Arc.{arc_value};
 ghost use Rattle.bw_ticket.specs.declared.limits.TheConstants.{MAX_SEATS};
 
@@ -16,7 +16,7 @@ use crate::table::{Content, PLACES, Place, Places, Token, WORDS};
 use atomic_table::Table;
 use bw_machine::Machine;
 use bw_ticket::{Answer, CallsSpent, Seat, TicketLock};
-use std::alloc::{AllocError, Global};
+use std::alloc::{AllocError, AllocFailed, Global};
 use std::marker::Model;
 use std::rt::Clock;
 use std::snapshot::Snapshot;
@@ -48,19 +48,39 @@ impl<M: Machine> Model for LendingSeat<M> {
         HasSeat s.place s.token.me s.seat };
 }
 
+// A place that a seat of the lock may own. Contracts see it as the lock.
+#[derive(Drop)]
+struct Berth<M: Machine> {
+    places: Arc<Places<M>, Global>,
+    token: Token<M>,
+    place: usize,
+}
+
+impl<M: Machine> Model for Berth<M> {
+    ghost use Rattle.std.specs.Prelude.{◌≡◌, ◌<◌};
+    ghost use Rattle.std.specs.Arc.{arc_value};
+    ghost use Rattle.atomic_table.specs.Seated.{TableId};
+    ghost use Rattle.bw_lend.specs.Parts.{IsTable, IsOwner};
+
+    ghost Value = { TableId };
+
+    ghost view = { λ b. (arc_value b.places).shared.key.value.lock_id };
+
+    ghost invariant = { λ b. IsTable b.token.table_id ×
+        (b.token.table_id ≡ (arc_value b.places).shared.table_id) × (b.place < 64) ×
+        IsOwner (arc_value b.places).shared.key.value.lock_id b.place b.token.me };
+}
+
 impl<M: Machine> LendingSeat<M> {
-    fn of(
-        seat: Seat<M>,
-        places: Arc<Places<M>, Global>,
-        token: Token<M>,
-        place: usize,
-    ) -> LendingSeat<M>
-        requires table { (token.table_id ≡ (arc_value places).shared.table_id) ×
-            IsTable token.table_id }
-        requires owner { IsOwner seat.lock_id place token.me }
-        requires place { place < 64 }
+    fn of(seat: Seat<M>, berth: Berth<M>) -> LendingSeat<M>
+        requires lock { seat.lock_id ≡ berth }
         ensures { result ≡ seat }
     {
+        let Berth {
+            places,
+            token,
+            place,
+        } = berth;
         LendingSeat {
             seat: Some(seat),
             places,
@@ -235,26 +255,53 @@ fn lay<M: Machine>(alloc: Global, lock: &TicketLock<M>) -> Result<(Places<M>, To
     }
 }
 
-// Hands an unused place to a seat, which may lend itself from now on.
-fn lend_one<M: Machine>(
+// Makes a berth at the first of the unused places.
+fn open_berth<M: Machine>(
     places: &Arc<Places<M>, Global>,
     rest: &mut Token<M>,
-    seat: Seat<M>,
     place: usize,
-) -> Result<LendingSeat<M>, AllocError>
+) -> Result<Berth<M>, AllocError>
     requires table { (rest.old.table_id ≡ (arc_value places.now).shared.table_id) ×
         IsTable rest.old.table_id }
-    requires key { (arc_value places.now).shared.key.value.lock_id ≡ seat.lock_id }
-    requires parts { rest.old.me ≡ (stakes_from seat.lock_id place (64 - place), []) }
+    requires parts { rest.old.me ≡
+        (stakes_from (arc_value places.now).shared.key.value.lock_id place (64 - place), []) }
     requires place { place < 64 }
     ensures table { rest.new.table_id ≡ rest.old.table_id }
-    ensures parts { rest.new.me ≡ (stakes_from seat.lock_id (place + 1) (64 - (place + 1)), []) }
-    ensures seat { IfOk result (λ s. s ≡ seat) }
+    ensures parts { rest.new.me ≡ (
+      stakes_from (arc_value places.now).shared.key.value.lock_id
+          (place + 1) (64 - (place + 1)),
+      [],
+    ) }
+    ensures lock { IfOk result (λ b. b ≡ (arc_value places.now).shared.key.value.lock_id) }
 {
     let mut token = places.shared.split_seat::<HandOut>(rest);
     open_place(&places.shared, &mut token, place);
     let places = Arc::try_clone(places)?;
-    Ok(LendingSeat::of(seat, places, token, place))
+    Ok(Berth {
+        places,
+        token,
+        place,
+    })
+}
+
+// Berths in a new table of places.
+fn open_berths<M: Machine>(
+    alloc: Global,
+    lock: &TicketLock<M>,
+    count: usize,
+) -> Result<Vec<Berth<M>>, AllocError>
+    requires few { count ≤ MAX_SEATS }
+    ensures count { IfOk result (λ v. length v.items ≡ count) }
+    ensures lock { IfOk result (λ v. Each (λ b. b ≡ lock.now.lock_id) v.items) }
+{
+    let (places, mut rest) = lay(alloc, lock)?;
+    let places = Arc::new(alloc, places)?;
+    let mut berths = Vec::with_capacity(alloc, count)?;
+    for place in 0..count {
+        let berth = open_berth(&places, &mut rest, place)?;
+        berths.push_reserved(berth);
+    }
+    Ok(berths)
 }
 
 /// Makes all seats of a lock lend themselves to one another. Each keeps its number, its calls and
@@ -265,26 +312,45 @@ fn lend_one<M: Machine>(
 ///
 /// # Errors
 ///
-/// - [`AllocError`]: the seats are dropped.
+/// - [`AllocFailed`]: hands back the seats.
 pub fn lend<M: Machine>(
     alloc: Global,
     lock: &TicketLock<M>,
     seats: Vec<Seat<M>>,
-) -> Result<Vec<LendingSeat<M>>, AllocError>
+) -> Result<Vec<LendingSeat<M>>, AllocFailed<Vec<Seat<M>>>>
     requires lock { All (λ s. s.lock_id ≡ lock.now.lock_id) seats.items }
     requires all { length seats.items ≡ lock.now.seats }
     requires few { length seats.items ≤ MAX_SEATS }
-    ensures { IfOk result (λ v. v.items ≡ seats.items) }
+    ensures ok { IfOk result (λ v. v.items ≡ seats.items) }
+    ensures err { IfErr result (λ f. f.value.items ≡ seats.items) }
 {
-    let (places, mut rest) = lay(alloc, lock)?;
-    let places = Arc::new(alloc, places)?;
-    let mut lending = Vec::with_capacity(alloc, seats.len())?;
+    let count = seats.len();
+    // all that may fail comes first, so that no seat is moved in vain
+    let Ok(mut berths) = open_berths(alloc, lock, count) else {
+        return Err(AllocFailed { value: seats });
+    };
+    let Ok(mut lending) = Vec::with_capacity(alloc, count) else {
+        return Err(AllocFailed { value: seats });
+    };
     for seat in seats {
-        let place = lending.len();
-        let seat = lend_one(&places, &mut rest, seat, place)?;
-        lending.push_reserved(seat);
+        let Some(berth) = berths.pop() else {
+            unreachable!()
+        };
+        lending.push_reserved(LendingSeat::of(seat, berth));
     }
     Ok(lending)
+}
+
+// Moves the seats into a list that has room for them.
+fn move_home<M: Machine>(seats: Vec<LendingSeat<M>>, mut home: Vec<Seat<M>>) -> Vec<Seat<M>>
+    requires empty { home.items ≡ [] }
+    requires room { length seats.items ≤ vec_capacity home }
+    ensures { result.items ≡ seats.items }
+{
+    for seat in seats {
+        home.push_reserved(seat.into_seat());
+    }
+    home
 }
 
 /// The seats of a lock, which no longer lend themselves. All go at once: a seat of the lock's own
@@ -292,20 +358,20 @@ pub fn lend<M: Machine>(
 ///
 /// # Errors
 ///
-/// - [`AllocError`]: the seats are dropped.
+/// - [`AllocFailed`]: hands back the seats, which may still lend themselves.
 pub fn take_home<M: Machine>(
     alloc: Global,
     lock: &TicketLock<M>,
     seats: Vec<LendingSeat<M>>,
-) -> Result<Vec<Seat<M>>, AllocError>
+) -> Result<Vec<Seat<M>>, AllocFailed<Vec<LendingSeat<M>>>>
     requires lock { All (λ s. s.lock_id ≡ lock.now.lock_id) seats.items }
     requires all { length seats.items ≡ lock.now.seats }
-    ensures { IfOk result (λ v. v.items ≡ seats.items) }
+    ensures ok { IfOk result (λ v. v.items ≡ seats.items) }
+    ensures err { IfErr result (λ f. f.value.items ≡ seats.items) }
 {
     let _ = lock;
-    let mut home = Vec::with_capacity(alloc, seats.len())?;
-    for seat in seats {
-        home.push_reserved(seat.into_seat());
+    match Vec::with_capacity(alloc, seats.len()) {
+        Ok(home) => Ok(move_home(seats, home)),
+        Err(_) => Err(AllocFailed { value: seats }),
     }
-    Ok(home)
 }

@@ -8,14 +8,8 @@ ghost use Rattle.bw_lend.specs.Waits.{MaySleep};
 
 use crate::table::{POSTED, Shared, code_of};
 use bw_machine::{Count, Machine};
-use bw_ticket::TicketLock;
+use bw_ticket::{Sighting, TicketLock};
 use std::sync::Wait;
-
-/// The ticket that a look found served. Only [`look`] makes one.
-#[derive(Drop)]
-pub(crate) struct Sighting {
-    served: u64,
-}
 
 /// The word of a place, on which the owner of the place sleeps while its seat is lent.
 ///
@@ -99,7 +93,7 @@ impl<'a, M: Machine> PlaceWord for TableWord<'a, M> {
     }
 
     fn note(&mut self, sighting: Sighting) {
-        self.found = Some(sighting.served);
+        self.found = Some(sighting.served());
     }
 
     fn sleep<R: Wait>(&mut self, rt: &R, expected: u32) {
@@ -116,8 +110,9 @@ fn look<M: Machine, W: PlaceWord>(word: &mut W, lock: &TicketLock<M>) -> u64
     ensures state { W.state word.new ≡ W.state word.old }
     ensures found { W.found word.new ≡ Some result }
 {
-    let served = lock.served();
-    word.note(Sighting { served });
+    let sighting = lock.look();
+    let served = sighting.served();
+    word.note(sighting);
     served
 }
 

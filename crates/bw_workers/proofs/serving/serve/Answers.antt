@@ -17,7 +17,7 @@ pub run_workers-requires-clause-ready : goal.run_workers-requires-clause-ready
 run_workers-requires-clause-ready g c κs within =
     let calls : ℕ = slices_per_processor c.args.instance.now.shape
     + 2 * length c.deref-2.result.now in
-    subst (AreReady c.in-Ok.made.0.lock_id calls) (sym c.in_ok-lending.ensures)
+    subst (AreReady c.in-Ok.made.0.lock_id calls) (sym c.in_ok-lending.ensures.ok)
     (seats_ready c.in-Ok.made.0.lock_id calls _ _ c.in-Ok.made.1.items
     c.in-Ok.ensures.seats c.in-Ok.ensures.each.0 (search rules))
 

@@ -2,12 +2,12 @@
 use Rattle.std.proofs.Common.{rules, ◌≡◌, length, [], ◌∷◌, ◌++◌, sym, ap, ◌∙◌}
 use Rattle.std.specs.Vec.Iter.{into_iter_items, into_iter_len}
 use Rattle.bw_lend.proofs.Handed.{snoc_append, append_nothing, none_left}
-use Rattle.bw_lend.proofs.seat.take_home.Goals as goal
+use Rattle.bw_lend.proofs.seat.move_home.Goals as goal
 
 pub loop-seat-init : goal.loop-seat-init
 loop-seat-init g c =
     let iter : into_iter_items c.into_iter-seat-iterator.result ≡ c.args.seats.items = search rules in
-    let empty : c.in_ok-home.home.items ≡ [] = search rules in
+    let empty : c.args.home.items ≡ [] = c.requires.empty in
     record {
       room = search rules;
       same = ap (λ l. l ++ into_iter_items c.into_iter-seat-iterator.result) empty ∙ iter;
