@@ -3,7 +3,8 @@ ghost use Rattle.bw_change_laws.specs.Outer.{OuterGroupChangesNothing};
 
 /// Law: an outer group around a group has what the group has, and changes no other amount.
 ///
-/// The outer group has the group's weight and no limit. The group's weight inside it may be any.
+/// The outer group has the group's weight and place, and no limit. The group's weight inside it may
+/// be any.
 pub fn outer_group_changes_nothing()
     ensures { OuterGroupChangesNothing }
 {}

@@ -8,13 +8,13 @@ pub fn more_room_takes_nothing()
     ensures { MoreRoomTakesNothing }
 {}
 
-/// Law: where other groups ask for more, a group gets no more.
+/// Law: where groups that are not under it ask for more, a group gets no more.
 pub fn others_demands_give_nothing()
     ensures { OthersDemandsGiveNothing }
 {}
 
-/// Law: where other groups may have more, by greater demands or higher limits, a group gets no
-/// more.
+/// Law: a group gets no more where groups that are not under it ask for more, and groups neither
+/// above nor below it have greater limits.
 pub fn others_room_gives_nothing()
     ensures { OthersRoomGivesNothing }
 {}

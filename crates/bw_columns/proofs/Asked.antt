@@ -27,6 +27,12 @@ use Rattle.bw_columns.specs.Asked.{Table, row_in, rows_in, groups_in, are_even}
 use Rattle.bw_columns.specs.Asked.{refusal_number, asked_number, Answers}
 use Rattle.bw_columns.specs.Asked.{IsAfterMemory}
 
+-- A fact of groups and flags is one of equal groups and equal flags.
+pub moved : (P : Groups → List Bool → Type 0) (g h : Groups) (xs ys : List Bool) → g ≡ h → xs ≡ ys
+    → P g xs → P h ys
+moved P g h xs ys groups flags known =
+    subst (λ (one : Groups). P one ys) groups (subst (λ (some : List Bool). P g some) flags known)
+
 -- uneven columns
 pub asked_uneven : (shape : Shape) (table : Table) → are_even table ≡ false
     → asked_number shape table ≡ 50

@@ -5,6 +5,7 @@ mod AtGroup
 mod Blame
 mod BusyRows
 mod ByAll
+pub mod CallerLemmas
 mod ChangedRows
 mod Counts
 mod CutRows

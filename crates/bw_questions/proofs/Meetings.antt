@@ -8,15 +8,10 @@ use Rattle.bw_model.specs.Split.{IsBestSplit}
 use Rattle.bw_model.proofs.CallerLemmas.{sum-cons}
 use Rattle.bw_split.specs.Conditions.{CanSplit}
 use Rattle.bw_change_laws.specs.OneSplit.{AreWeighted, LighterHasNoMore}
+use Rattle.bw_change_laws.proofs.CallerLemmas.{outside}
 use Rattle.bw_questions.specs.Needs.{AreRaised, AreWithin, AreBetween, CanMeet, IsHeavyEnough}
 use Rattle.bw_questions.specs.Needs.{IsLevelOfNeeds, MeetsNeeds}
 use Rattle.bw_questions.proofs.Levels.{cheap_at}
-
--- a number outside a list is 0
-pub outside : (xs : List ℕ) (k : ℕ) → length xs ≤ k → get_or xs k 0 ≡ 0
-outside [] k h = refl
-outside (x ∷ xs) zero h = absurd (omega (arith, h))
-outside (x ∷ xs) (suc k) h = outside xs k (omega (arith, h))
 
 -- what the weights can rise yet, in all
 abbrev pub room : List ℕ → ℕ

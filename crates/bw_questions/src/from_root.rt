@@ -17,7 +17,7 @@ mod weighed;
 
 use bw_model::Instance;
 use guaranteed::tuned_by_guarantee;
-pub use laws::there_is_one_from_root;
+pub use laws::{level_numbers, there_is_one_from_root};
 pub use least::Tuned;
 pub use measure::Measure;
 use planned::tuned_by_plan;

@@ -38,7 +38,8 @@ fn reaches(
     Ok(plan.amounts[group as usize] >= amount)
 }
 
-// The least value of a setting that reaches an amount, by one plan for each halving.
+// The least value of a setting that reaches an amount, by one plan for each halving. Splits of the
+// parent alone would cost less, but the contract would have to repeat how a plan is made.
 fn least(
     alloc: Global,
     instance: &Instance,

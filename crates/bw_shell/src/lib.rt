@@ -1,5 +1,8 @@
 //! The shell of the arbiter: reads a script line by line from any reader, and writes each line's
 //! answer to any writer.
+//!
+//! Errors are handed on by `match` where a written proof speaks of them. After `?` an error is what
+//! `From` gives, and each of those proofs would have to undo that.
 #![tactic(auto)]
 
 mod keys;

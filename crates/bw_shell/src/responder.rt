@@ -76,7 +76,7 @@ fn may_begin(long: bool, flushed: bool) -> bool
 }
 
 /// The state of a script, the buffer of the answer to its last line, and the answers that wait to
-/// be written.
+/// be written. They have a buffer of their own, since a refusal clears that of the answer.
 #[derive(Drop)]
 pub struct Responder<'a, G> {
     script: Script<'a, G>,

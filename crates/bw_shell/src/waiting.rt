@@ -8,7 +8,8 @@ ghost use Rattle.bw_streams.specs.Writes.{Writes};
 use bw_streams::{RunFault, Watched, flush, put, send};
 use std::io::Write;
 
-/// Number of bytes of answers that may wait.
+/// Number of bytes of answers that may wait, as many as a read gives at most. A write for each line
+/// would take instructions for each, most of them to hand on the error that it may give.
 pub(crate) const WAITING_BYTES: usize = 65536;
 
 /// Puts a text behind what waits. Where it has no room, all is written.

@@ -3,6 +3,7 @@
 //! The laws of leads, gains, shares, plans and lifts are of a model: the rule as it is where no leaf
 //! has a guarantee and no plan comes, by specs/Runs.antt. The others are of the rule that the
 //! program replays.
+ghost use Rattle.std.specs.Prelude.{◌≡◌};
 ghost use Rattle.dispatch.specs.Runs.{LeadIsBounded, GainIsBounded, ShareIsKept};
 ghost use Rattle.dispatch.specs.Runs.{NoProcessorIdles};
 ghost use Rattle.dispatch.specs.Runs.{NoneIsPickedPastItsPlan, IsLiftedOnlyFromSleep};
@@ -13,6 +14,8 @@ ghost use Rattle.dispatch.specs.Accepted.{TraceIsARun};
 ghost use Rattle.dispatch.specs.Windows.{OwedIsBounded, WindowsAreServed};
 ghost use Rattle.dispatch.specs.Example.{PremisesAreMet};
 ghost use Rattle.dispatch.specs.Premises.{PremisesAreTold};
+
+use crate::limits::{MAX_AMOUNT, MAX_PROCESSORS, MAX_SLICE_NS, MAX_TERM_NS};
 
 /// No leaf gets far ahead of one that waits throughout, whatever the others do.
 ///
@@ -118,4 +121,13 @@ pub fn trace_is_a_run()
 /// A trace's premises are told as they are: the tests of the premises pass exactly where they hold.
 pub fn premises_are_told()
     ensures { PremisesAreTold }
+{}
+
+/// States the numbers of a trace: at most 1,024 processors, slices of a second, amounts of a
+/// million, and four seconds of quantum, slack and credit. The definitions read them from the code.
+pub fn trace_numbers()
+    ensures processors { MAX_PROCESSORS ≡ 1024 }
+    ensures slice { MAX_SLICE_NS ≡ 1000000000 }
+    ensures amount { MAX_AMOUNT ≡ 1000000 }
+    ensures term { MAX_TERM_NS ≡ 4000000000 }
 {}

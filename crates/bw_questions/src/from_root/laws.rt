@@ -1,8 +1,18 @@
-//! The law of the least weights from the root down.
+//! The law of the least weights from the root down, and the numbers of a level.
+ghost use Rattle.std.specs.Prelude.{◌≡◌};
 ghost use Rattle.bw_questions.specs.FromRoot.{ThereIsOneFromRoot};
+
+use bw_split::limits::{GREATEST_LEVEL, STEPS};
 
 /// Law: an instance, its goals and the rows that may change have one answer of least weights from
 /// the root down.
 pub fn there_is_one_from_root()
     ensures { ThereIsOneFromRoot }
+{}
+
+/// States the numbers of a level: a cost of one has 2^27 steps, and the greatest level is the cost
+/// of the last slice of 64,000 by the weight 1.
+pub fn level_numbers()
+    ensures steps { STEPS ≡ 134217728 }
+    ensures greatest { GREATEST_LEVEL ≡ 17179734966272 }
 {}

@@ -1,5 +1,5 @@
 -- The goals of `from_root_of` that are answered by hand.
-use Rattle.std.proofs.Common.{◌≡◌, ℕ, List, Bool, length, ap, sym, ◌∙◌, subst, inl, inr}
+use Rattle.std.proofs.Common.{◌≡◌, ℕ, List, Bool, length, ap, sym, ◌∙◌, inl, inr}
 use Rattle.std.proofs.lemmas.List.{length-map}
 use Rattle.bw_model.specs.declared.row.Row.{Row}
 use Rattle.bw_model.specs.Groups.{Groups}
@@ -10,7 +10,7 @@ use Rattle.bw_questions.specs.FromRoot.{IsTunedFromRoot}
 use Rattle.bw_columns.specs.Asked.{groups_asked, table_of}
 use Rattle.bw_columns.specs.Certificates.{flags_in}
 use Rattle.bw_columns.specs.FromRoot.{IsFromRootTold, IsToldOfRoot}
-use Rattle.bw_columns.proofs.Asked.{rows_length}
+use Rattle.bw_columns.proofs.Asked.{rows_length, moved}
 use Rattle.bw_columns.proofs.from_root.from_root_of.Goals as goal
 
 -- one weight for each row
@@ -25,12 +25,6 @@ weights_long measure groups goals may (Met tuned) weights unmet held told =
     ]
 weights_long measure groups goals may (Unmet top) weights unmet held told =
     ap (length {A = ℕ}) told.0 ∙ length-map groups.rows (λ (r : Row). r.weight)
-
--- A fact of groups and flags is one of equal groups and equal flags.
-moved : (P : Groups → List Bool → Type 0) (g h : Groups) (xs ys : List Bool) → g ≡ h → xs ≡ ys
-    → P g xs → P h ys
-moved P g h xs ys groups flags known =
-    subst (λ (one : Groups). P one ys) groups (subst (λ (some : List Bool). P g some) flags known)
 
 pub tune-requires-clause-goals : goal.tune-requires-clause-goals
 tune-requires-clause-goals c =

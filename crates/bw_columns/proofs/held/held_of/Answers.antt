@@ -1,5 +1,5 @@
 -- The goals of `held_of` that are answered by hand.
-use Rattle.std.proofs.Common.{◌≡◌, ℕ, List, Bool, Option, length, map, ap, sym, ◌∙◌, subst}
+use Rattle.std.proofs.Common.{◌≡◌, ℕ, List, Bool, Option, length, map, ap, sym, ◌∙◌}
 use Rattle.std.proofs.lemmas.List.{length-map}
 use Rattle.std.proofs.lemmas.List.FromFn.{length-map-range_with_len}
 use Rattle.bw_model.specs.declared.row.Row.{Row}
@@ -9,15 +9,9 @@ use Rattle.bw_cert.specs.Levels.{AreTightFlags, AreLevels}
 use Rattle.bw_questions.specs.HeldRule.{IsRound, round_of, round_limit, row_asking, demand_where, is_hungry}
 use Rattle.bw_columns.specs.Asked.{groups_asked, table_of, limit_number}
 use Rattle.bw_columns.specs.Certificates.{columns_in, flags_in}
-use Rattle.bw_columns.proofs.Asked.{rows_length}
+use Rattle.bw_columns.proofs.Asked.{rows_length, moved}
 use Rattle.bw_columns.proofs.Spelling.{columns_are_spelled, columns_long, long_by}
 use Rattle.bw_columns.proofs.held.held_of.Goals as goal
-
--- A fact of groups and flags is one of equal groups and equal flags.
-moved : (P : Groups → List Bool → Type 0) (g h : Groups) (xs ys : List Bool) → g ≡ h → xs ≡ ys
-    → P g xs → P h ys
-moved P g h xs ys groups flags known =
-    subst (λ (one : Groups). P one ys) groups (subst (λ (some : List Bool). P g some) flags known)
 
 -- The rows of a round are as many as those that it is of.
 round_rows : (used : Groups) (hungry : List Bool)

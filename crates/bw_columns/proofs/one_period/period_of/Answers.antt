@@ -1,13 +1,12 @@
 -- The goals of `period_of` that are answered by hand.
 use Rattle.std.proofs.Common.{◌≡◌, ℕ, List, length, map, refl, ap, sym, ◌∙◌, subst, slice_index}
 use Rattle.std.specs.List.{range_with_len}
-use Rattle.std.proofs.lemmas.List.FromFn.{length-map-range_with_len}
 use Rattle.bw_model.specs.declared.row.Row.{Row}
 use Rattle.bw_model.specs.Host.{Shape}
 use Rattle.bw_model.specs.Groups.{Groups, IsInstance, row_of}
-use Rattle.bw_model.specs.Allocation.{total}
 use Rattle.bw_model.specs.Plan.{IsPlan}
 use Rattle.bw_demand.specs.Demands.{demands_of, IsGathered}
+use Rattle.bw_questions.proofs.CallerLemmas.{one_each}
 use Rattle.bw_columns.specs.declared.tally.Tally.{Tally}
 use Rattle.bw_columns.specs.Booked.{carry_after}
 use Rattle.bw_columns.specs.PlannedHosts.{groups_on}
@@ -15,13 +14,6 @@ use Rattle.bw_columns.specs.Periods.{period_rows}
 use Rattle.bw_columns.specs.Tallies.{tally_of}
 use Rattle.bw_columns.proofs.PeriodSamples.{period-IsInstance, period_rows-length, period_count}
 use Rattle.bw_columns.proofs.one_period.period_of.Goals as goal
-
--- a plan has one amount for each row
-plan_long : (groups : Groups) (amounts : List ℕ) → IsPlan groups amounts
-    → length amounts ≡ length groups.rows
-plan_long groups amounts plan =
-    ap (length {A = ℕ}) plan.amounts_are
-    ∙ length-map-range_with_len (total groups.rows plan.allocation) 0 (length groups.rows)
 
 abbrev told : ℕ → List Row → List Row → List ℕ → List ℕ → List Tally
 told slice_us rows asked wants amounts =
@@ -57,7 +49,7 @@ tallies_of-requires-clause-wants c =
 pub tallies_of-requires-clause-amounts : goal.tallies_of-requires-clause-amounts
 tallies_of-requires-clause-amounts c =
     ap (length {A = ℕ}) c.as_slice-amounts.ensures.value
-    ∙ plan_long c.in_ok-instance.instance c.in_ok-plan.plan.amounts.items c.in_ok-plan.ensures
+    ∙ one_each c.in_ok-instance.instance c.in_ok-plan.plan.amounts.items c.in_ok-plan.ensures
     ∙ period_count c.in_ok-instance.instance c.shape.result c.in_ok-rows.rows.items
     c.rows-quotas.result.now c.args.mosts.now c.args.carries.now c.in_ok-instance.ensures
     c.in_ok-rows.ensures
@@ -65,7 +57,7 @@ tallies_of-requires-clause-amounts c =
 pub carries_after-requires : goal.carries_after-requires
 carries_after-requires c =
     ap (length {A = ℕ}) c.as_slice-amounts.ensures.value
-    ∙ plan_long c.in_ok-instance.instance c.in_ok-plan.plan.amounts.items c.in_ok-plan.ensures
+    ∙ one_each c.in_ok-instance.instance c.in_ok-plan.plan.amounts.items c.in_ok-plan.ensures
 
 pub returns : goal.returns
 returns c =
