@@ -2,9 +2,11 @@
 """Prints the definitions of the crates as Coq: one text for two provers.
 
 usage: translate.py TOP FOLDER      TOP is the top of the repository
+       translate.py --kit KIT       KIT is the folder of the kit's sources
 
 It writes a file of Coq into the folder for each of `PARTS`. What it does not know ends it, so that
-nothing but `LEFT_OUT` is left out. The words of the kit's library are in Words.v.
+nothing but `LEFT_OUT` is left out. The words of the kit's library are in Words.v. With `--kit` it
+prints Kit.v: what the kit's own texts define these words to be.
 """
 from __future__ import annotations
 
@@ -81,6 +83,27 @@ LEFT_OUT = {"certified_value", "IsCertifiedText", "seen", "Fails", "ReadsAs", "g
             "columns_view", "certified_view", "groups_read", "rows_view", "IsLate", "IsRefused",
             "host_fault_name", "instance_fault_name", "cert_fault_name",
             "demands_of", "blanks_of", "Gathered"}
+# The words of the kit's library, by the files that define them. Each stands behind those it names.
+# Not among them: `join_with_byte`, whose recursion Coq does not take, and `is_utf8`.
+KIT: tuple[tuple[str, str], ...] = (
+    ("logic/Lib/ListN.antt", "length get_or take drop set replicate"),
+    ("core/specs/Option.antt", "is_some unwrap_or option_map MatchOption IfSome IsSome"
+     " option_map_or"),
+    ("core/specs/Result.antt", "MatchResult IfOk IfErr OnOk"),
+    ("core/specs/Int.antt", "is_in_range"),
+    ("core/specs/Char.antt", "is_ascii_digit"),
+    ("core/specs/List.antt", "slice_get slice_index slice_range filter list_any list_all"
+     " All fold range_with_len AllByRecursion remove flat_map sum_by sum count_by"
+     " prefix_len position_or_len enumerate_from position onto_first slice_split"),
+    ("logic/Lib/Pointwise.antt", "pointwise"),
+    ("core/specs/Str.antt", "bytes_eq"),
+    ("core/specs/Fmt.antt", "digit_glyph digits_onto digits decimal"),
+    ("std_collections/specs/Map.antt", "keys_of values_of lookup remove_entry set_value"),
+    ("indexmap/specs/IndexMap.antt", "insert_entry"),
+    ("std/specs/Path.antt", "rfind_below rsplit_once"),
+)
+# Second names of such words.
+KIT_ALIASES = {"slice_index_or": "get_or", "slice_set": "set"}
 # Constants of Rust that the definitions name.
 CONSTANTS = ("MAX_PROCESSORS", "MIN_PERIOD_US", "MAX_PERIOD_US", "MIN_SLICE_US", "MIN_WEIGHT",
              "MAX_WEIGHT", "MAX_DEMAND", "MAX_GROUPS", "MAX_DEPTH", "MAX_PER_PROCESSOR")
@@ -1031,6 +1054,40 @@ def translated(top: Path) -> dict[str, str]:
     return found
 
 
+def chosen(lines: Sequence[str], wanted: set[str]) -> list[str]:
+    """The lines of the items with wanted names, and of the modules in which they stand."""
+    found: list[str] = []
+    for item in items(lines) if lines else []:
+        words = item[0].split()
+        if words[0] == "module":
+            inside = chosen(item[1:], wanted)
+            found += [item[0], *inside] if inside else []
+        elif words[0] in wanted or words[0] in ("abbrev", "unfoldable") and words[2] in wanted:
+            found += item
+    return found
+
+
+def kit_words(kit: Path) -> str:
+    """The definitions of the kit's words as a file of Coq."""
+    writer = Writer()
+    reader, writer.part = Reader(writer), "Kit"
+    for file, words in KIT:
+        text = (kit / file).read_text(encoding="utf-8")
+        # implicit levels and types are Coq's to find
+        text = re.sub(r"\{ℓ\} (?=\{A)|(?<=\w) \{ℓ\}(?= :)", "", text).replace("Type ℓ", "Type 0")
+        text = re.sub(r"^(\s*)(\w+) \{\w+\} (?=.* = )", r"\1\2 ", text, flags=re.M)
+        writer.lines.append(f"\n(* ---- {file} ---- *)")
+        reader.open("kit", Path(file).stem, "")
+        reader.named.update(KIT_ALIASES)
+        lines = chosen(without_comments(text), set(words.split()))
+        reader.block(lines, {})
+        missing = [each for each in words.split()
+                   if f"kit.{Path(file).stem}.{each}" not in writer.full]
+        if missing:
+            raise Unknown(f"{file} has no {missing}")
+    return KIT_HEAD + "\n".join(writer.lines) + "\n"
+
+
 def numbers() -> str:
     """Numbers of bytes from 10 on as constants, each by the one before it.
 
@@ -1050,7 +1107,18 @@ Set Warnings "-cannot-define-projection,-notation-overridden".
 """
 
 
+KIT_HEAD = """(* Made by translate.py of the kit's own texts: what its words are. WordLaws.v has laws. *)
+From Coq Require Import List Arith Bool.
+From Independent Require Import Words ScriptWords.
+Import ListNotations.
+Definition cond {A : Type} (b : bool) (x y : A) : A := if b then x else y.
+"""
+
+
 def main() -> int:
+    if sys.argv[1] == "--kit":
+        print(kit_words(Path(sys.argv[2])), end="")
+        return 0
     top, folder = map(Path, sys.argv[1:])
     for part, text in translated(top).items():
         (folder / f"{part}.v").write_text(text, encoding="utf-8")

@@ -5,13 +5,13 @@ program, examples/checker.py, and the one that was extracted from the proofs.
 """
 import functools
 import random
-import shutil
+import re
 import subprocess
 
 import pytest
 
 import checker
-from support import ROOT, each, same
+from support import ROOT, each, kit_folder, same
 from test_checker import forged
 from test_forged_texts import random_script
 
@@ -19,24 +19,9 @@ FOLDER = ROOT / "independent"
 SCRIPTS, OF_EACH, SEED = 500, 40, 83
 # Files that one call of the extracted checker reads.
 BATCH = 500
-# The definitions of the crates that a plan stands on, and Coq's.
-CRATES, COQ = "crates/bw_model/specs", "independent"
-# What is compiled again over changed definitions: they themselves, and the proofs that they stop.
-MODULES = {CRATES: (("Rules", "Refusals", "Reading"), ("Same", "Holds")),
-           COQ: (("Spec",), ("Total", "Splits"))}
-TOOLS = ("coqc", "coqchk", "ocamlfind")
-# One change of a definition of the crates, and of Coq's, each of which has to stop the proofs.
-CHANGES = {
-    "last mark": (f"{CRATES}/Marks.antt", "2 * slices - 1", "2 * slices"),
-    "limits": (f"{CRATES}/Allocation.antt", "total groups.rows allocation g ≤ limit",
-               "total groups.rows allocation g < limit"),
-    "ties": (f"{CRATES}/Split.antt", "(x < y) ⊎ ((x ≡ y)", "(y < x) ⊎ ((x ≡ y)"),
-    "depth": (f"{CRATES}/Groups.antt", "depth_of groups.rows g ≤ MAX_DEPTH",
-              "depth_of groups.rows g < MAX_DEPTH"),
-    "flags": ("crates/bw_cert/specs/Spelling.antt", 'flag_word true = codes "1"',
-              'flag_word true = codes "2"'),
-    "cost in Coq": (f"{COQ}/Spec.v", "nth k xs 0 * nth k xs 0 *", "nth k xs 0 *"),
-}
+# Words without a law of their own: `is_utf8` and its part, which a script of all pairs of bytes
+# tests; the negation and what is true, Coq's own; a part of `decimal`.
+WITHOUT_LAWS = ["IsTrue", "decimal_within", "goes_on", "is_utf8", "not"]
 
 
 def test_nothing_is_assumed(built):
@@ -50,6 +35,33 @@ def test_nothing_is_assumed(built):
         text = file.read_text(encoding="utf-8")
         for word in ("Admitted", "admit", "Axiom", "Parameter", "Conjecture"):
             assert f"{word}." not in text and f"{word} " not in text, (file.name, word)
+
+
+def test_words_have_laws():
+    """Each word that is said by hand, and each constant of the extraction, has a law."""
+    laws = (FOLDER / "WordLaws.v").read_text(encoding="utf-8")
+    words = [word for name in ("Words.v", "ScriptWords.v") for word in re.findall(
+        r"^(?:Definition|Fixpoint) (\w+)", (FOLDER / name).read_text(encoding="utf-8"), re.M)]
+    print(f"{len(words)} words")
+    assert len(words) > 40
+    same(sorted(word for word in words if f"Lemma {word}_is " not in laws), WITHOUT_LAWS)
+    laws = (FOLDER / "Extracted.v").read_text(encoding="utf-8")
+    for name in ("Extract.v", "ExtractScript.v"):
+        constants = re.findall(r"^Extract Constant \w+\.(\w+)",
+                               (FOLDER / name).read_text(encoding="utf-8"), re.M)
+        same((len(constants), [each for each in constants if f"Lemma {each}_is " not in laws]),
+             (10, []), name)
+
+
+def test_kit_words_are_the_kits():
+    """Kit.v is what the kit's own texts say."""
+    try:
+        kit = kit_folder() / "rattle"
+    except FileNotFoundError as fault:
+        pytest.skip(str(fault))
+    ended = subprocess.run(["/usr/bin/python3", FOLDER / "translate.py", "--kit", kit],
+                           capture_output=True, text=True, check=True)
+    same(ended.stdout, (FOLDER / "Kit.v").read_text(encoding="utf-8"))
 
 
 def lines_of(checker_program, folder, texts):
@@ -89,55 +101,6 @@ def test_three_checkers_agree(built, program, tmp_path):
     print(counts, sorted(numbers))
     assert numbers >= {1, 3, 5, 6, 8, 9, 10, 40, 41, 42, 43, *range(51, 59)}
     assert min(counts.values()) > 1000, counts
-
-
-def changed_tree(folder, file, old, new):
-    """A copy of what the proofs read, with one change."""
-    for name in ("crates", "independent"):
-        shutil.copytree(ROOT / name, folder / name, ignore=shutil.ignore_patterns("out", "proofs"))
-    text = (folder / file).read_text(encoding="utf-8")
-    same(text.count(old), 1, f"{file}: {old}")
-    (folder / file).write_text(text.replace(old, new), encoding="utf-8")
-
-
-def stops(folder, modules) -> str:
-    """The module at which the proofs over changed definitions stop, or nothing."""
-    for module in modules:
-        ended = subprocess.run(["coqc", "-q", "-R", ".", "Independent", f"{module}.v"], cwd=folder,
-                               capture_output=True, text=True, timeout=300, check=False)
-        if ended.returncode:
-            assert "Error" in ended.stderr, ended.stderr[-600:]
-            return module
-    return ""
-
-
-@pytest.mark.parametrize("name", CHANGES)
-def test_a_changed_definition_is_seen(built, tmp_path, name):
-    """The proofs stop where the definitions of the crates and of Coq no longer say the same."""
-    file, old, new = CHANGES[name]
-    changed_tree(tmp_path, file, old, new)
-    made = tmp_path / "made"
-    shutil.copytree(built, made, ignore=shutil.ignore_patterns("*.glob", "*.vos", "*.vok"))
-    shutil.copytree(tmp_path / "independent", made, dirs_exist_ok=True)
-    subprocess.run(["/usr/bin/python3", FOLDER / "translate.py", tmp_path, made], check=True)
-    definitions, proofs = MODULES[COQ if file.startswith(COQ) else CRATES]
-    assert stops(made, definitions + proofs) in proofs, name
-
-
-def test_unchanged_definitions_stop_nothing(built, tmp_path):
-    """The modules by which a change is seen pass where nothing was changed."""
-    for name, (definitions, proofs) in MODULES.items():
-        made = tmp_path / name.replace("/", "-")
-        shutil.copytree(built, made, ignore=shutil.ignore_patterns("*.glob"))
-        same(stops(made, definitions + proofs), "", name)
-
-
-def test_what_is_not_known_ends_the_translation(tmp_path):
-    """A definition in a form that the script does not know is not left out in silence."""
-    changed_tree(tmp_path, f"{CRATES}/Marks.antt", "abbrev pub last_mark :", "opaque pub last_mark :")
-    ended = subprocess.run(["/usr/bin/python3", FOLDER / "translate.py", tmp_path, tmp_path],
-                           capture_output=True, text=True, check=False)
-    assert ended.returncode == 1 and "Unknown" in ended.stderr, ended.stderr
 
 
 def test_words_and_statuses(built, tmp_path):

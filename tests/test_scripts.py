@@ -2,6 +2,7 @@
 
 What they run, what counts as up to date, what they say, and how an interrupted build goes on.
 """
+import ast
 import concurrent.futures
 import os
 import pty
@@ -762,7 +763,7 @@ def test_what_the_checked_build_leaves_out():
     rows = [line.split("\t") for line in lines if not line.startswith("#")]
     same([row for row in rows if len(row) != 2 or not row[1]], [], "lines without a reason")
     for begin, _ in rows:
-        file, _, name = begin.partition("::")
+        file, _, name = begin.partition("[")[0].partition("::")
         found = list(ROOT.glob(f"{file}*"))
         same(any(f"\ndef {name}" in path.read_text() for path in found), True, begin)
 
@@ -883,6 +884,32 @@ def test_test_names_what_is_skipped(copy):
     same((status, out.split("\n")[-2]), (0, "16 passed, 0 failed"), err)
     holds("test: some tests are skipped: sudo apt-get install -y --no-install-recommends mandoc ",
           err, "the tools")
+
+
+# Tools that Debian's base has not, and that tests call.
+OPTIONAL = """cargo cc chromium clang-14 coqc fish gcc make mandoc objcopy openssl prometheus promtool
+rustc shellcheck strace systemd-analyze tmux valgrind zsh""".split()
+
+
+def called(path):
+    """The tools that a file of tests calls: the first words of its lists of words."""
+    for node in ast.walk(ast.parse(path.read_text(encoding="utf-8"))):
+        if isinstance(node, ast.List) and node.elts:
+            word = getattr(node.elts[0], "value", "")
+            if word in OPTIONAL:
+                yield word
+
+
+def test_tools_that_may_be_missing():
+    """Each tool beyond Debian's base is looked for where it is called. Without it a test is skipped
+    with the reason."""
+    shared = (ROOT / "tests/shared_fixtures.py").read_text(encoding="utf-8")
+    found = {(path.name, tool): path.read_text(encoding="utf-8") + shared
+             for folder in ("tests", "python/tests", "bench/kernel")
+             for path in (ROOT / folder).glob("test_*.py") for tool in called(path)}
+    assert len(found) > 12, found.keys()
+    same([each for each, text in found.items() if not re.search(
+        rf'which\("{each[1]}"\)|which\([a-z]+\)|which, \(.*"{each[1]}"', text)], [], "not looked for")
 
 
 def test_test_sees_changed_sources(copy):
