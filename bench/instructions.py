@@ -5,7 +5,7 @@
     bench/instructions.py --keep            also keeps the numbers, with the commit
     bench/instructions.py --only plan,check    some work alone
     bench/instructions.py --program FILE    another program than the one that ./build made
-    bench/instructions.py --floor FILE      also prints the numbers of a flat tree over those of FILE
+    bench/instructions.py --floor FILE      also prints the numbers over those of FILE
 
 The floor is a program of plain Rust that keeps the whole contract, and that no proof binds. It
 takes the words of arbiter, `--groups N` for the most groups and `--depth N` for the deepest.
@@ -13,7 +13,8 @@ takes the words of arbiter, `--groups N` for the most groups and `--depth N` for
 valgrind counts, and the keys of the hash of names are known. So a number is the same however loaded
 the machine is. What the kernel does is not counted.
 
-A number is of one group, and at `demand` of one leaf. What the set-up takes is taken off.
+A number is of one group, and at `demand` of one leaf. What the set-up takes is taken off. Of an
+edit and then a question, the first question is taken off too.
 
 Status 1: a number is over 5 % above the one that is kept, also when it is counted again. Or lines
 that find a group take over 3 % more where a third of the groups was removed and made again. Status
@@ -31,22 +32,27 @@ from pathlib import Path
 from typing import NamedTuple
 
 from runs import answers, counted, fixed_random, note, program_of, stop
-from shapes import AGAIN, OF_EACH, Tree, host, text_of
+from shapes import AGAIN, EDITS, OF_EACH, Tree, host, text_of
 
 TOP = Path(__file__).resolve().parent.parent
 KEPT = TOP / "bench/instructions.txt"
 SHAPES = ["flat", "pairs", "chains of 32", "random"]
-WORK = ["mkdir", "setup", "demand", "read", "write", "plan", "total", "cert", "report", "period",
-        "check"]
+# The shapes that are counted in both sizes, and beside the floor.
+BOTH = ["flat", "random"]
+ALONE = ["mkdir", "setup", "demand", "read", "write", "plan", "total", "cert", "report", "period",
+         "check"]
+WORK = ALONE + EDITS
 # Lines that find a group, counted after a removal too.
 LINES = ["demand", "read", "write"]
 # The work that is counted on trees of so many groups, and the shapes of these.
-SIZES = [(4096, WORK, SHAPES), (16384, ["mkdir", "plan", "check"], ["flat", "random"]),
-         (4096, LINES, ["flat" + AGAIN, "random" + AGAIN])]
-# The tree on which the floor is counted, and the words that it takes beside ours.
-FLOOR_TREE, FLOOR_WORDS = ("flat", 4096), ("--groups", "4096", "--depth", "64")
+SIZES = [(4096, ALONE, SHAPES), (4096, EDITS, BOTH), (16384, WORK, BOTH),
+         (4096, LINES, [shape + AGAIN for shape in BOTH])]
 # Times that a line of all groups is given, so that the first of them tells less.
 ROUNDS = 5
+# Times that an edit and a question are given.
+TURNS = 10
+# A ratio to the floor that is named below the table.
+MUCH = 1.5
 # A number may be so many times the one that is kept.
 MOST = 1.05
 # After a removal it may be so many times the one before.
@@ -103,7 +109,11 @@ def piece(program: str, tree: Tree, row: Row) -> Piece:
         return Piece(Run(("check",), certified(program, tree.made)), nothing, groups)
     if row.work in OF_EACH:
         return Piece(run_of(64, tree.made, lines), made, len(lines))
-    processors = 1 if row.work == "period" else 64
+    processors = 1 if row.work.endswith("period") else 64
+    if row.work in EDITS:
+        asked = [*tree.made, row.work.partition(";")[2]]
+        return Piece(run_of(processors, asked, tree.edited(row.work, TURNS)),
+                     run_of(processors, asked), groups * TURNS)
     return Piece(run_of(processors, tree.made, lines * ROUNDS), run_of(processors, tree.made),
                  groups * ROUNDS)
 
@@ -203,8 +213,9 @@ def cell(kept: Table, found: Table, row: Row) -> str:
 
 def printed(kept: Table, found: Table) -> Iterator[str]:
     """The table for bench/measured.md."""
-    places = [(shape, groups) for groups, _, shapes in SIZES for shape in shapes]
-    places = [place for place in places if place in {(row.shape, row.groups) for row in found}]
+    found_at = {(row.shape, row.groups) for row in found}
+    places = [place for place in dict.fromkeys((shape, groups) for groups, _, shapes in SIZES
+                                               for shape in shapes) if place in found_at]
     yield f"| Work | {' | '.join(f'{shape}, {groups}' for shape, groups in places)} |"
     yield "|---" * (len(places) + 1) + "|"
     for work in dict.fromkeys(row.work for row in found):
@@ -213,13 +224,32 @@ def printed(kept: Table, found: Table) -> Iterator[str]:
 
 
 def over_floor(found: Table, floor: Table) -> Iterator[str]:
-    """The table of numbers over the floor's."""
-    shape, groups = FLOOR_TREE
-    yield f"| Over the floor, {shape}, {groups} | {' | '.join(row.work for row in floor)} |"
-    yield "|---" * (len(floor) + 1) + "|"
-    yield f"| the floor | {' | '.join(f'{number:.0f}' for number in floor.values())} |"
-    cells = [f"{found[row]:.0f}, {found[row] / number:.2f}" for row, number in floor.items()]
-    yield f"| ours, and over it | {' | '.join(cells)} |"
+    """The table of numbers over the floor's, and below it the work that takes much more."""
+    places = list(dict.fromkeys((row.shape, row.groups) for row in floor))
+    over = {row: found[row] / number for row, number in floor.items()}
+    works = dict.fromkeys(row.work for row in floor)
+    yield f"| Over the floor | {' | '.join(f'{shape}, {groups}' for shape, groups in places)} |"
+    yield "|---" * (len(places) + 1) + "|"
+    for work in works:
+        rows = [Row(work, *place) for place in places]
+        cells = [f"{over[row]:.2f} ({found[row]:.0f}, {floor[row]:.0f})" for row in rows]
+        yield f"| `{work}` | {' | '.join(cells)} |"
+    much = [work for work in works
+            if any(ratio > MUCH for row, ratio in over.items() if row.work == work)]
+    yield ""
+    named = ", ".join(f"`{work}`" for work in much) or "none"
+    yield f"On some tree over {MUCH} times the floor: {named}."
+
+
+def floor_table(counts: Counts, floor: str, room: str, rows: Iterable[Row]) -> Table:
+    """The numbers of the floor, on the trees that are counted in both sizes."""
+    beside = [row for row in rows if row.shape in BOTH]
+    found: Table = {}
+    for groups in dict.fromkeys(row.groups for row in beside):
+        words = ("--groups", str(groups), "--depth", "64")
+        found |= Counts(os.path.abspath(floor), room, words, counts.program).table(
+            row for row in beside if row.groups == groups)
+    return {row: found[row] for row in beside}
 
 
 def counted_again(counts: Counts, kept: Table, found: Table) -> list[Row]:
@@ -285,8 +315,7 @@ def main() -> None:
         found = counts.table(rows)
         failed = [] if options.keep else counted_again(counts, kept, found)
         if options.floor:
-            beside = Counts(os.path.abspath(options.floor), room, FLOOR_WORDS, program)
-            floor = beside.table(row for row in rows if (row.shape, row.groups) == FLOOR_TREE)
+            floor = floor_table(counts, options.floor, room, rows)
     print(*printed(kept, found), "", f"Counted at {commit()}.", sep="\n", flush=True)
     if floor:
         print("", *over_floor(found, floor), sep="\n", flush=True)

@@ -8,6 +8,9 @@ OF_EACH = ["mkdir", "demand", "write", "read"]
 # A round of these is one line, or one text.
 OF_ALL = ["plan", "total", "cert", "report", "period", "check"]
 COMMANDS = OF_EACH + OF_ALL
+# A turn of these is an edit, and then a question about all groups. `write` sets a weight, `max` a
+# limit, `demands` the demand of each leaf.
+EDITS = ["demand;plan", "write;plan", "max;plan", "write;total", "write;cert", "demands;period"]
 
 
 def flat(groups: int) -> list[str]:
@@ -65,8 +68,8 @@ class Tree:
         chosen = random.Random(11)
         self.paths = SHAPES[shape.removesuffix(AGAIN)](groups)
         above = {path.rpartition("/")[0] for path in self.paths}
-        leaves = [path for path in self.paths if path not in above]
-        middle = 96000 / len(leaves)
+        self.leaves = leaves = [path for path in self.paths if path not in above]
+        self.middle = middle = 96000 / len(leaves)
         mkdir = [f"mkdir {path}" for path in self.paths]
         write = [f"write {path} cpu.weight {chosen.randint(1, 10000)}" for path in self.paths]
         demand = [f"demand {path} {chosen.randint(1, round(2 * middle))}" for path in leaves]
@@ -81,6 +84,26 @@ class Tree:
             self.made += [f"rmdir {path}" for path in gone] + again
         self.rounds = {"mkdir": mkdir, "demand": demand, "write": write, "read": read}
         self.rounds |= {command: [command] for command in OF_ALL}
+
+    def edited(self, work: str, turns: int) -> list[str]:
+        """The lines of so many turns of an edit and a question."""
+        edit, _, question = work.partition(";")
+        chosen = random.Random(13)
+        return [line for _ in range(turns) for line in (*self.edits(edit, chosen), question)]
+
+    def edits(self, edit: str, chosen: random.Random) -> list[str]:
+        """The lines of an edit: of a leaf or group by chance, or of all leaves."""
+        def slices(times: int) -> int:
+            return chosen.randint(1, round(times * self.middle))
+
+        if edit == "demands":
+            return [f"demand {leaf} {slices(2)}" for leaf in self.leaves]
+        if edit == "demand":
+            return [f"demand {chosen.choice(self.leaves)} {slices(2)}"]
+        path = chosen.choice(self.paths)
+        if edit == "max":
+            return [f"write {path} cpu.max {slices(4)}000 1000000"]
+        return [f"write {path} cpu.weight {chosen.randint(1, 10000)}"]
 
 
 def host(processors: int) -> list[str]:

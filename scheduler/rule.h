@@ -30,7 +30,7 @@
 #define LONG_NS (1ULL << 33)
 
 const volatile bool has_trace;
-const volatile u32 cpus_there = 1, cpus_online = 1;
+const volatile u32 cpus_there = 1;
 
 struct leaf leaves[MOST_LEAVES];
 struct budget budgets[MOST_BUDGETS];
@@ -175,23 +175,45 @@ static __always_inline void note(struct on_cpu *here, u32 kind, u32 row, u32 cpu
 
 /* ---- Shares: clocks */
 
-/* Whether one clock is less than another. The products have up to 96 bits. */
-static __always_inline bool is_less(u64 charge, u64 amount, u64 other_charge, u64 other_amount)
+/* A value of which the compiler knows nothing, so that it makes no branch of a comparison. The
+ * verifier follows each branch. */
+#define UNKNOWN(value)                                                                             \
+    ({                                                                                             \
+        u64 value_ = (value);                                                                      \
+        asm volatile("" : "+r"(value_));                                                           \
+        value_;                                                                                    \
+    })
+
+/* Whether one number is less than another, by the sign of their difference. */
+static __always_inline u64 is_below(u64 one, u64 other)
+{
+    return (UNKNOWN(one) - other) >> 63;
+}
+
+/* Whether a row goes before another one, if there is the first one: there is no other one, or its
+ * key is less. */
+static __always_inline u64 goes_first(u32 row, u32 other, u64 is_less)
+{
+    return (UNKNOWN(other) >> LEVELS | is_less) & ~(UNKNOWN(row) >> LEVELS) & 1;
+}
+
+/* Whether one clock is less than another. The products have up to 96 bits: low words are compared,
+ * then high ones with what is borrowed. */
+static __always_inline u64 is_less(u64 charge, u64 amount, u64 other_charge, u64 other_amount)
 {
     u64 low = (u32)charge * other_amount, other_low = (u32)other_charge * amount;
     u64 high = (charge >> 32) * other_amount + (low >> 32);
     u64 other_high = (other_charge >> 32) * amount + (other_low >> 32);
 
-    return high != other_high ? high < other_high : (u32)low < (u32)other_low;
+    return is_below(high, other_high + is_below((u32)low, (u32)other_low));
 }
 
 /* Whether a row has a lesser clock than another one. */
-static __always_inline bool is_first(u32 row, u32 other)
+static __always_inline u64 is_first(u32 row, u32 other)
 {
     struct leaf *one = leaf_of(row), *two = leaf_of(other);
 
-    return row < NOBODY
-           && (other >= NOBODY || is_less(one->charged, one->amount, two->charged, two->amount));
+    return goes_first(row, other, is_less(one->charged, one->amount, two->charged, two->amount));
 }
 
 /* A leaf's charge without the slices that are charged in advance: it may be no less. */
@@ -289,15 +311,28 @@ static __always_inline void set_times(struct leaf *leaf)
 
 /* ---- Trees of winners */
 
-static __always_inline bool is_sooner(u32 row, u32 other)
+static __always_inline u64 is_sooner(u32 row, u32 other)
 {
-    return row < NOBODY && (other >= NOBODY || leaf_of(row)->due_ns < leaf_of(other)->due_ns);
+    return goes_first(row, other, is_below(leaf_of(row)->due_ns, leaf_of(other)->due_ns));
 }
 
-static __always_inline bool is_earlier(u32 row, u32 other)
+static __always_inline u64 is_earlier(u32 row, u32 other)
 {
-    return row < NOBODY
-           && (other >= NOBODY || leaf_of(row)->deadline_ns < leaf_of(other)->deadline_ns);
+    return goes_first(row, other,
+              is_below(leaf_of(row)->deadline_ns, leaf_of(other)->deadline_ns));
+}
+
+/* One of two rows: the other one, if `is_other`. */
+static __always_inline u32 either(u32 row, u32 other, u64 is_other)
+{
+    return row ^ ((row ^ other) & -(u32)is_other);
+}
+
+/* Whether all above a node of a tree stays: it has the winners that it had, and the row whose key
+ * has changed is none of them. A difference of 0 is none. */
+static __always_inline bool stays(u64 difference, u64 to_row)
+{
+    return !(difference | UNKNOWN(to_row - 1) >> 63);
 }
 
 /* Sets the soonest rows above one whose time has changed. */
@@ -309,14 +344,13 @@ static __noinline int play_soonest(u32 row)
     u32 best = is_in && leaf->guarantee ? row : NOBODY, level;
 
     soonest[WITHIN(node, 2 * MOST_LEAVES)] = best;
-    bpf_for(level, 0, LEVELS) {
+#pragma GCC unroll 12
+    for (level = 0; level < LEVELS; level++) {
         u32 other = soonest[WITHIN(node ^ 1, 2 * MOST_LEAVES)];
         best = soonest[WITHIN(node, 2 * MOST_LEAVES)];
-        if (is_sooner(other, best))
-            best = other;
+        best = either(best, other, is_sooner(other, best));
         node >>= 1;
-        /* what is above stays if another row wins here, as before */
-        if (soonest[WITHIN(node, 2 * MOST_LEAVES)] == best && best != row)
+        if (stays(soonest[WITHIN(node, 2 * MOST_LEAVES)] ^ best, best ^ row))
             break;
         soonest[WITHIN(node, 2 * MOST_LEAVES)] = best;
     }
@@ -338,27 +372,25 @@ static __always_inline u32 *head_of(u32 number, u32 row)
 /* Sets the winners of a tree above a row whose times, clock or tasks have changed. */
 static __noinline int play(u32 number, u32 row)
 {
+    struct winner *winners = tree_at(number)->winners;
     struct leaf *leaf = leaf_of(row);
     u64 node = WITHIN(row, MOST_LEAVES) + MOST_LEAVES;
-    bool is_in;
+    bool is_in = *head_of(number, row) && !leaf->is_aside;
     u32 level;
 
-    if (number >= MOST_TREES)
-        return 0;
-    is_in = *head_of(number, row) && !leaf->is_aside;
-    *winner_at(number, node) = (struct winner){ .due = is_in && leaf->is_due ? row : NOBODY,
-                            .first = is_in ? row : NOBODY };
-    bpf_for(level, 0, LEVELS) {
-        struct winner best = *winner_at(number, node), other = *winner_at(number, node ^ 1);
-        struct winner *above;
-        if (is_earlier(other.due, best.due))
-            best.due = other.due;
-        if (is_first(other.first, best.first))
-            best.first = other.first;
+    winners[WITHIN(node, 2 * MOST_LEAVES)] = (struct winner){
+        .due = is_in && leaf->is_due ? row : NOBODY, .first = is_in ? row : NOBODY
+    };
+#pragma GCC unroll 12
+    for (level = 0; level < LEVELS; level++) {
+        struct winner best = winners[WITHIN(node, 2 * MOST_LEAVES)];
+        struct winner other = winners[WITHIN(node ^ 1, 2 * MOST_LEAVES)], *above;
+        best.due = either(best.due, other.due, is_earlier(other.due, best.due));
+        best.first = either(best.first, other.first, is_first(other.first, best.first));
         node >>= 1;
-        above = winner_at(number, node);
-        if (above->due == best.due && above->first == best.first && best.due != row
-            && best.first != row)
+        above = &winners[WITHIN(node, 2 * MOST_LEAVES)];
+        if (stays((above->due ^ best.due) | (above->first ^ best.first),
+              (u64)(best.due ^ row) * (best.first ^ row)))
             break;
         *above = best;
     }

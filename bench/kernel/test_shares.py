@@ -115,7 +115,7 @@ def test_scenario_has_loads(name):
     """Each scenario is one that the guest can run, and asks for something."""
     found = scenario.read(SCENARIOS / f"{name}.script")
     text = layout.script(found, layout.Span())
-    assert found.about and text.count("/guest load") + text.count("/guest farm") >= 1
+    assert found.about and re.search(r"^/guest in \S+ (nice 19 )?(load|farm) ", text, re.MULTILINE)
     assert text.count("mkdir ") == len(found.paths) + 1
 
 

@@ -1,6 +1,7 @@
 """The scheduler's rule and queues in a model of CPUs (tests/kernel/simulated.c): each pick is one
 that the proved rule allows, and each group has its part. Then what crowds, masks, limits and rounds
 do to others."""
+import shutil
 import subprocess
 from collections.abc import Iterable
 from dataclasses import dataclass, field
@@ -47,6 +48,8 @@ GROUPS = {
 @pytest.fixture(scope="module", name="program")
 def made(tmp_path_factory):
     """The model, compiled with the scheduler's own files."""
+    if not shutil.which("gcc"):
+        pytest.skip("no gcc")
     found = tmp_path_factory.mktemp("simulated") / "simulated"
     subprocess.run(["gcc", "-O2", "-Wall", "-Wextra", "-Werror", f"-I{TOP / 'scheduler'}", "-o",
                     str(found), str(SOURCE)], check=True, timeout=120)

@@ -5,6 +5,8 @@
    guest beat                                 makes the clock of the board beat 8192 times a second
    guest load NAME START END PERIOD NAP CPUS WORK..
    guest nice N load ..                       the same as a nice task
+   guest in FILE load ..                      the same in the group of a file cgroup.procs: what it
+                                              takes to begin is not the group's
    guest farm NAME START END WORK CPUS        jobs of WORK, each a new task, one after another
        One task. PERIOD, NAP and WORK are microseconds; CPUS is a mask of the processors that it may
        use. In the k-th period from START on it uses the k-th WORK of processor time, round and
@@ -94,6 +96,15 @@ static const char *read_file(const char *name) {
 static void go_first(void) {
     struct sched_param first = { .sched_priority = 50 };
     sched_setscheduler(0, SCHED_FIFO, &first);
+}
+
+/* Moves this task into a group.  */
+static void enter(const char *name) {
+    int file = open(name, O_WRONLY);
+    if (file < 0 || write(file, "0", 1) != 1)
+        perror("guest: cgroup.procs");
+    if (file >= 0)
+        close(file);
 }
 
 static void spin_until(int64_t at) {
@@ -382,6 +393,11 @@ int main(int count, char **words) {
         sleep_until(atoll(words[2]));
         return 0;
     }
+    if (count >= 5 && strcmp(words[1], "in") == 0) {
+        enter(words[2]);
+        words += 2;
+        count -= 2;
+    }
     if (count >= 5 && strcmp(words[1], "nice") == 0) {
         if (setpriority(PRIO_PROCESS, 0, atoi(words[2])) != 0)
             perror("guest: setpriority");
@@ -400,6 +416,6 @@ int main(int count, char **words) {
         return end(atoi(words[2]), atoi(words[3]), words[4], words[5]);
     if (count >= 3 && strcmp(words[1], "writes") == 0)
         return writes(count - 2, words + 2);
-    fprintf(stderr, "guest: now, until, beat, load, nice, farm, watch, grid, end or writes\n");
+    fprintf(stderr, "guest: now, until, beat, in, load, nice, farm, watch, grid, end or writes\n");
     return 2;
 }

@@ -105,8 +105,7 @@ def task(scenario: Scenario, path: str, leaf: Leaf, number: int) -> str:
         words = ["farm", *span, str(leaf.fork), mask]
     if number < leaf.nice:
         words = ["nice", "19", *words]
-    return (f"(echo 0 > {shlex.quote(place(path, 'cgroup.procs'))};"
-            f" exec /guest {' '.join(words)}) &")
+    return f"/guest in {shlex.quote(place(path, 'cgroup.procs'))} {' '.join(words)} &"
 
 
 def script(scenario: Scenario, span: Span, beside: str = "", early: str = "") -> str:

@@ -10,7 +10,7 @@ from pathlib import Path
 from kernel.faults import KernelFault
 from kernel.machine import Board
 
-MOST_TASKS = 256
+MOST_TASKS = 512
 SETTINGS = ("mkdir", "write")
 QUESTIONS = ("plan", "total", "cert", "read", "report")
 
@@ -21,8 +21,9 @@ class Leaf:
 
     `nap` is microseconds that a task sleeps after its work; 0 is a task that goes by periods.
     `cpus` is the mask of the processors that its tasks may use. With `is_spread` each task keeps
-    to one of them, in turn. So many tasks as `nice` says are at nice 19. With a `fork` each task
-    works for so many microseconds in a new task, again and again.
+    to one of them, in turn. So many tasks as `nice` says are at nice 19, and so many as `kept` says
+    keep to processor 0. With a `fork` each task works for so many microseconds in a new task, again
+    and again.
     """
 
     demands: tuple[int, ...]
@@ -32,9 +33,12 @@ class Leaf:
     is_spread: bool = False
     nice: int = 0
     fork: int = 0
+    kept: int = 0
 
     def mask(self, number: int) -> int:
         """The processors that a task may use; tasks are numbered from 0."""
+        if number < self.kept:
+            return 1
         if not self.is_spread:
             return self.cpus
         found = [1 << at for at in range(self.cpus.bit_length()) if self.cpus >> at & 1]
@@ -116,6 +120,7 @@ def options_parser() -> argparse.ArgumentParser:
     parser.add_argument("--nice", type=pair, action="append", default=[])
     parser.add_argument("--fork", type=pair, action="append", default=[])
     parser.add_argument("--pin", type=pair, action="append", default=[])
+    parser.add_argument("--keep", type=pair, action="append", default=[])
     parser.add_argument("--spread", action="store_true")
     parser.add_argument("--features", type=lambda text: tuple(text.split(",")), default=())
     parser.add_argument("--kernel", default="")
@@ -139,7 +144,8 @@ def leaf_of(path: str, demands: tuple[int, ...], options: argparse.Namespace) ->
         raise KernelFault(f"{path}: not 1 to {MOST_TASKS} tasks")
     every = (1 << options.processors) - 1
     return Leaf(demands, tasks, of_group(options.nap, path, 0), of_group(options.pin, path, every),
-                options.spread, of_group(options.nice, path, 0), of_group(options.fork, path, 0))
+                options.spread, of_group(options.nice, path, 0), of_group(options.fork, path, 0),
+                of_group(options.keep, path, 0))
 
 
 def parse(name: str, text: str) -> Scenario:

@@ -629,7 +629,7 @@ int main(int count_of_words, char **words) {
     core_count = atoi(words[first + 2]);
     if (length == 0 || core_count == 0 || core_count > MOST_CORES)
         return 2;
-    cpus_there = cpus_online = core_count;
+    cpus_there = core_count;
     clear_trees();
     rows_seen[0].amount = 1;
     for (int at = first + 3; at < count_of_words; at++)

@@ -30,8 +30,8 @@ TASKS = {"a": ["load a $now END 100000 0 3 100000"] * 2 + ["load a $now END 1000
 END = "9000000000000"
 LOADS = 2
 # The edit of a program that picks nobody, so that the kernel's watchdog has to end it.
-PICKS = "    found = take_next("
-PICKS_NOBODY = "    found = 0 * take_next("
+PICKS = "    found = took_next("
+PICKS_NOBODY = "    found = 0 * took_next("
 STATE = "/sys/kernel/sched_ext/state"
 MAKE = "make"
 

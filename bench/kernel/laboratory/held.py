@@ -164,7 +164,9 @@ def ran(kernel: packages.Kernel, jobs: Sequence[Job], setting: machine.Setting
         outcome = compare.outcome_of(job.scenario, run, job.span)
         yield {"release": kernel.release, "way": job.way.name, "repeat": job.repeat,
                "seconds": job.span.seconds, "rounds": told.get(run.key, []),
-               "pieces": run.pieces, **(ended(run.told) if job.way.is_hold else {}),
+               "pieces": run.pieces,
+               "tasks": [(task.path, task.had, task.moves) for task in run.tasks],
+               **(ended(run.told) if job.way.is_hold else {}),
                **brief(outcome), "refusal": refusal_of(outcome, job.way)}
 
 
