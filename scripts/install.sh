@@ -84,6 +84,24 @@ find_modules() {
   modules=("${modules[@]#"$python/"}")
 }
 
+# Sets `commit` and its time in seconds, if git knows this clone and no file was changed.
+# shellcheck disable=SC2034
+find_commit() {
+  commit='' commit_time=''
+  hash git 2>/dev/null && [ "$(git rev-parse --show-cdup 2>/dev/null || echo none)" = '' ] &&
+    [ -z "$(git status --porcelain)" ] &&
+    read -r commit commit_time < <(git log -1 --format='%H %ct')
+}
+
+# Says beside the packages of which commit and by which kit the library was made, where that is
+# known. `arbiterctl --version` prints it.
+say_made() { # FOLDER
+  rm -f -- "$1/made.json"
+  find_commit || return 0
+  find_kit
+  printf '{"commit": "%s", "kit": "%s"}\n' "$commit" "$kit" >"$1/made.json"
+}
+
 # Prints the places below DIR, one a line. A package is one folder.
 places() {
   local at
@@ -146,6 +164,7 @@ name_packages() { # DIR
   while IFS= read -r file; do
     [ -n "${ours[$file]-}" ] || rm -f -- "$file"
   done < <(find "${folders[@]}" -name '*.py' -o -path '*/templates/*')
+  say_made "${folders[0]}"
   compile_packages "${folders[@]}"
   printf "build: installed %s/\n" "${folders[@]}"
 }

@@ -275,7 +275,7 @@ uint32_t arbiter_refused_row(const uint32_t *parents, size_t parents_length, con
 
 /* The limits of the next round, from what each leaf used in the last one. Each row keeps its own limit where the plan gives
  * each leaf its demand or its own limit. A group with children always does. No leaf is limited above its own limit, nor below
- * its guarantee. docs/PROVED.md has the rule. Two plans.
+ * its guarantee. docs/EMBEDDING.md has the rule. Two plans.
  * Reads:
  *   parents  the row of the parent; ARBITER_NO_PARENT where the group is the root
  *   weights  the weight, 1 to 10000
@@ -301,7 +301,7 @@ uint32_t arbiter_hold(uint64_t processors, uint64_t period_us, uint64_t slice_us
 
 /* What a scheduler is given for a round in the place of limits. The floor of a row is its plan where each leaf asks for
  * everything. No amount of a leaf is below its guarantee, and all together may be above the capacity. docs/PROVED.md has the
- * rule. Two plans.
+ * laws. Two plans.
  * Reads:
  *   parents  the row of the parent; ARBITER_NO_PARENT where the group is the root
  *   weights  the weight, 1 to 10000

@@ -100,6 +100,16 @@ def files_of(folder):
     return found - set(BOOKS)
 
 
+def test_a_release_is_twice_the_same(tmp_path):
+    """Two runs of ./build --release give the same bytes, of the packages too."""
+    if ended("git", "-C", ROOT, "status", "--porcelain"):
+        pytest.skip("a release is of a commit without a changed file")
+    for name in ("one", "two"):
+        ended(ROOT / "build", "--release", tmp_path / name)
+    same(ended("diff", "-r", tmp_path / "one", tmp_path / "two"), "", "what differs")
+    assert len(list((tmp_path / "one").iterdir())) >= 10
+
+
 def test_all_packages(debs):
     same(len(debs), len(NAMES), "packages")
 
@@ -180,7 +190,7 @@ def test_arbiterctl_runs(installed):
     assert found["engine"].endswith("libarbiter.so.1"), found["engine"]
     same(found["check"], "accepted", "the check")
     same([each["gets"]["slices"] for each in found["groups"]], [50, 50], "the plan")
-    same(within(installed, "arbiterctl", "--version"), f"arbiterctl {version()}\n", "--version")
+    same(within(installed, "arbiterctl", "--version").split("\n")[0], f"arbiterctl {version()}", "--version")
     same(within(installed, "python3", "-c", "import arbiter_host as a; print(a.__version__)"),
          f"{version()}\n", "the package")
     shutil.rmtree(group.parent)

@@ -1,0 +1,433 @@
+"""./build --release: the same bytes twice, nothing of the machine, and each file runs where nobody
+builds. Programs are those under test; the kit is a stand-in."""
+import hashlib
+import importlib
+import io
+import json
+import os
+import re
+import shutil
+import subprocess
+import tarfile
+import time
+import zipfile
+from pathlib import Path
+
+import pytest
+import yaml
+
+from stand_in import LIBRARY_PROVED, PROVED, Copy, holds, version
+from support import CHECKED, ROOT, run, same
+
+VERSION, COMMIT, SECONDS = version(), "8" * 40, 1_764_000_000
+KIT = "rattle-kit-13f logic dac8208d650f15bf"
+TARBALL = f"arbiter-{VERSION}-linux-x86_64"
+NOBODY = 65534
+# The first commands of README.md, with the last line of their answers.
+ASKED = {"run": ("examples/two-groups.script", "demand 0"),
+         "check": ("examples/two-groups.certified", "accepted")}
+
+
+@pytest.fixture(scope="module", name="release")
+def module_of_scripts():
+    """scripts/release.py."""
+    with pytest.MonkeyPatch.context() as patch:
+        patch.syspath_prepend(str(ROOT / "scripts"))
+        found = importlib.import_module("release")
+        yield found
+
+
+@pytest.fixture(scope="module", name="installed")
+def installed_files(program, library, tmp_path_factory):
+    """What ./build --install installs, with the program and the library under test."""
+    copy = Copy(os.path.realpath(tmp_path_factory.mktemp("release")))
+    shutil.copy(program.path, f"{copy.kit}/made")
+    copy.installs("there", "an installation", [PROVED, LIBRARY_PROVED])
+    folder = Path(copy.top) / "there"
+    shutil.copy(library, folder / f"lib/libarbiter.so.{VERSION}")
+    (folder / "lib/arbiter/arbiter/made.json").write_text(
+        json.dumps({"commit": COMMIT, "kit": KIT}))
+    return folder
+
+
+@pytest.fixture(name="whole")
+def lets_through(release, library, monkeypatch):
+    """Lets the checked library through, which names the folder that it was made in."""
+    if release.OF_MACHINE.search(library.read_bytes()):
+        assert b"/checked/" in library.read_bytes() or CHECKED in library.parents
+        monkeypatch.setattr(release, "OF_MACHINE", re.compile(rb"/no/such/path"))
+    return release
+
+
+def made(release, installed, out, *debs):
+    """The files of a release."""
+    words = [str(installed), str(out), VERSION, COMMIT, str(SECONDS), KIT, *map(str, debs)]
+    same(release.main(words), 0, "the status")
+    return {path.name: path.read_bytes() for path in out.iterdir()}
+
+
+def test_twice_the_same(whole, installed, tmp_path):
+    """Other folders, another order of files, another time and other rights give the same bytes."""
+    other = tmp_path / "moved" / "elsewhere"
+    for path in sorted(installed.rglob("*"), reverse=True):
+        place = other / path.relative_to(installed)
+        place.parent.mkdir(parents=True, exist_ok=True)
+        if path.is_symlink():
+            place.symlink_to(os.readlink(path))
+        elif path.is_file():
+            shutil.copyfile(path, place)
+            place.chmod(0o700 if os.access(path, os.X_OK) else 0o600)
+            os.utime(place, (0, 10**9))
+    deb = tmp_path / f"arbiter_{VERSION}_amd64.deb"
+    deb.write_bytes(b"!<arch>\n")
+    one, two = (made(whole, each, tmp_path / name, deb)
+                for each, name in ((installed, "one"), (other, "two")))
+    same(sorted(one), sorted(two), "names")
+    same([name for name in one if one[name] != two[name]], [], "files that differ")
+    (wheel,) = [name for name in one if name.endswith(".whl")]
+    same(set(one) - {wheel}, {f"{TARBALL}.tar.gz", f"arbiter_host-{VERSION}.tar.gz", deb.name,
+                              "PROVED.json", f"arbiter-{VERSION}.spdx.json", "SHA256SUMS",
+                              "arbiter.krew.yaml"}, "files")
+    krew = yaml.safe_load(one["arbiter.krew.yaml"])["spec"]
+    (platform,) = krew["platforms"]
+    same((krew["version"], platform["sha256"], platform["uri"].rpartition("/")[2]),
+         (f"v{VERSION}", hashlib.sha256(one[f"{TARBALL}.tar.gz"]).hexdigest(),
+          f"{TARBALL}.tar.gz"), "the plug-in")
+    same(platform["files"], [{"from": f"{TARBALL}/*", "to": "."}], "what it takes of the tarball")
+    assert re.fullmatch(rf"arbiter_host-{VERSION}-py3-none-manylinux_2_\d+_x86_64.whl", wheel)
+    ended = run(["sha256sum", "--strict", "-c", "SHA256SUMS"], cwd=tmp_path / "one")
+    same((ended.status, ended.out.count(b": OK\n")), (0, len(one) - 1), "the sums")
+    for place in (tmp_path, installed):
+        same([name for name, data in contents(one).items() if str(place).encode() in data], [],
+             "files that name a folder of the machine")
+
+
+def contents(files):
+    """The files inside of archives, and those that are none."""
+    found = {}
+    for name, data in files.items():
+        if name.endswith(".tar.gz"):
+            with tarfile.open(fileobj=io.BytesIO(data)) as archive:
+                found |= {f"{name}/{each.name}": archive.extractfile(each).read()
+                          for each in archive if each.isfile()}
+        elif name.endswith(".whl"):
+            with zipfile.ZipFile(io.BytesIO(data)) as archive:
+                found |= {f"{name}/{each}": archive.read(each) for each in archive.namelist()}
+        else:
+            found[name] = data
+    return found
+
+
+def test_archives(whole, installed, tmp_path):
+    """Files are sorted, belong to root, and have the time of the commit. What needs root is left
+    out of the tarball."""
+    files = made(whole, installed, tmp_path / "out")
+    for name in (f"{TARBALL}.tar.gz", f"arbiter_host-{VERSION}.tar.gz"):
+        with tarfile.open(fileobj=io.BytesIO(files[name])) as archive:
+            members = archive.getmembers()
+        paths = [each.name for each in members if not each.isdir()]
+        same(paths, sorted(paths), name)
+        same({(each.uid, each.gid, each.uname, each.mtime) for each in members},
+             {(0, 0, "root", SECONDS)}, name)
+        same({each.mode for each in members} - {0o755, 0o644, 0o777}, set(), name)
+        assert not [each for each in paths if "systemd/system" in each or "__pycache__" in each]
+        if name.startswith(TARBALL):
+            rest = {f"{TARBALL}/{each}" for each in (
+                "README", "LICENSE-MIT", "bin/arbiterctl", "lib/libarbiter.a", "include/arbiter.h",
+                "share/man/man1/arbiterctl.1", "share/rust/src/lib.rs", "examples/pods.json",
+                "share/bash-completion/completions/arbiterctl")}
+            same(rest - set(paths), set(), "missing")
+    (wheel,) = [name for name in files if name.endswith(".whl")]
+    with zipfile.ZipFile(io.BytesIO(files[wheel])) as archive:
+        same({each.date_time for each in archive.infolist()}, {time.gmtime(SECONDS)[:6]}, wheel)
+
+
+@pytest.mark.parametrize("file, head, place", [
+    ("bin/arbiter", b"\x7fELF\0", "/home/me/gate/crates/x"),
+    (f"lib/libarbiter.so.{VERSION}", b"\x7fELF\0", f"{ROOT}/crates"),
+    ("lib/libarbiter.a", b"!<arch>\n", "/tmp/arbiter/a.rt")])
+def test_a_folder_of_the_machine(release, installed, tmp_path, capsys, file, head, place):
+    """A program or a library that says where it was made is in no release. No file is made."""
+    shutil.copytree(installed, tmp_path / "in", symlinks=True)
+    for each in ("bin/arbiter", "lib/libarbiter.a", f"lib/libarbiter.so.{VERSION}"):
+        (tmp_path / "in" / each).write_bytes(b"\x7fELF\0")
+    (tmp_path / "in" / file).write_bytes(head + place.encode() + b"\0")
+    words = [str(tmp_path / "in"), str(tmp_path / "out"), VERSION, COMMIT, str(SECONDS), KIT]
+    same((release.main(words), (tmp_path / "out").exists()), (1, False), "the status")
+    same(capsys.readouterr().err,
+         f"build: no release: {file} names a folder of this machine: {place}\n", "the message")
+
+
+# It runs where nobody builds
+
+
+@pytest.fixture(name="home")
+def a_home(tmp_path_factory, program):
+    """A folder of a user without rights, and the words that make one that user."""
+    folder = Path("/tmp") / f"arbiter-home-{os.getpid()}-{time.monotonic_ns()}"
+    folder.mkdir()
+    words = {}
+    if os.geteuid() == 0 and Path(program.path).read_bytes().startswith(b"\x7fELF"):
+        os.chown(folder, NOBODY, NOBODY)
+        words = {"user": NOBODY, "group": NOBODY, "extra_groups": []}
+    yield folder, {"cwd": folder, "env": {"PATH": "/usr/bin:/bin", "HOME": str(folder)}, **words}
+    shutil.rmtree(folder)
+
+
+def answers(words, home, given=b""):
+    """What a command prints for the user of a home."""
+    ended = subprocess.run(list(map(str, words)), input=given, capture_output=True, timeout=240,
+                           check=False, **home)
+    same((ended.returncode, ended.stderr), (0, b""), words)
+    return ended.stdout.decode()
+
+
+def explains(command, examples, home, engine):
+    """The pods of README.md are explained by a library of the release, which its check accepts."""
+    pods = [examples / "pods.json", examples / "node.json", "--want", "busy"]
+    said = answers([*command, "explain", *pods, "-o", "json"], home)
+    found = json.loads(said)
+    same((found["check"], found["engine"]), ("accepted", f"library {engine}"), "the answer")
+    gets = {each["group"]: each["gets"]["millicpu"] for each in found["groups"]}
+    same([gets["kubepods/burstable/shop:web"], gets["kubepods/shop:db"]], [1444, 500], "pods")
+    text = answers([*command, "explain", *pods], home)
+    holds("1.444  2.100      -  [########....]  the host is full", text, "README's answer")
+    said = answers([*command, "--version"], home).split("\n")
+    same(said, [f"arbiterctl {VERSION}", f"commit {COMMIT}; library proved by {KIT}", ""],
+         "the version")
+
+
+def test_tarball_in_a_home(whole, installed, tmp_path, home):
+    """Unpacked by an ordinary user: the first commands of README.md are answered, in three."""
+    folder, user = home
+    made(whole, installed, tmp_path / "out")
+    shutil.copy(tmp_path / f"out/{TARBALL}.tar.gz", folder)
+    answers(["tar", "xf", f"{TARBALL}.tar.gz"], user)
+    top = folder / TARBALL
+    for word, (file, last) in ASKED.items():
+        said = answers([top / "bin/arbiter", word], user, (top / file).read_bytes())
+        same(said.split("\n")[-2], last, word)
+    explains([top / "bin/arbiterctl"], top / "examples", user, f"{top}/lib/libarbiter.so.1")
+    readme = (top / "README").read_text()
+    for line in re.findall(r"^    (bin/.*)$", readme, re.M):
+        answers(["sh", "-c", f"cd {TARBALL} && {line}"], user)
+    same(readme.count("\n    bin/"), 3, "commands of its README")
+
+
+def venv(folder, user, *words):
+    """A Python of its own with Debian's packages, and pip with some words, without a network."""
+    answers(["/usr/bin/python3", "-m", "venv", "--system-site-packages", folder / "venv"], user)
+    pip = [folder / "venv/bin/python", "-m", "pip", "-q", "--isolated", "--no-input",
+           "--disable-pip-version-check", "--no-cache-dir"]
+    answers([*pip, *words, "--no-index", "--no-deps"], user)
+    return pip
+
+
+def test_wheel_in_a_venv(whole, installed, tmp_path, home):
+    """pip installs it without a network, it has its library inside, and goes without a rest."""
+    if subprocess.run(["/usr/bin/python3", "-c", "import ensurepip"], capture_output=True,
+                      check=False).returncode:
+        pytest.skip("no python3-venv")
+    folder, user = home
+    files = made(whole, installed, tmp_path / "out")
+    (name,) = [each for each in files if each.endswith(".whl")]
+    shutil.copy(tmp_path / "out" / name, folder)
+    pip = venv(folder, user, "install", folder / name)
+    (place,) = folder.glob("venv/lib/python3*/site-packages")
+    shutil.copytree(ROOT / "examples", folder / "examples")
+    explains([folder / "venv/bin/arbiterctl"], folder / "examples", user,
+             place / "arbiter/libarbiter.so.1")
+    said = subprocess.run([*map(str, pip), "check"], capture_output=True, check=False, **user)
+    assert b"arbiter" not in said.stdout + said.stderr, said
+    answers([*pip, "uninstall", "-y", "arbiter-host"], user)
+    same([each for each in place.rglob("*") if "arbiter" in each.name
+          and each.name != "__pycache__"], [], "left behind")
+
+
+def test_metadata_is_that_of_setuptools(whole, installed, tmp_path):
+    """Name, version and what is needed are what setuptools makes of the sdist's pyproject."""
+    code = ("import sys; from setuptools import build_meta\n"
+            "print(build_meta.prepare_metadata_for_build_wheel(sys.argv[1]))")
+    files = made(whole, installed, tmp_path / "out")
+    with tarfile.open(fileobj=io.BytesIO(files[f"arbiter_host-{VERSION}.tar.gz"])) as archive:
+        archive.extractall(tmp_path)
+    ended = run(["/usr/bin/python3", "-c", code, str(tmp_path)],
+                cwd=tmp_path / f"arbiter_host-{VERSION}")
+    if b"No module named" in ended.err:
+        pytest.skip("no python3-setuptools, or no python3-wheel")
+    same(ended.status, 0, ended.err)
+    theirs = (tmp_path / ended.out.decode().split("\n")[-2] / "METADATA").read_text()
+    (wheel,) = [name for name in files if name.endswith(".whl")]
+    with zipfile.ZipFile(io.BytesIO(files[wheel])) as archive:
+        ours = archive.read(f"arbiter_host-{VERSION}.dist-info/METADATA").decode()
+    keys = ("Name", "Version", "Summary", "License", "Requires-Python", "Provides-Extra",
+            "Requires-Dist")
+    fields = [sorted(re.sub("[ ()]", "", line).replace('"', "'") for line in each.split("\n")
+                     if line.partition(":")[0] in keys) for each in (ours, theirs)]
+    same(*fields, "metadata")
+    assert len(fields[0]) > 12
+
+
+# What is inside
+
+
+LOG = """== bw_text
+fn bw_text::a: proved
+logic=proved functions=27 sum=d native=nat axioms=2 x=y
+rt: bw_text proved
+== arbiter
+logic=proved functions=9 may-wait=4 sum=d axioms=20
+rt: must-fail bw_text/other.edit: refused, as it must be: fn bw_text::a
+rt: must-fail bw_text/missed.edit: NOT REFUSED: the crate is still proved with this edit
+rt: must-fail arbiter/one.edit: refused, as it must be (only by a limit of the prover)
+"""
+
+
+def test_what_was_proved(release, installed, tmp_path, monkeypatch):
+    """Crates are counted as the logs of the kit have them, and files have their hashes. Logs that
+    are older than a source, and Coq's that are not there, tell nothing."""
+    monkeypatch.setattr(release, "TOP", tmp_path)
+    source = tmp_path / "crates/bw_text/src/lib.rt"
+    for path, text in ((source, ""), (tmp_path / "out/gate.log", LOG), (
+            tmp_path / "crates.txt", "bw_text:\nbw_low: bw_text\narbiter: bw_low # x\n")):
+        path.parent.mkdir(parents=True, exist_ok=True)
+        path.write_text(text)
+    os.utime(source, (10**9, 10**9))
+    its = release.Release(VERSION, COMMIT, SECONDS, KIT)
+    found = release.proved(release.below(installed), its)
+    same(found["crates"], {"arbiter": {"functions": 9, "axioms": 20, "may_wait": 4},
+                           "bw_text": {"functions": 27, "axioms": 2, "may_wait": 0}}, "crates")
+    same((found["not_counted"], found["refused_edits"]),
+         (["bw_low"], {"arbiter": ["one"], "bw_text": ["other"]}), "the rest")
+    same((found["kit"], found["logic"], found["commit"], found["coq_theorems_without_axioms"]),
+         ("rattle-kit-13f", "dac8208d650f15bf", COMMIT, []), "by what")
+    same(set(found["files"]), {"bin/arbiter", "lib/libarbiter.a", f"lib/libarbiter.so.{VERSION}"},
+         "files")
+    for place, told in found["files"].items():
+        same(told["sha256"], hashlib.sha256((installed / place).read_bytes()).hexdigest(), place)
+    os.utime(source)
+    os.utime(tmp_path / "out/gate.log", (10**9, 10**9))
+    found = release.proved(release.below(installed), its)
+    same((found["crates"], found["refused_edits"], len(found["not_counted"])), ({}, {}, 3), "old")
+
+
+def test_theorems_of_coq(release, tmp_path, monkeypatch):
+    """Those that the log closes are named; a log that closes others is a fault."""
+    monkeypatch.setattr(release, "TOP", tmp_path)
+    folder = tmp_path / "out/independent"
+    folder.mkdir(parents=True)
+    (folder / "Assumptions.v").write_text("".join(
+        f"(* a *)\nPrint Assumptions {each}.\n" for each in ("A.one", "B")))
+    (folder / "build.log").write_text(2 * "Closed under the global context\n")
+    same(release.theorems(), [], "without an end of its build")
+    (folder / "sum").write_text("sum\n")
+    same(release.theorems(), ["A.one", "B"], "theorems")
+    (folder / "build.log").write_text("Closed under the global context\nAxioms:\nx : nat\n")
+    with pytest.raises(release.Fault, match="closes 1 theorems of 2"):
+        release.theorems()
+
+
+@pytest.mark.parametrize("data, wanted", [
+    (b"#!/bin/sh\n\0GLIBC_2.17\0", None), (b"\x7fELF\0x\0", 0), (b"\x7fELF\0GLIBC_2.2.5\0", 2),
+    (b"\x7fELF\0GLIBC_2.4\0GLIBC_2.34\0GLIBC_2.14\0", 34), (b"\x7fELF\0XGLIBC_2.99\0", 0)])
+def test_the_oldest_c_library(release, data, wanted):
+    same(release.glibc(data), wanted, data)
+
+
+def test_bill_of_materials(whole, installed, tmp_path):
+    """Each field that SPDX 2.3 asks for is there, each name once, and each relation has ends."""
+    files = made(whole, installed, tmp_path / "out")
+    found = json.loads(files[f"arbiter-{VERSION}.spdx.json"])
+    same((found["spdxVersion"], found["dataLicense"], found["creationInfo"]["created"]),
+         ("SPDX-2.3", "CC0-1.0", "2025-11-24T16:00:00Z"), "the head")
+    ids = [each["SPDXID"] for each in found["packages"]]
+    assert len(set(ids)) == len(ids)
+    same([each for each in ids if not re.fullmatch(r"SPDXRef-[A-Za-z0-9.-]+", each)], [], "names")
+    for each in found["packages"]:
+        assert {"name", "downloadLocation", "licenseConcluded", "copyrightText"} <= set(each)
+        if "packageFileName" in each:
+            same(each["checksums"][0]["checksumValue"],
+                 hashlib.sha256(files[each["packageFileName"]]).hexdigest(), each["name"])
+    ends = {each[key] for each in found["relationships"] for key in (
+        "spdxElementId", "relatedSpdxElement")}
+    same(ends, {"SPDXRef-DOCUMENT", *ids}, "relations")
+    named = {each["name"]: each["versionInfo"] for each in found["packages"]}
+    same({name: named[name] for name in ("python", "jinja2", "rich", "PyYAML")},
+         {"python": "3.11", "jinja2": "3.1.2", "rich": "13.3.1", "PyYAML": "6.0"}, "what is needed")
+
+
+# The command
+
+
+GIT = """#!/bin/sh
+case "$1 $2" in
+  "rev-parse --show-cdup") cat "{0}/cdup" || exit 128 ;;
+  "status --porcelain") cat "{0}/status" ;;
+  "log -1") echo "{1} {2}" ;;
+  *) exit 9 ;;
+esac
+"""
+DEBS = """#!/bin/sh
+echo "$SOURCE_DATE_EPOCH $(cat installed/lib/arbiter/arbiter/made.json)" >../arbiter_1_all.deb
+"""
+
+
+@pytest.fixture(name="copy")
+def a_copy(scratch):
+    """A copy with stand-ins for Debian's tools and for git."""
+    copy = Copy(os.path.realpath(scratch))
+    for name in ("docs", "examples", "LICENSE-MIT", "LICENSE-APACHE", "CHANGELOG.md"):
+        (shutil.copytree if (ROOT / name).is_dir() else shutil.copy)(
+            ROOT / name, f"{copy.top}/{name}")
+    for name, text in (("dh", DEBS), ("dh_python3", DEBS), ("dpkg-buildpackage", DEBS),
+                       ("git", GIT.format(copy.kit, COMMIT, SECONDS))):
+        copy.write(f"../bin/{name}", text)
+        os.chmod(f"{copy.bin}/{name}", 0o755)
+    copy.write("../kit/cdup", "\n")
+    copy.write("../kit/status", "")
+    return copy
+
+
+def test_build_makes_a_release(copy):
+    """Both are proved, and all files come below a folder that is named from the caller's; a second
+    run gives the same bytes. Packages have the time of the commit, and say of which they are."""
+    os.makedirs(f"{copy.folder}/from")
+    words = [f"{copy.top}/build", "--release"]
+    found = []
+    for name in ("one", "two"):
+        status, out, err = copy.call([*words, name], cwd=f"{copy.folder}/from", seconds=240)
+        same(status, 0, f"./build --release: {err}")
+        folder = Path(f"{copy.folder}/from/{name}")
+        found.append({path.name: path.read_bytes() for path in folder.iterdir()})
+        for each in found[-1]:
+            holds(f"build: made {folder}/{each}\n", out, "what was made")
+    same(copy.proved(), [PROVED, LIBRARY_PROVED], "what was proved")
+    same(*found, "both releases")
+    said = found[0]["arbiter_1_all.deb"].decode()
+    same(said, f'{SECONDS} {{"commit": "{COMMIT}", "kit": "kit 1 logic dac8208d650f15bf"}}\n',
+         "a package")
+    assert json.loads(found[0]["PROVED.json"])["commit"] == COMMIT
+    same((len(found[0]), sorted(os.listdir(f"{copy.folder}/from"))), (8, ["one", "two"]), "files")
+
+
+@pytest.mark.parametrize("why", ["a changed file", "no repository", "below another", "no git"])
+def test_a_release_is_of_a_commit(copy, why):
+    """Otherwise nothing is built, and an installation does not say of which commit it is."""
+    if why == "no git":
+        os.remove(f"{copy.bin}/git")
+    elif why == "no repository":
+        os.remove(f"{copy.kit}/cdup")
+    else:
+        copy.write("../kit/" + ("status" if why == "a changed file" else "cdup"), " M build\n")
+    status, out, err = copy.call(["./build", "--release", "there"])
+    same((status, out, copy.proved()), (2, "", []), why)
+    holds("build: a release is of a commit, without a changed file: see git status\n", err, why)
+    copy.installs("there", why, [PROVED, LIBRARY_PROVED])
+    same(copy.there("there/lib/arbiter/arbiter/made.json"), False, "the file")
+
+
+def test_a_release_needs_debhelper(copy):
+    os.remove(f"{copy.bin}/dh_python3")
+    status, out, err = copy.call(["./build", "--release=there"])
+    same((status, out, copy.proved()), (2, "", []), "./build --release without dh-python")
+    holds("build: dh_python3 is missing: sudo apt-get install -y debhelper dh-python ", err, "why")
