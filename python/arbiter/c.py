@@ -1,4 +1,7 @@
-"""The calls of the C library with their types, of the table in words.py."""
+"""The calls of the C library with their types, of the table in words.py.
+
+ctypes is in Python itself. The lists of Python's `array` have the layout of C's columns.
+"""
 from __future__ import annotations
 
 import ctypes

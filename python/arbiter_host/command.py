@@ -8,7 +8,7 @@ import time
 from collections.abc import Sequence
 from typing import TYPE_CHECKING, NoReturn
 
-from arbiter_host import __version__, helps
+from arbiter_host import helps
 from arbiter_host import options as table
 from arbiter_host.base import names
 from arbiter_host.base.faults import HostFault, NoLibrary, missing_module
@@ -40,8 +40,8 @@ def parser_of_all() -> Parser:
     """The parser of words without a subcommand: it knows the names of all."""
     parser = Parser(prog="arbiterctl", description=helps.ABOUT, epilog=helps.statuses(),
                     formatter_class=helps.Formatter, allow_abbrev=False)
-    parser.add_argument("-V", "--version", action="version", version=f"arbiterctl {__version__}",
-                        help="print the version, and end")
+    parser.add_argument("-V", "--version", action=helps.Version, nargs=0,
+                        help="print the version and what the library is made of, and end")
     commands = parser.add_subparsers(required=True, metavar="COMMAND", prog="arbiterctl")
     for name, summary in SUMMARIES.items():
         commands.add_parser(name, help=summary)

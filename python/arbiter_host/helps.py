@@ -2,10 +2,13 @@
 from __future__ import annotations
 
 import argparse
+import os
 from collections.abc import Iterable, Mapping
+from contextlib import suppress
 from typing import Any
 
-from arbiter_host import options
+from arbiter_host import __version__, options
+from arbiter_host.base.names import shown
 from arbiter_host.sources.register import READERS
 
 ABOUT = ("Plans for the groups of a real host, each accepted by the proved check before it is"
@@ -48,6 +51,31 @@ class Formatter(argparse.HelpFormatter):
             filled.append(part if is_kept else textwrap.fill(part, width, initial_indent=indent,
                                                              subsequent_indent=indent))
         return "\n\n".join(filled)
+
+
+class Version(argparse.Action):
+    """Prints the version, and what is known of how the library was made."""
+
+    def __call__(self, parser: argparse.ArgumentParser, *_: Any) -> None:
+        print(f"arbiterctl {__version__}", *library_made(), sep="\n")
+        parser.exit()
+
+
+def library_made() -> list[str]:
+    """The commit and the kit of an installed library, or whether that of a clone is proved. Nothing
+    is known of one that `ARBITER_LIBRARY` names."""
+    import json  # (no other call asks)
+    from arbiter import found
+    if os.environ.get("ARBITER_LIBRARY"):
+        return []
+    with suppress(OSError, ValueError, KeyError, TypeError):
+        with open(f"{found.PACKAGE}/made.json", encoding="utf-8") as file:
+            made = json.load(file)
+        return [shown(f"commit {made['commit']}; library proved by {made['kit']}")]
+    if not os.path.isfile(f"{found.CLONE}/scripts/current.sh"):
+        return []
+    return ["a clone; its library is proved" if found.of_clone() else
+            "a clone without a proved library; a checked build, which proves nothing, answers"]
 
 
 def statuses() -> str:

@@ -27,7 +27,7 @@ from arbiter_host.base.output import Output
 KINDS = ("script", "toml", "json", "cgroup", "kubernetes", "systemd", "docker", "slurm")
 HOSTS = "hosts"
 ALL = (*KINDS, HOSTS)
-PODS, MEASURED = ("kubernetes",), ("kubernetes", "docker", HOSTS)
+PODS, MEASURED = ("kubernetes", HOSTS), ("kubernetes", "docker", HOSTS)
 WANTS = ("usage", "peak", "p95", "psi", "limit", "request", "busy")
 STATES = ("starved", "throttled", "hurt", "asking", "tasks")
 SORTS = ("lack", "gets", "wants", "weight", "name")
@@ -117,7 +117,7 @@ class Option(NamedTuple):
 TABLE = (
     Option(("-g", "--group"), "group", "choosing", (*SHOWN, "tune"), "these groups and what is"
            " below them: a path, the end of one, a title, or a pattern with `*`; may be said again",
-           "PATTERN", is_many=True, kinds=KINDS,
+           "PATTERN", is_many=True,
            helps={"tune": "only settings of these groups may change (default: all); may be said"
                           " again"}),
     Option(("-n", "--namespace"), "namespace", "choosing", SHOWN, "the pods of a namespace alone;"
@@ -256,7 +256,8 @@ TABLE = (
            " is not the group's", "COLUMN=GROUP", is_many=True, kinds=(),
            used=("file", "folder", "url")),
     Option(("--node",), "node", "source", READ, "the node whose pods or jobs are read", "NAME",
-           kinds=("kubernetes", "slurm"), default=""),
+           kinds=("kubernetes", "slurm"), default="",
+           kinds_of={"top": ("kubernetes", "slurm", "cgroup")}),
     Option(("--node-weights",), "node_weights", "source", READ, "how a node makes weights of"
            " shares: `linear` before runc 1.3.2 and crun 1.23, `log` from these on, `runtime-log`"
            " where only the runtime is new (default linear)", choices=NODE_WEIGHTS,

@@ -84,6 +84,8 @@ class Proposal:
     groups: tuple[tuple[int, str], ...]
     titles: tuple[str, ...]
     settings: tuple[tuple[int, Setting], ...]
+    # Whether an autoscaler sets how many such groups there are.
+    is_scaled: bool = False
 
     @property
     def most(self) -> Fraction:
@@ -111,7 +113,8 @@ class Proposal:
         return {"samples": len(self.use.values), "of": self.use.groups,
                 "span_seconds": None if span is None else float(span),
                 "used_millicpu": float(self.used), "most_millicpu": float(self.most),
-                "throttled": self.is_throttled, "request_millicpu": self.now.request,
+                "throttled": self.is_throttled, "scaled": self.is_scaled,
+                "request_millicpu": self.now.request,
                 "limit_millicpu": self.now.limit,
                 "recommended": {"request_millicpu": self.then.request,
                                 "limit_millicpu": self.then.limit}}
@@ -251,7 +254,8 @@ def proposal(title: str, hosts: Sequence[SeenHost], groups: Sequence[tuple[int, 
         (distinct(one for one, _ in words), distinct(two for _, two in words)), tuple(groups),
         tuple(kind.title(path) for kind, path in kinds), tuple(
             (at, each) for (at, path), (kind, _), own in zip(groups, kinds, words)
-            for each in kind.settings(path, then) if each.value != own[keys.index(each.key)]))
+            for each in kind.settings(path, then) if each.value != own[keys.index(each.key)]),
+        any(kind.is_scaled(path) for kind, path in kinds))
 
 
 def by_owner(hosts: Sequence[SeenHost]) -> dict[str, Use]:

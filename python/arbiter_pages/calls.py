@@ -308,7 +308,7 @@ ROUNDS = (
          "The limits of the next round, from what each leaf used in the last one. Each row keeps"
          " its own limit where the plan gives each leaf its demand or its own limit. A group with"
          " children always does. No leaf is limited above its own limit, nor below its guarantee."
-         " docs/PROVED.md has the rule. Two plans.",
+         " docs/EMBEDDING.md has the rule. Two plans.",
          (HOST, USED_ROWS, HUNGRY,
           room("held", U64, "the limit of the next round in slices", NO_LIMIT, "it has none"),
           room("demands", U64, "1000000 for a hungry leaf, and what it used for another"),
@@ -317,7 +317,7 @@ ROUNDS = (
     Call("serve", "what a scheduler is given in the place of limits",
          "What a scheduler is given for a round in the place of limits. The floor of a row is its"
          " plan where each leaf asks for everything. No amount of a leaf is below its guarantee,"
-         " and all together may be above the capacity. docs/PROVED.md has the rule. Two plans.",
+         " and all together may be above the capacity. docs/PROVED.md has the laws. Two plans.",
          (HOST, USED_ROWS, HUNGRY,
           room("amounts",
                U64, "the plan of the round where that is no less. Else the floor times what the"

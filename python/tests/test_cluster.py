@@ -3,11 +3,15 @@
 `fixtures/cluster.json` is written to the documented format. Each number is worked by hand.
 """
 import json
+import random
+from datetime import datetime
 from pathlib import Path
 
 import fleets
 import pytest
+import trees
 import yaml
+from arbiter_host.sources import pods
 
 FIXTURES = Path(__file__).parent / "fixtures"
 CLUSTER = FIXTURES / "cluster.json"
@@ -45,12 +49,13 @@ def test_pending_pods_are_placed(ctl):
     why = {each["pod"]: each.get("why") for each in found["pending"]}
     assert why["team/job-2"] == "pods before it take what n2 has left"
     assert why["team/huge"] == ("n1: it requests 5000m, and 3500m less the 3200m of others are"
-                                " there, and so 1 more")
+                                " there; 1 more refuse it")
     job = found["pending"][0]
     assert (job["gets_cpus"], job["wants_cpus"], job["lost_cpus"]) == (1, 1, 0)
     out, _ = ctl.run("explain", CLUSTER, *NEEDS)
-    assert "pods that no node has yet: 5, unplaced: 2; by least-loss: the least that" in out
-    assert "team/job-1     1000m  n2" in out and "team/huge      5000m  unplaced" in out
+    assert ("pods that no node has yet: 5, unplaced: 2; the order is arbiterctl's own, neither"
+            " proved nor the scheduler's scores: by least-loss: the least that") in out
+    assert "team/job-1  1000m     n2" in out and "team/huge   5000m     unplaced" in out
 
 
 def test_a_pod_weighs_on_its_class(ctl, folder):
@@ -153,6 +158,53 @@ def test_a_broken_node_is_named(ctl):
     assert "x/p" in out and "good" in out
 
 
+# What a field may be to attack who reads it.
+HOSTILE = (None, True, -1, 10**400, float("nan"), "", "x" * 70000, "\u202e\x1b[31m", "../../etc",
+           "100000000000", "-5m", "9" * 5000, [], {}, [[[]]], {"a": {}})
+
+
+def places(value, at=()):
+    """The ways to each field of JSON."""
+    below = value.items() if isinstance(value, dict) else (
+        enumerate(value) if isinstance(value, list) else ())
+    for key, each in below:
+        yield (*at, key)
+        yield from places(each, (*at, key))
+
+
+def attackers(pods):
+    """A node for each hostile value at each of some fields, with its pod. All names stay."""
+    for number in range(len(HOSTILE) * 5):
+        name, dice = f"bad-{number}", random.Random(number)
+        its, pod = node(name), json.loads(json.dumps(dice.choice(pods)))
+        pod["metadata"]["name"], pod["spec"]["nodeName"] = name, name
+        of = dice.choice((its, pod, pod))
+        *way, last = dice.choice([each for each in places(of) if each[-1] not in (
+            "name", "nodeName", "kind", "metadata", "spec")])
+        for key in way:
+            of = of[key]
+        of[last] = HOSTILE[number % len(HOSTILE)]
+        yield from (its, pod)
+
+
+def test_nodes_that_attack(folder, calls):
+    """Nodes and pods say anything, and one floods its node: each is answered or named in a line,
+    and the others are answered as without them."""
+    items = json.loads(CLUSTER.read_bytes())["items"]
+    pods = [each for each in items if each.get("spec", {}).get("nodeName") == "n1"]
+    flood = [{**pending(f"p{number}"), "status": {}, "spec": {
+        **pending("p")["spec"], "nodeName": "flood"}} for number in range(8300)]
+    bad = list(attackers(pods))
+    (folder / "c.json").write_bytes(cluster(*items, *bad, node("flood"), *flood))
+    found, missing = fleets.asked(folder / "c.json", calls)
+    assert found.keys() | missing.keys() == {"n1", "n2", "flood"} | {
+        each["metadata"]["name"] for each in bad}
+    alone, _ = fleets.asked(CLUSTER, calls)
+    assert {name: found[name] for name in alone} == alone
+    assert "16384" in missing.pop("flood") and len(missing) > 10
+    assert all(why.isprintable() and "Error" not in why for why in missing.values()), missing
+
+
 def test_nodes_that_take_no_such_pod(ctl):
     """Cordons, taints that are not tolerated and labels that are not there keep a pod away."""
     shut, keyed, plain = node("shut"), node("keyed"), node("plain")
@@ -160,12 +212,12 @@ def test_nodes_that_take_no_such_pod(ctl):
     keyed["spec"] = {"taints": [{"key": "gpu", "value": "yes", "effect": "NoSchedule"},
                                 {"key": "soft", "effect": "PreferNoSchedule"}]}
     keyed["metadata"]["labels"] = {"disk": "ssd"}
-    pods = [pending(name) for name in ("any", "equal", "exists", "other", "ssd", "hdd", "all")]
+    waiting = [pending(name) for name in ("any", "equal", "exists", "other", "ssd", "hdd", "all")]
     wishes = {"equal": {"key": "gpu", "value": "yes"}, "other": {"key": "gpu", "value": "no"},
               "exists": {"key": "gpu", "operator": "Exists", "effect": "NoSchedule"},
               "ssd": {"operator": "Exists"}, "hdd": {"operator": "Exists"},
               "all": {"key": "gpu", "operator": "Exists", "effect": "NoExecute"}}
-    for each in pods:
+    for each in waiting:
         name = each["metadata"]["name"]
         if name in wishes:
             each["spec"]["tolerations"] = [wishes[name]]
@@ -173,13 +225,14 @@ def test_nodes_that_take_no_such_pod(ctl):
             each["spec"]["nodeSelector"] = {"disk": "hdd" if name == "hdd" else "ssd"}
     # One pod a run, so that none takes the room of another.
     found = {}
-    for each in pods:
+    for each in waiting:
         data = cluster(shut, keyed, plain, each)
         (one,) = planned(ctl, "-", given=data)[0]["pending"]
         found[each["metadata"]["name"]] = one["host"] or one["why"]
-    none = "keyed: it does not tolerate the taint gpu, and so 2 more"
+    none = "keyed: it does not tolerate the taint gpu; 2 more refuse it"
     assert found == {"any": "plain", "equal": "keyed", "exists": "keyed", "other": none,
-                     "ssd": "keyed", "hdd": "keyed: the node has no label disk=hdd, and so 2 more",
+                     "ssd": "keyed",
+                     "hdd": "keyed: the node has no label disk=hdd; 2 more refuse it",
                      "all": none}
 
 
@@ -239,3 +292,142 @@ def test_the_page_has_the_pods(ctl, folder):
     ctl.run("explain", CLUSTER, *NEEDS, "-o", f"html={folder / 'c.html'}")
     text = (folder / "c.html").read_text()
     assert "Pods that no node has yet" in text and "team/huge" in text
+
+
+# As kubectl has it
+
+def running(name, node_, request="100m", namespace="x", owner=(), **metadata):
+    """A pod of a node that some object has made."""
+    kind, maker = owner or ("", "")
+    made = {"ownerReferences": [{"kind": kind, "name": maker, "controller": True}]} if kind else {}
+    each = pending(name, request, **{"namespace": namespace, **made, **metadata})
+    each["spec"]["nodeName"], each["status"]["phase"] = node_, "Running"
+    return each
+
+
+SHOP = (
+    node("n1"), node("n2"), node("n3"),
+    running("web-66f-bcdfg", "n1", "300m", "shop", ("ReplicaSet", "web-66f"),
+            labels={"app": "web", "pod-template-hash": "66f"}),
+    running("web-66f-hjklm", "n2", "300m", "shop", ("ReplicaSet", "web-66f"),
+            labels={"app": "web", "pod-template-hash": "66f"}),
+    running("db-0", "n2", "500m", "shop", ("StatefulSet", "db"), labels={"app": "db"}),
+    running("web-0", "n3", "200m", "other", ("StatefulSet", "web"), labels={"app": "web"}),
+    {"kind": "HorizontalPodAutoscaler", "metadata": {"namespace": "shop", "name": "any"},
+     "spec": {"scaleTargetRef": {"kind": "Deployment", "name": "web"}}},
+    pending("waits", "100m", namespace="shop", labels={"app": "web"}),
+    pending("else", "100m", namespace="other", labels={"app": "web"}))
+
+
+@pytest.mark.parametrize("words, hosts, served, loads, waiting", [
+    ((), ["n1", "n2", "n3"], 1.3, ["Deployment shop/web", "StatefulSet other/web",
+                                   "StatefulSet shop/db"], ["shop/waits", "other/else"]),
+    (("-n", "shop"), ["n1", "n2"], 1.1, ["Deployment shop/web", "StatefulSet shop/db"],
+     ["shop/waits"]),
+    (("-l", "app=web"), ["n1", "n2", "n3"], 0.8, ["Deployment shop/web", "StatefulSet other/web"],
+     ["shop/waits", "other/else"]),
+    (("-n", "shop", "-l", "app=db"), ["n2"], 0.5, ["StatefulSet shop/db"], []),
+    (("-g", "shop/web-*/c"), ["n1", "n2"], 0.6, ["Deployment shop/web"], []),
+])
+def test_groups_are_chosen_over_all_nodes(ctl, words, hosts, served, loads, waiting):
+    """Requests of 300, 300, 500 and 200 thousandths. The plan is that of the whole nodes."""
+    found, err = planned(ctl, "-", *words, given=cluster(*SHOP))
+    assert [host["host"] for host in found["hosts"]] == hosts and "left out" not in err
+    assert found["fleet"]["served_cpus"] == served == pytest.approx(
+        sum(each["served_cpus"] for each in found["fleet"]["workloads"]))
+    assert [each["workload"] for each in found["fleet"]["workloads"]] == loads
+    assert [each["workload"] for each in found["fleet"]["workloads"] if each["scaled"]] == (
+        ["Deployment shop/web"] if "Deployment shop/web" in loads else [])
+    assert [each["pod"] for each in found.get("pending", [])] == waiting
+
+
+def test_workloads_are_told(ctl):
+    out, _ = ctl.run("explain", "-", *NEEDS, "-n", "shop", given=cluster(*SHOP))
+    assert "of -n shop alone: hosts that have some: 2\n" in out
+    assert "demands: requests; weights: of requests (linear)\n" in out
+    rows = [line.split() for line in out.split("\n") if line.startswith(("Deployment", "Stateful"))]
+    assert rows == [["Deployment", "shop/web", "(HPA)", "600m", "2", "2", "0.60", "0.60", "0"],
+                    ["StatefulSet", "shop/db", "500m", "1", "1", "0.50", "0.50", "0"]]
+
+
+def test_a_choice_that_is_none(ctl):
+    for words, status in ((("-n", "nowhere"), 6), (("-l", "app"), 2), (("-g", "x/none"), 6)):
+        out, err = ctl.run("explain", "-", *NEEDS, *words, given=cluster(*SHOP), status=status)
+        assert out == "" and words[1] in err
+
+
+def test_a_change_of_chosen_groups(ctl):
+    """Busy, web on n2 has a weight of 12 beside 20 of db: raised to 500m both have 1000m of 2000m.
+    """
+    words = ("diff", "-", "--set", "shop/web-*/c.request=500m", "--want", "busy", *NEEDS)
+    out, _ = ctl.run(*words, "-l", "app=web", "-o", "json", given=cluster(*SHOP))
+    found = json.loads(out)["hosts"]
+    assert [(each["host"], each["before"]["served"], each["after"]["served"])
+            for each in found] == [("n1", 2000, 2000), ("n2", 750, 1000), ("n3", 2000, 2000)]
+
+
+def test_jobs_of_a_cron_job_are_its_own():
+    """The minute of the Job's name is 2026-01-05T10:00Z: of a pod of the next day it is no mark."""
+    def owner(job, made):
+        return pods.owner_of(running(f"{job}-abcde", "n", owner=("Job", job),
+                                     creationTimestamp=made))
+
+    minute = int(datetime.fromisoformat("2026-01-05T10:00:00+00:00").timestamp()) // 60
+    assert owner(f"report-{minute}", "2026-01-05T10:00:03Z") == "CronJob x/report"
+    assert owner(f"report-{minute}", "2026-01-07T10:00:03Z") == ""
+    assert owner("report-12345678", "2026-01-05T10:00:03Z") == owner("report", "") == ""
+    assert pods.names_by("CronJob x/report").fullmatch(f"report-{minute}-bcdfg")
+
+
+def test_recommend_tells_what_an_autoscaler_drives(ctl, folder):
+    (folder / "c.json").write_bytes(cluster(*SHOP))
+    (folder / "top").write_text("NAMESPACE POD NAME CPU(cores)\nshop web-66f-bcdfg c 100m\n"
+                                "shop db-0 c 100m\n")
+    words = ("recommend", folder / "c.json", "--used", folder / "top", "-n", "shop")
+    found = json.loads(ctl.run(*words, "-o", "json")[0])["containers"]
+    assert {each["container"]: each["scaled"] for each in found} == {
+        "Deployment shop/web/c": True, "StatefulSet shop/db/c": False}
+    out, _ = ctl.run(*words)
+    assert "Deployment shop/web/c (2) (HPA)\n" in out and "(HPA) an autoscaler sets how" in out
+
+
+def test_a_patch_of_a_cron_job(ctl, folder):
+    """It is of the template of its Jobs."""
+    minute = int(datetime.fromisoformat("2026-01-05T10:00:00+00:00").timestamp()) // 60
+    made = running(f"report-{minute}-bcdfg", "n1", owner=("Job", f"report-{minute}"),
+                   creationTimestamp="2026-01-05T10:00:03Z")
+    (folder / "p.json").write_bytes(cluster(node("n1"), made))
+    out, _ = ctl.run("apply", folder / "p.json", "--set", "x/report-*/c.request=500m", "-o",
+                     "kubectl")
+    assert yaml.safe_load(out) == {
+        "apiVersion": "batch/v1", "kind": "CronJob", "metadata": {"name": "report",
+                                                                  "namespace": "x"},
+        "spec": {"jobTemplate": {"spec": {"template": {"spec": {"containers": [
+            {"name": "c", "resources": {"requests": {"cpu": "500m"}}}]}}}}}}
+
+
+@pytest.mark.parametrize("driver", ["systemd", "cgroupfs"])
+def test_pods_and_their_tree_meet(ctl, folder, driver):
+    """A pod of 100m has 102 shares and so a weight of 4, its class too; kubepods has 2048 and 79.
+    In the tree the container has one of 9, and the pause container is of the tree alone."""
+    uid, ids = "0f-1", ("a" * 64, "b" * 64)
+    tops = {"systemd": ("kubepods.slice/kubepods-burstable.slice",
+                        "kubepods-burstable-pod0f_1.slice", "cri-containerd-{}.scope"),
+            "cgroupfs": ("kubepods/burstable", "pod0f-1", "{}")}
+    above, pod, scope = tops[driver]
+    trees.root2(folder / "t")
+    for part, weight in ((above.split("/")[0], 79), (above, 4), (f"{above}/{pod}", 4),
+                         (f"{above}/{pod}/{scope.format(ids[0])}", 9),
+                         (f"{above}/{pod}/{scope.format(ids[1])}", 1)):
+        trees.group2(folder / "t" / part, weight)
+    each = running("p", "n1", uid=uid)
+    each["status"]["containerStatuses"] = [{"name": "c", "containerID": f"containerd://{ids[0]}"}]
+    (folder / "p.json").write_bytes(cluster(node("n1"), each))
+    out, _ = ctl.run("diff", folder / "p.json", folder / "t", "--want", "limit", "-o", "json")
+    weights = [{group["group"]: group["weight"] for group in json.loads(out)[when]["groups"]}
+               for when in ("before", "after")]
+    both, path = set(weights[0]) & set(weights[1]), "kubepods/burstable/x:p"
+    assert both == {".", "kubepods", "kubepods/burstable", path, f"{path}/c"}
+    assert [weight[f"{path}/c"] for weight in weights] == [4, 9]
+    assert {name: weights[1][name] for name in both - {f"{path}/c"}} == {
+        name: weights[0][name] for name in both - {f"{path}/c"}}

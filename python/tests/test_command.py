@@ -220,6 +220,22 @@ def test_diff_of_pods_and_their_node(ctl, files):
     assert "1.450 of 4.000 CPUs" in ctl.run("diff", *files, *HALF)[0]
 
 
+@pytest.mark.parametrize("form", ["json", "html"])
+def test_diff_by_change_in_each_form(ctl, form):
+    """The groups of each plan keep their order; those that differ stand by their change."""
+    plain, by_change = (ctl.run("diff", PODS, NODE, "--want", "busy", *HALF, "-o", form, *words)[0]
+                        for words in ([], ["--sort", "change"]))
+    if form == "html":
+        assert 'data-flat aria-label="Before and after"' in by_change
+        return
+    plain, by_change = json.loads(plain), json.loads(by_change)
+    assert [by_change[key] for key in ("before", "after")] == [plain["before"], plain["after"]]
+    changes = [abs(each["change_millicpu"]) for each in by_change["changed"]]
+    assert len(changes) > 2 and changes == sorted(changes, reverse=True)
+    assert {each["group"] for each in by_change["changed"]} == {
+        each["group"] for each in plain["changed"]}
+
+
 def test_diff_of_two_nodes(ctl, folder):
     """Two pairs are BEFORE and AFTER."""
     found = json.loads(NODE.read_bytes())

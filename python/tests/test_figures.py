@@ -1,5 +1,6 @@
 """Figures of answers that a stranger reads: none comes from rounding, and equals look equal."""
 import json
+import os
 import random
 import re
 from fractions import Fraction
@@ -14,7 +15,8 @@ from arbiter_host.base.plan import plan
 from arbiter_host.sources import kubernetes
 from arbiter_host.sources.source_options import SourceOptions
 
-NODES = 100
+# Random nodes, in so many tests; more by `NODES=2000 pytest ..`.
+NODES, PARTS = int(os.environ.get("NODES", "100")), 20
 # Ways to write thousandths of a CPU.
 SPELLINGS = (lambda m: f"{m}m", lambda m: f"{m / 1000:.3f}", lambda m: f"{m}e-3",
              lambda m: f"{m * 1000}u", lambda m: m // 1000 if m % 1000 == 0 else f"{m}m")
@@ -158,17 +160,18 @@ def random_node(chance):
     return items(node(cpus, allocatable), *pods), total, cpus
 
 
-@pytest.mark.parametrize("seed", range(NODES))
-def test_on_a_node_whose_requests_fit_no_group_is_short(calls, engine, seed):
+@pytest.mark.parametrize("part", range(PARTS))
+def test_on_a_node_whose_requests_fit_no_group_is_short(calls, engine, part):
     """Requests are added up here by whole thousandths."""
-    data, total, cpus = random_node(random.Random(seed))
-    model = kubernetes.read([("F", data)], calls, SourceOptions())
-    found = plan(engine, model)
-    assert found.model.host.processors == cpus
-    assert found.thousandths(found.root.gets) == found.thousandths(found.root.want) == total
-    assert all(each.gets == each.want for each in found.groups)
-    by_leaf = sum(found.thousandths(each.gets) for each in found.groups if not each.children)
-    assert by_leaf == total
+    for seed in range(part, NODES, PARTS):
+        data, total, cpus = random_node(random.Random(seed))
+        model = kubernetes.read([("F", data)], calls, SourceOptions())
+        found = plan(engine, model)
+        assert found.model.host.processors == cpus, seed
+        assert found.thousandths(found.root.gets) == found.thousandths(found.root.want) == total
+        assert all(each.gets == each.want for each in found.groups), seed
+        by_leaf = sum(found.thousandths(each.gets) for each in found.groups if not each.children)
+        assert by_leaf == total, seed
 
 
 # What is asked

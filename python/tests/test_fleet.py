@@ -318,7 +318,7 @@ def test_what_is_one_host(folder):
     ("diff", "a", "--set", "x.CPUWeight=0"), ("diff", "a", "--set", "x.cpus=-1"),
     ("diff", "a", "--set", "x.cpu-shares=1"), ("diff", "a", "a", "--set", "x.weight=1"),
     ("place", "a"), ("replay", "a"), ("explain", "a", "--workers", "-1"),
-    ("explain", "a", "--workers", "1", "--dask", "tcp://x"), ("explain", "a", "-g", "x"),
+    ("explain", "a", "--workers", "1", "--dask", "tcp://x"),
     ("explain", "a", "--used", "a/host-00000.script"), ("explain", "a", "-o", "svg")])
 def test_words_that_are_refused(folder, monkeypatch, capsys, words):
     """Status 2, before anything is asked of a host."""
@@ -343,7 +343,8 @@ def test_the_page_is_whole(ctl, fleet):
 
 
 def test_the_page_says_what_was_changed(ctl, folder):
-    """And what is planned of all hosts: they have 36 CPUs. Columns of words begin at the left."""
+    """And what is planned of all hosts, once where it is the same. Columns of words begin at the
+    left."""
     fleets.make(folder / "a", 2, 4)
     words = ("diff", folder / "a", "--set", "t0/g1.weight=900", "--workers", "0", "-o")
     page, _ = ctl.run(*words, "html")
@@ -352,8 +353,8 @@ def test_the_page_says_what_was_changed(ctl, folder):
     assert "The change: <code>t0/g1.weight=900</code>" in page
     assert [(key, text) for key, text in re.findall("<dt>(.*?)</dt><dd>(.*?)</dd>", page)
             if key != "left"] == [
-        each for when in ("before", "after") for each in (
-            ("planned", f"{told['fleet'][f'{when}_cpus']:.2f}"), ("capacity", f"{all_}.00"))]
+        each for cpus in dict.fromkeys(told["fleet"][key] for key in ("before_cpus", "after_cpus"))
+        for each in (("planned", f"{cpus:.2f}"), ("capacity", f"{all_}.00"))]
     left = re.findall('<th scope="col" data-head="([a-z ]+)" class="left">', page)
     assert {"host", "group", "gain most", "lose most"} >= set(left) >= {"host"}
     assert "change" not in left and "served" not in left

@@ -1,6 +1,8 @@
 """Workers of many hosts: who can reach them, what their end costs, and the workers of Dask."""
 import json
+import multiprocessing
 import os
+import shutil
 import signal
 import subprocess
 import sys
@@ -13,7 +15,9 @@ import pytest
 import sockets
 import ways
 from arbiter_host.base.faults import HostFault
-from arbiter_host.fleet import pool, work
+from arbiter_host.fleet import pool, questions, work
+from arbiter_host.fleet.work import Action, Job
+from arbiter_host.sources.source_options import SourceOptions
 from places import PACKAGE
 
 NOBODY = 65534
@@ -196,6 +200,34 @@ def test_workers_that_all_die(hosts, calls, by_name, monkeypatch):
         fleets.asked(hosts(*(f"die-{number}" for number in range(4))), calls, workers=2)
 
 
+SILENT = "no worker answered anything in 600 seconds"
+
+
+def silent_where(monkeypatch, is_over):
+    """Has a second stand for the ten minutes of silence, where a test knows that nothing comes."""
+    honest = pool.wait
+
+    def wait(under, seconds, how):
+        assert seconds == pool.MOST_SILENT == 600
+        return honest(under, 1 if is_over(under) else seconds, how)
+
+    monkeypatch.setattr(pool, "wait", wait)
+
+
+@pytest.mark.parametrize("hung", [1, 3], ids=["one", "more than the workers"])
+def test_workers_that_hang(hosts, calls, by_name, monkeypatch, hung):
+    """Each host is answered or named in time, and no worker is left."""
+    silent_where(monkeypatch, lambda under: hung > 1 or {
+        host.name for host in under.values()} == {"hang-0"})
+    hanging = {f"hang-{number}" for number in range(hung)}
+    others = {f"other-{number}" for number in range(9)}
+    found, missing = fleets.asked(hosts(*hanging, *others), calls, workers=2)
+    named = hanging if hung == 1 else hanging | others
+    assert missing == dict.fromkeys(named, SILENT)
+    assert found.keys() == hanging.union(others) - named
+    assert multiprocessing.active_children() == []
+
+
 def test_an_exception_is_told_of_its_host(hosts, calls, by_name):
     found, missing = fleets.asked(hosts("raise", "good"), calls, workers=1)
     assert missing == {"raise": "its worker: ValueError: \x1b[31m"} and found.keys() == {"good"}
@@ -345,6 +377,19 @@ def test_a_scheduler_that_goes_away(ctl, folder, site):
     assert {each["why"] for each in found["not_answered"]} == {pool.GONE}
 
 
+def test_a_worker_of_dask_that_hangs(folder, site, calls, monkeypatch):
+    """The hosts of others are answered, and those that it keeps are named in time."""
+    seen = []
+    silent_where(monkeypatch, lambda under: seen.append(len(under)) or len(seen) > 3)
+    fleet = fleets.make(folder / "hosts", 24, 4)
+    site.add("hung", "honest")
+    job, planners = Job(Action.PLAN, SourceOptions(), library=calls.path), questions.Planners(
+        dask=site.address)
+    found, missing = questions.asked(planners, job, fleets.of(fleet))
+    assert found and len(found) + len(missing) == 24
+    assert missing and {why for _, why in missing} == {SILENT}
+
+
 def test_a_scheduler_without_workers(ctl, folder, site):
     hosts = fleets.make(folder / "hosts", 2, 4)
     _, err = ctl.run("explain", hosts, "--dask", site.address, status=1)
@@ -371,6 +416,8 @@ def certificate(folder, name):
 def test_a_scheduler_with_tls(ctl, folder):
     """As docs/TOOLS.md sets it: without a certificate no host is answered."""
     pytest.importorskip("distributed")
+    if not shutil.which("openssl"):
+        pytest.skip("no openssl")
     certificate(folder, "ca")
     secured = {"DASK_DISTRIBUTED__COMM__REQUIRE_ENCRYPTION": "True",
                "DASK_DISTRIBUTED__COMM__TLS__CA_FILE": str(folder / "ca.pem")}

@@ -63,7 +63,7 @@ def test_every_dest_has_its_value():
     ("explain", ["--read", "5x1s"], "script", "--read: it has no effect on "),
     ("explain", ["--strict"], "kubernetes", "--strict: it has no effect on "),
     ("explain", ["--workers", "0"], "toml", "--workers: it has no effect on "),
-    ("explain", ["-g", "web"], "hosts", "--group: it has no effect on many hosts"),
+    ("explain", ["--sort", "lack"], "hosts", "--sort: it has no effect on many hosts"),
     ("explain", ["-n", "prod"], "docker", "--namespace: it has no effect on "),
     ("explain", ["--used", "f"], "systemd", "--used: it has no effect on "),
     ("explain", ["--range", "7d"], "kubernetes", "--range: it needs --used with a url"),

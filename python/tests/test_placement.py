@@ -217,7 +217,7 @@ def test_data_of_explain(engine):
     """A group as data is firm or has a range in all units, and the host has the grain."""
     model = host(2, *((each, 100, 1000, 1) for each in "abc"))
     found = plan(engine, model)
-    data = explain.with_placement(found, explain.as_data(found), placement.outlook(model))
+    data = explain.as_data(found, explain.View(), placement.outlook(model))
     assert data["placement"] == {"not_known": None, "grain": 0.6667}
     group = data["groups"][1]["placement"]
     assert group["firm"] is False
@@ -241,4 +241,4 @@ def with_unknown(engine):
     """The data of a host with a group whose tasks are not known."""
     model = host(2, ("a", 100, 2000, None), ("b", 1, 2000, 2))
     found = plan(engine, model)
-    return explain.with_placement(found, explain.as_data(found), placement.outlook(model))
+    return explain.as_data(found, explain.View(), placement.outlook(model))

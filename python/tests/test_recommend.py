@@ -51,13 +51,13 @@ def test_who_is_short_and_what_is_guaranteed(ctl, folder):
     """900m and 600m and 15% are 1035m and 690m: 1059 and 706 shares, weights 41 and 27.
 
     Of 1000 slices these are 603 and 397. With weights 4 and 12 b has its 600 and a the rest. Where
-    all others ask, best effort takes 14, and pause containers 1 of 42 and 1 of 28 parts.
+    all others ask, best effort takes 14, pause containers nothing, and the last slice is a tie.
     """
     words = (node_of(folder, "1"), "--used", top_of(folder, a="900m", b="600m"))
     by, found, err = recommended(ctl, *words)
     assert [amounts(by[name]) for name in ("x/a/c", "x/b/c")] == [(1035, None), (690, None)]
     assert [(each["gets_now_millicpu"], each["gets_millicpu"], each["guaranteed_millicpu"])
-            for each in by.values()] == [(400, 603, 581), (600, 397, 377)]
+            for each in by.values()] == [(400, 603, 595), (600, 397, 391)]
     assert (found["requests_millicpu"], found["recommended_requests_millicpu"],
             found["allocatable_millicpu"]) == (400, 1725, 1000)
     assert "the pods request 1725m of the 1000m that the node has for them" in err
@@ -67,7 +67,7 @@ def test_who_is_short_and_what_is_guaranteed(ctl, folder):
     assert "short when each uses this at once: 2 (x/a/c, x/b/c)" in out
     assert "requests of all pods: 400m now, 1725m then, of 1000m that the node has" in out
     assert out.split("\n")[-2].split() == ["1", "600m", "600m", "300m", "690m", "-", "-", "397m",
-                                           "377m", "x/b/c"]
+                                           "391m", "x/b/c"]
 
 
 def test_what_is_proposed_can_be_compared(ctl, folder):

@@ -4,6 +4,7 @@ import json
 import os
 import signal
 import sys
+import time
 from pathlib import Path
 
 import pytest
@@ -98,6 +99,18 @@ def test_names_of_a_cluster(ctl, tools, folder):
                      "--want", "busy", "--read", "2x50ms", "--alert", "*/nginx:lack>1m", "-o",
                      "json", status=5)
     assert json.loads(out)["alerts"][0]["group"] == NAMED
+    assert not any("fieldSelector" in words[-1] for words in tools())
+
+
+def test_names_of_a_node(ctl, tools, folder):
+    """With --node `top` asks for the pods of one node alone. Without a cluster it has no effect."""
+    from test_top import tree_of_pods
+    words = ("top", tree_of_pods(folder / "t"), "--cpus", "1", "--read", "2x50ms", "--node", "n1")
+    ctl.run(*words, "--pods", "k8s://", "-o", "json")
+    assert tools() and all("n1" in each[-1] for each in tools())
+    for pods in ((), ("--pods", FIXTURES / "pods.json")):
+        _, err = ctl.run(*words, *pods, status=2)
+        assert "--node: of a tree it needs --pods k8s://" in err
 
 
 def test_containers_of_docker(ctl, tools):
@@ -186,3 +199,13 @@ def test_a_server_that_never_ends(monkeypatch):
     with pytest.raises(HostFault, match="5 pages"):
         services.RunningService("k8s://").source()
     assert len(asked) == 5
+
+
+def test_a_server_that_gives_pages_slowly(monkeypatch):
+    """Each page in time, and the list never: one deadline is over all pages."""
+    assert services.MOST_SECONDS == 600
+    monkeypatch.setattr(services, "MOST_SECONDS", 0.5)
+    page = b'{"items": [], "metadata": {"continue": "x"}}'
+    monkeypatch.setattr(services, "printed", lambda _: time.sleep(0.1) or page)
+    with soon(), pytest.raises(HostFault, match="/api/v1/nodes: no whole list in 0.5 seconds"):
+        services.RunningService("k8s://").source()

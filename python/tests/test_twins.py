@@ -9,7 +9,8 @@ import reading
 import twins
 from arbiter import Host
 from arbiter_host.base.demands import mean
-from arbiter_host.base.plan import plan
+from arbiter_host.base.faults import HostFault
+from arbiter_host.base.plan import guarantees, plan
 from arbiter_host.sources import prometheus, usage
 
 SEEDS, MANY = range(20), 100
@@ -232,3 +233,66 @@ def test_series(seed):
     assert found == twins.container_use(series)
     assert {key: mean(list(each.values())) for key, each in found.items()}.keys() == {
         (labels["namespace"], labels["pod"], "c") for labels, _ in series}
+
+
+# Labels that tell clusters, scrapes and servers apart, or nobody knows what.
+APART = ("job", "cluster", "prometheus", "prometheus_replica", "replica", "tenant", "monitor",
+         "any", "instance", "node")
+
+
+def random_series(chance, kind):
+    """Series of one container, in minutes: parts of it by CPU, made anew by id, one use that two
+    scrapes tell, or two containers of one name that run at once."""
+    base = {"namespace": "n", "pod": "p", "container": "c", "id": "/a", "node": "n1", "job": "k"}
+    many, last = chance.randint(2, 3), chance.randint(8, 30)
+    apart = chance.choice(APART)
+    more = {"cpus": lambda at: {"cpu": f"cpu{at:02}"},
+            "anew": lambda at: {"id": f"/{at}", chance.choice(("node", "instance")): f"h{at}"},
+            "scrapes": lambda at: {apart: f"v{at}"},
+            "homes": lambda at: {"id": f"/{at}", "node": f"h{at}"}}[kind]
+    # (of what ends the server shows the last value for up to five minutes)
+    spans = {"anew": lambda at: (at * last, at * last + last + chance.randint(0, 5))}.get(
+        kind, lambda at: (0, last))
+    return [(base | more(at), {60.0 * minute: str(chance.randint(1, 10**6) / 10**6)
+                               for minute in range(*spans(at))}) for at in range(many)]
+
+
+@pytest.mark.parametrize("kind, is_one", [("cpus", True), ("anew", True), ("scrapes", False),
+                                          ("homes", False)])
+def test_series_whose_labels_differ(kind, is_one):
+    """Parts are added up exactly. What may be one use twice is refused with a selector as the
+    advice, and never with a sum."""
+    chance = random.Random(kind)
+    for _ in range(200):
+        series = random_series(chance, kind)
+        metrics = [prometheus.Metric(labels, values) for labels, values in series]
+        if is_one:
+            history = prometheus.history_of(metrics, "U")
+            found = {float(each.name): Fraction(cell) for each in history.samples
+                     for cell in each.cells.values()}
+            assert {("n", "p", "c"): found} == twins.container_use(series)
+            continue
+        with pytest.raises(HostFault) as fault:
+            prometheus.history_of(metrics, "U")
+        words, differ = fault.value.message, {
+            key for labels, _ in series for key in labels if labels[key] != series[0][0].get(key)}
+        assert "may be one use twice" in words and "sum" not in words
+        assert any(f'{{{key}="' in words for key in differ) or "max by" in words
+
+
+@pytest.mark.parametrize("seed", SEEDS)
+def test_guarantees_of_pods(calls, engine, seed):
+    """Where the limits of all pods fit into the node, each container is guaranteed all that it
+    wants: pause containers take nothing from theirs."""
+    chance = random.Random(seed)
+    pods, limits = [], [chance.randint(10, 800) for _ in range(chance.randint(1, 12))]
+    for at, limit in enumerate(limits):
+        amounts = {"requests": {"cpu": f"{chance.randint(1, limit)}m"},
+                   "limits": {"cpu": f"{limit}m"}}
+        pods.append({"kind": "Pod", "metadata": {"namespace": "n", "name": f"p{at}"},
+                     "spec": {"containers": [{"name": "c", "resources": amounts}]}})
+    data = json.dumps({"kind": "List", "items": [node(16), *pods]}).encode()
+    made = plan(engine, reading.pods([("F", data)], Host(16, 1000000, 1000), calls))
+    own = [each for each in made.groups[1:] if each.path.endswith("/c")]
+    assert len(own) == len(pods)
+    assert guarantees(made, own) == [each.want for each in own]

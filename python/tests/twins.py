@@ -150,6 +150,106 @@ def groups_of_pods(pods, node, conversion):
     return found
 
 
+def whole_number(word):
+    """A label's value as Go's ParseInt reads it; None for no number."""
+    sign, digits = (word[0], word[1:]) if word[:1] in ("-", "+") else ("", word)
+    if not digits or any(each not in "0123456789" for each in digits):
+        return None
+    return int(sign + digits)
+
+
+def matches(requirement, labels):
+    """A requirement of a node selector ("Operators", labels.Requirement)."""
+    operator, values = requirement["operator"], requirement.get("values", [])
+    has = requirement["key"] in labels
+    value = labels.get(requirement["key"], "")
+    if operator == "Exists":
+        return has
+    if operator == "DoesNotExist":
+        return not has
+    if operator == "In":
+        return has and value in values
+    if operator == "NotIn":
+        return not has or value not in values
+    mine, (theirs,) = whole_number(value), map(whole_number, values)
+    if not has or mine is None or theirs is None:
+        return False
+    return mine > theirs if operator == "Gt" else mine < theirs
+
+
+def tolerates(toleration, taint):
+    """Whether a toleration matches a taint ("Taints and Tolerations")."""
+    if toleration.get("effect") and toleration["effect"] != taint["effect"]:
+        return False
+    if toleration.get("key") and toleration["key"] != taint["key"]:
+        return False
+    if toleration.get("operator", "Equal") == "Exists":
+        return True
+    return bool(toleration.get("key")) and toleration.get("value", "") == taint.get("value", "")
+
+
+def takes(node, pod):
+    """Whether the scheduler puts a pod on a node, whatever both have of resources. kubelet refuses
+    a pod of another operating system; one that names none is of Linux."""
+    spec, labels = pod["spec"], node["metadata"].get("labels", {})
+    taints = list(node["spec"].get("taints", []))
+    if node["spec"].get("unschedulable"):
+        taints.append({"key": "node.kubernetes.io/unschedulable", "effect": "NoSchedule"})
+    for taint in taints:
+        if taint["effect"] != "PreferNoSchedule" and not any(
+                tolerates(each, taint) for each in spec.get("tolerations", [])):
+            return False
+    if spec.get("schedulingGates"):
+        return False
+    if any(labels.get(key) != value for key, value in spec.get("nodeSelector", {}).items()):
+        return False
+    needed = spec.get("affinity", {}).get("nodeAffinity", {}).get(
+        "requiredDuringSchedulingIgnoredDuringExecution")
+    terms = needed["nodeSelectorTerms"] if needed else []
+    fits = [all(matches(each, labels) for each in term.get("matchExpressions", []))
+            and all(matches(each, {"metadata.name": node["metadata"]["name"]})
+                    for each in term.get("matchFields", []))
+            for term in terms if term.get("matchExpressions") or term.get("matchFields")]
+    if needed and not any(fits):
+        return False
+    system = labels.get("kubernetes.io/os")
+    named = {each["key"] for term in terms for each in term.get("matchExpressions", [])}
+    named |= spec.get("nodeSelector", {}).keys()
+    own = spec.get("os", {}).get("name") or (
+        None if "kubernetes.io/os" in named else "linux")
+    return not (system and own and system != own)
+
+
+def requests_of(pod):
+    """Requests of a pod by resource, of CPU in thousandths, of others in whole units: those of its
+    containers, of it as a whole where it has such, and its overhead."""
+    spec, found = pod["spec"], {"pods": 1}
+    raw = [*spec.get("initContainers", []), *spec["containers"]]
+    kinds = {kind for part in (spec, *raw) for amounts in part.get("resources", {}).values()
+             for kind in amounts} | spec.get("overhead", {}).keys()
+    for kind in kinds:
+        scale = 1000 if kind == "cpu" else 1
+
+        def asked(resources, kind=kind, scale=scale):
+            word = resources.get("requests", {}).get(kind, resources.get("limits", {}).get(kind))
+            return None if word is None else -int(-quantity(word) * scale // 1)
+
+        sidecars, most = 0, 0
+        for part in spec.get("initContainers", []):
+            value = asked(part.get("resources", {})) or 0
+            most = max(most, sidecars + value)
+            sidecars += value if part.get("restartPolicy") == "Always" else 0
+        total = max(most, sidecars + sum(asked(part.get("resources", {})) or 0
+                                         for part in spec["containers"]))
+        own = spec.get("resources", {})
+        is_said = kind in own.get("requests", {}) or not any(
+            asked(part.get("resources", {})) is not None for part in raw)
+        whole = asked(own) if is_said else None
+        over = asked({"requests": spec.get("overhead", {})}) or 0
+        found[kind] = (total if whole is None else whole) + over
+    return {kind: amount for kind, amount in found.items() if amount}
+
+
 # docker
 
 def docker(config):

@@ -1,7 +1,7 @@
 """Differences between two plans, from the first to the second."""
 from __future__ import annotations
 
-from collections.abc import Iterator
+from collections.abc import Callable, Iterator
 from dataclasses import dataclass
 from fractions import Fraction
 from typing import Any
@@ -10,10 +10,11 @@ from arbiter_host.answers import explain
 from arbiter_host.answers.explain import View
 from arbiter_host.base import text
 from arbiter_host.base.names import cut, short, shown, tail
+from arbiter_host.base.output import Styled
 from arbiter_host.base.plan import Plan, PlannedGroup
-from arbiter_host.base.text import WIDE, Reasoned
-
-HEADS = ("gets", "then", "change", "wants", "then")
+from arbiter_host.base.tables import (PAGES, TEXT, Column, Fitted, Table, TableAnswer,
+                                      fact, plain)
+from arbiter_host.base.text import WIDE
 
 
 def facts(plan: Plan, group: PlannedGroup | None) -> tuple[Any, ...] | None:
@@ -68,13 +69,15 @@ class Pair:
             return f"only before: {before}" if after is None else f"only after: {after}"
         return after if before == after or not has_before else f"{after} (before: {before})"
 
-    def row(self, view: View) -> Reasoned:
-        forms = [self.reason(False, False)]
-        if view.width >= WIDE:
-            whole = self.reason(True, True)
-            forms = [whole, explain.starred(whole), self.reason(False, True), *forms]
-        name = "the host (.)" if self.path == "." else short(shown(self.path))
-        return Reasoned(self.cells(view.unit), tuple(forms), name)
+    def reasons(self, view: View) -> list[str]:
+        """Its reason from long to short, as a table of that width may have it."""
+        whole = [self.reason(True, True)] if view.width >= WIDE else []
+        middle = [self.reason(False, True)] if whole else []
+        return [*whole, *map(explain.starred, whole), *middle, self.reason(False, False)]
+
+
+def name(pair: Pair) -> str:
+    return "the host (.)" if pair.path == "." else short(shown(pair.path))
 
 
 def pairs(one: Plan, two: Plan, view: View = View()) -> list[Pair]:
@@ -90,44 +93,56 @@ def differing(one: Plan, two: Plan, view: View = View()) -> list[Pair]:
     return sorted(differ, key=lambda pair: -abs(pair.gain)) if view.sort else differ
 
 
-def heads(one: Plan, two: Plan, view: View) -> Iterator[tuple[str, str]]:
+def heads(one: Plan, two: Plan, view: View) -> Iterator[str]:
     for name, plan in (("before", one), ("after", two)):
         for line in list(explain.head(plan, view))[:4]:
-            yield cut(f"{name:<7} {line}", max(view.width, 80)), ""
+            yield cut(f"{name:<7} {line}", max(view.width, 80))
             name = ""
-    yield "", ""
+    yield ""
 
 
-def table(one: Plan, two: Plan, view: View,
-          busy: tuple[Plan, Plan] | None = None) -> list[tuple[str, str]]:
-    """All lines with their styles: of both plans, and of those with all busy where they are given.
-    """
-    more = [] if busy is None else [
-        ("", ""), ("if all are busy (--want busy):", "bold"), ("", ""), *changes(*busy, view)]
-    return [*heads(one, two, view), *changes(one, two, view), *more]
+def columns(view: View) -> list[Column[Pair]]:
+    """The columns of pairs. A page has what both plans want in a cell of its own."""
+    def number(at: int) -> Callable[[Pair], str]:
+        return lambda pair: pair.cells(view.unit)[at]
+
+    return [fact("group", lambda pair: pair.path), fact("change_millicpu", lambda pair: pair.gain),
+            Column("gets", number(0), forms=TEXT), Column("then", number(1), forms=TEXT),
+            Column("before", number(0), forms=PAGES), Column("after", number(1), forms=PAGES),
+            Column("change", number(2)),
+            Column("wants", number(3), forms=TEXT), Column("then", number(4), forms=TEXT)]
 
 
-def changes(one: Plan, two: Plan, view: View) -> list[tuple[str, str]]:
+def table(one: Plan, two: Plan, view: View) -> Table[Pair]:
+    """The groups that differ. In a narrow table names are cut and not reasons."""
+    return Table(columns(view), differing(one, two, view), style=lambda pair: pair.style,
+                 fitted=Fitted(view.width, lambda pair: pair.reasons(view), name, tail,
+                               keeps_names=view.width >= WIDE))
+
+
+def changes(one: Plan, two: Plan, view: View) -> Styled:
     """The lines of the groups that differ. Those that are the same are counted."""
-    answer = list[tuple[str, str]]()
-    count, differ = len(pairs(one, two, view)), differing(one, two, view)
-    if differ:
-        # In a narrow table names are cut and not reasons.
-        lines = text.reasoned_table(HEADS, [pair.row(view) for pair in differ],
-                                    view.width, tail, keeps_names=view.width >= WIDE)
-        answer += zip(lines, ["bold", *(pair.style for pair in differ)])
-    answer.append((f"{count - len(differ)} of {count} groups are the same in both", ""))
-    if any("throttled*" in line for line, _ in answer):
-        answer.append((explain.THROTTLED_NOTE, ""))
-    return answer
+    differ, count = table(one, two, view), len(pairs(one, two, view))
+    lines = differ.lines() if differ.records else []
+    is_noted = any("throttled*" in line for line, _ in lines)
+    return [*lines, *plain(
+        f"{count - len(differ.records)} of {count} groups are the same in both",
+        *([explain.THROTTLED_NOTE] if is_noted else []))]
 
 
 def as_data(one: Plan, two: Plan, view: View = View(),
             busy: tuple[Plan, Plan] | None = None) -> dict[str, Any]:
     """Both plans as data, and the paths that differ with their change; the same with all busy
     where these plans are given."""
-    changed = [{"group": pair.path, "change_millicpu": pair.gain}
-               for pair in differing(one, two, view)]
     more = {} if busy is None else {"busy": as_data(*busy, view)}
     return {"before": explain.as_data(one, view), "after": explain.as_data(two, view),
-            "changed": changed, **more}
+            "changed": table(one, two, view).data(), **more}
+
+
+def answer(one: Plan, two: Plan, view: View, busy: tuple[Plan, Plan] | None = None) -> TableAnswer:
+    """Both plans and what differs, and the same with all busy where these plans are given."""
+    more = [] if busy is None else [
+        ("", ""), ("if all are busy (--want busy):", "bold"), ("", ""), *changes(*busy, view)]
+    return TableAnswer(
+        lambda: [*plain(*heads(one, two, view)), *changes(one, two, view), *more],
+        lambda: as_data(one, two, view, busy), files=lambda: [table(one, two, view)])

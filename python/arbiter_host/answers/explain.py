@@ -1,18 +1,22 @@
 """Says why each group gets what it gets: a tree as wide as the terminal, a flat list, JSON, CSV."""
 from __future__ import annotations
 
-import csv
-import io
 import math
 from collections.abc import Callable, Iterator, Mapping, Sequence, Set
+from dataclasses import replace
+from functools import partial
+from itertools import starmap
 from typing import Any, NamedTuple
 
 from arbiter_host.answers.placement import Outlook
 from arbiter_host.base import text
-from arbiter_host.base.model import MAX_DEPTH, NO_POD
-from arbiter_host.base.names import cut, last_name, listed, short, shown, tail, width
+from arbiter_host.base.model import MAX_DEPTH, NO_POD, Group
+from arbiter_host.base.names import cut, last_name, listed, parent_path, short, shown, tail, width
+from arbiter_host.base.output import Styled
 from arbiter_host.base.plan import Explanation, Plan, PlannedGroup, walk
-from arbiter_host.base.text import BAR_HEAD, LEAST_NAME, WIDE, Reasoned
+from arbiter_host.base.tables import (FILES, LEAST_NAME, PAGES, TEXT, Column, Fitted, Table,
+                                      TableAnswer, fact, plain)
+from arbiter_host.base.text import BAR_HEAD, WIDE
 
 ONLY: dict[str, Callable[[PlannedGroup], bool]] = {
     "starved": lambda group: group.is_starved,
@@ -58,11 +62,6 @@ class View(NamedTuple):
     guaranteed: Mapping[int, int] | None = None
     folded: Set[str] = frozenset()
 
-    @property
-    def is_flat(self) -> bool:
-        """Whether groups are a list of paths and no tree."""
-        return bool(self.only)
-
     def is_folded(self, group: PlannedGroup) -> bool:
         """Whether what is below a group is not shown."""
         return group.depth >= self.depth or group.path in self.folded
@@ -71,15 +70,13 @@ class View(NamedTuple):
         """Whether a group is among those that are chosen."""
         return self.chosen is None or group.path in self.chosen
 
-    def amounts(self, group: PlannedGroup) -> dict[str, int | None]:
-        """The slices of a group that are shown, by their heads."""
-        owed = {} if self.guaranteed is None else {"guaranteed": self.guaranteed.get(group.row)}
-        return {"gets": group.gets, "wants": group.want, "limit": group.limit, **owed}
-
-    def cells(self, plan: Plan, group: PlannedGroup) -> dict[str, str]:
-        """The amounts as text, in the unit."""
-        return {head: text.amount(plan, slices, self.unit)
-                for head, slices in self.amounts(group).items()}
+    @property
+    def amounts(self) -> dict[str, Callable[[PlannedGroup], int | None]]:
+        """The slices of groups that are shown, by their heads."""
+        owed = self.guaranteed or {}
+        return {"gets": lambda each: each.gets, "wants": lambda each: each.want,
+                "limit": lambda each: each.limit, **({} if self.guaranteed is None else {
+                    "guaranteed": lambda each: owed.get(each.row)})}
 
 
 def why(plan: Plan, group: PlannedGroup, is_wide: bool) -> str:
@@ -116,6 +113,13 @@ def tighter(group: PlannedGroup, one: PlannedGroup) -> PlannedGroup:
     return group if is_group else one
 
 
+def row_group(group: PlannedGroup) -> PlannedGroup:
+    """The group whose settings and amounts a row has: with the one container of a pod, what that
+    asks for and gets, the weight of the pod, and the lower limit."""
+    one = asking_one(group)
+    return replace(one, parent=group.parent, weight=group.weight, limit=tighter(group, one).limit)
+
+
 def row_name(group: PlannedGroup, one: PlannedGroup) -> str:
     """The last name of a group, with that of the container that its row shows."""
     paths = dict.fromkeys([group.path, one.path])
@@ -144,24 +148,18 @@ def label(group: PlannedGroup, view: View, depth: int) -> str:
     chosen, its path."""
     if group.parent is None:
         return "the host (.)"
-    if view.is_flat or depth == 0:
+    if view.only or depth == 0:
         return short(shown(group.path))
-    below = size(group) - 1 if view.is_folded(group) else 0
+    below = sum(1 for _ in walk(group.children)) if view.is_folded(group) else 0
     more = f" (+{below} below)" if below else ""
     people = f"  {shown(group.title)}" if group.title and "/" not in group.title else ""
     return "  " * depth + short(shown(last_name(group.path))) + more + people
 
 
-def line_of(plan: Plan, group: PlannedGroup, view: View, depth: int) -> Reasoned:
-    """The line of a group that stands so deep in the tree that is shown."""
-    cells = list(view.cells(plan, group).values())
-    if view.width >= WIDE:
-        cells.append(text.bar(group.gets, group.want, BAR))
-    forms = [why(plan, group, False)]
-    if view.width >= WIDE:
-        whole = why(plan, group, True)
-        forms = [whole, starred(whole), *forms]
-    return Reasoned(tuple(cells), tuple(forms), label(group, view, depth))
+def reasons(plan: Plan, group: PlannedGroup, view: View) -> list[str]:
+    """The reason of a group from long to short, as a table of that width may have it."""
+    whole = [why(plan, group, True)] if view.width >= WIDE else []
+    return [*whole, *map(starred, whole), why(plan, group, False)]
 
 
 def starred(words: str) -> str:
@@ -170,8 +168,8 @@ def starred(words: str) -> str:
 
 
 def ordered(groups: Sequence[PlannedGroup], view: View) -> list[PlannedGroup]:
-    """Groups in the order asked for; that of creation without one."""
-    return sorted(groups, key=SORTS[view.sort]) if view.sort else list(groups)
+    """Groups in the order asked for; that of creation where that is none of groups."""
+    return sorted(groups, key=SORTS[view.sort]) if view.sort in SORTS else list(groups)
 
 
 def below(group: PlannedGroup, view: View) -> list[PlannedGroup]:
@@ -204,11 +202,6 @@ def rows(plan: Plan, view: View) -> list[PlannedGroup]:
     return [group for group in family(plan, view) if group.row not in ones]
 
 
-def size(group: PlannedGroup) -> int:
-    """The number of groups from a group on down."""
-    return sum(1 for _ in walk([group]))
-
-
 def is_one_of(group: PlannedGroup, view: View) -> bool:
     """Whether a group is chosen, deep enough, and in one of the states asked for."""
     return (group.depth <= view.depth and view.has(group)
@@ -217,7 +210,7 @@ def is_one_of(group: PlannedGroup, view: View) -> bool:
 
 def shown_groups(plan: Plan, view: View) -> Iterator[tuple[PlannedGroup, int]]:
     """The groups of the table in its order, and how deep each stands in it."""
-    if view.is_flat:
+    if view.only:
         yield from ((each, 0) for each in ordered(plan.groups, view) if is_one_of(each, view))
         return
     for top in tops(plan, view):
@@ -225,19 +218,39 @@ def shown_groups(plan: Plan, view: View) -> Iterator[tuple[PlannedGroup, int]]:
             yield group, group.depth - top.depth
 
 
+def leaves(plan: Plan, chosen: Set[str] | None = None) -> list[PlannedGroup]:
+    """The groups without children, in which demands are; of those that are chosen."""
+    return [each for each in plan.groups[1:]
+            if not each.children and (chosen is None or each.path in chosen)]
+
+
+def sums(plan: Plan, chosen: Set[str] | None = None) -> dict[str, int]:
+    """The slices of the host, or of the groups that are chosen, and how many lack something."""
+    of = leaves(plan, chosen)
+    whole = [plan.root] if chosen is None else of
+    return {"served": sum(each.gets for each in whole), "wanted": sum(each.want for each in whole),
+            "lacking": sum(each.gets < each.want for each in of),
+            "starved": sum(each.is_starved for each in of),
+            "throttled": sum(each.is_throttled for each in plan.groups
+                             if chosen is None or each.path in chosen)}
+
+
 def head(plan: Plan, view: View) -> Iterator[str]:
     """The lines above the table."""
-    root, unit = plan.root, view.unit
+    counts = sums(plan)
     yield text.host_words(plan.model.host)
-    served, all_, asked = (text.amount(plan, each, unit)
-                           for each in (root.gets, plan.capacity, root.want))
-    yield (f"{served} of {all_} {text.UNIT_WORDS[unit]} served, {asked} wanted; the proved check"
-           " accepted the plan")
+    yield f"{served_words(plan, view.unit)}; the proved check accepted the plan"
     yield text.asked_words(plan.model)
-    yield f"what limits the total: {limiting(plan, unit)}"
-    lacks = sum(1 for group in plan.groups[1:] if group.gets < group.want and not group.children)
-    starved = sum(1 for group in plan.groups[1:] if group.is_starved and not group.children)
-    yield f"groups without all that they want: {lacks}, of these starved: {starved}"
+    yield f"what limits the total: {limiting(plan, view.unit)}"
+    yield (f"groups without all that they want: {counts['lacking']}, of these starved:"
+           f" {counts['starved']}")
+
+
+def served_words(plan: Plan, unit: str) -> str:
+    """The amounts of the host."""
+    served, all_, asked = (text.amount(plan, each, unit)
+                           for each in (plan.root.gets, plan.capacity, plan.root.want))
+    return f"{served} of {all_} {text.UNIT_WORDS[unit]} served, {asked} wanted"
 
 
 def limiting(plan: Plan, unit: str) -> str:
@@ -302,25 +315,26 @@ def foot(plan: Plan, view: View, lines: Sequence[str]) -> Iterator[str]:
         yield THROTTLED_NOTE
     idle = sum(1 for group in plan.groups[1:] if group.want == 0 and view.has(group)
                and view.has(plan.groups[group.parent or 0]))
-    if idle and not view.everything and not view.is_flat:
+    if idle and not view.everything and not view.only:
         yield f"groups that ask for nothing and are left out (--all shows them): {idle}"
 
 
-def table(plan: Plan, view: View) -> list[tuple[str, str]]:
+def table(plan: Plan, view: View) -> Table[PlannedGroup]:
+    """The groups that are shown as people read them."""
+    depths = {group.row: depth for group, depth in shown_groups(plan, view)}
+    return Table(columns(plan, view), [plan.groups[row] for row in depths], style=lambda each: (
+        STYLES.get("starved" if each.is_starved else plan.reason(each).name, "")), fitted=Fitted(
+            view.width, lambda each: reasons(plan, each, view),
+            lambda each: label(each, view, depths[each.row]),
+            cut if view.chosen is None and not view.only else tail, 5))
+
+
+def lines(plan: Plan, view: View) -> Styled:
     """All lines with their styles."""
-    groups = list(shown_groups(plan, view))
-    answer = [(cut(each, max(view.width, 80)), "") for each in head(plan, view)] + [("", "")]
-    if groups:
-        heads = [*view.amounts(plan.root), *([BAR_HEAD] if view.width >= WIDE else [])]
-        lines = text.reasoned_table(
-            heads, [line_of(plan, group, view, depth) for group, depth in groups],
-            view.width, cut if view.chosen is None and not view.is_flat else tail, 5)
-        styles = [STYLES.get("starved" if group.is_starved else plan.reason(group).name, "")
-                  for group, _ in groups]
-        answer += zip(lines, ["bold", *styles])
-    else:
-        answer.append((f"no group is {' or '.join(view.only)}", ""))
-    return answer + [(each, "") for each in foot(plan, view, [each for each, _ in answer])]
+    answer = [*plain(*(cut(each, max(view.width, 80)) for each in head(plan, view)), "")]
+    found = table(plan, view)
+    answer += found.lines() if found.records else plain(f"no group is {' or '.join(view.only)}")
+    return answer + plain(*foot(plan, view, [each for each, _ in answer]))
 
 
 def amounts(plan: Plan, slices: int | None) -> dict[str, Any] | None:
@@ -342,37 +356,63 @@ def range_data(plan: Plan, group: PlannedGroup, outlook: Outlook) -> dict[str, A
     return {"firm": False, "from": low, "to": high}
 
 
-def with_placement(plan: Plan, data: dict[str, Any], outlook: Outlook) -> dict[str, Any]:
-    """A plan as data, with how far each group may be from it by where its tasks run."""
-    groups = plan.by_path()
-    for each in data["groups"]:
-        each["placement"] = range_data(plan, groups[each["group"]], outlook)
-    why = outlook.why_not or None
-    return {**data, "placement": {"not_known": why, "grain": round(outlook.grain, 4)}}
+def own(key: str, value: Callable[[Group], Any], none: Any = None) -> Column[PlannedGroup]:
+    """A column of what a source says of a group, which the root is not."""
+    return fact(key, lambda each: none if each.group is None else value(each.group))
 
 
-def group_data(plan: Plan, group: PlannedGroup, view: View) -> dict[str, Any]:
-    reason, own = plan.reason(group), group.group
-    above = plan.groups[group.parent].path if group.parent is not None else None
-    shown_ = {head: amounts(plan, slices) for head, slices in view.amounts(group).items()}
-    owed = {"guaranteed": shown_.pop("guaranteed")} if view.guaranteed is not None else {}
-    return {
-        "group": group.path, "title": group.title, "row": group.row, "parent": above,
-        "depth": group.depth, "weight": group.weight,
-        "quota_usec": own.quota if own else None, "period_usec": own.period if own else None,
-        "burst_usec": own.burst if own else 0, "tasks": own.tasks if own else None,
-        "asks_millicpu": float(own.demand) if own else None,
-        "request_millicpu": float(own.request) if own and own.request is not None else None,
-        **shown_, "reason": reason.name, "words": reason.words,
-        "cause": reason.cause, "active_weight": reason.active_weight or None,
-        "starved": group.is_starved, "throttled": group.is_throttled,
-        "throttled_not_by_its_limit": group.is_throttled_elsewhere, **owed,
-    }
+def columns(plan: Plan, view: View, outlook: Outlook | None = None) -> list[Column[PlannedGroup]]:
+    """The columns of groups. Slices are in the unit for people, and in all units as data."""
+    reason, host = plan.reason, plan.model.host
+
+    def amount(head: str, of: Callable[[PlannedGroup], int | None]) -> Column[PlannedGroup]:
+        return Column(head, lambda each: text.amount(plan, of(each), view.unit), key=head,
+                      value=lambda each: amounts(plan, of(each)))
+
+    def bar(each: PlannedGroup) -> str:
+        return text.bar(each.gets, each.want, BAR)
+
+    def request(each: PlannedGroup) -> str:
+        of = each.group.request if each.group else None
+        return "" if of is None else text.measured(host, of, view.unit)
+
+    return [
+        Column("group", lambda each: each.path, True, "group", forms=FILES),
+        Column("title", lambda each: each.title, True, "title", forms=FILES),
+        fact("row", lambda each: each.row), fact("parent", lambda each: (
+            None if each.parent is None else parent_path(each.path))),
+        fact("depth", lambda each: each.depth), fact("weight", lambda each: each.weight),
+        Column("weight", lambda each: str(each.weight), forms=FILES),
+        Column("weight", lambda each: str(each.weight) if each.path != "." else "", forms=PAGES),
+        own("quota_usec", lambda each: each.quota), own("period_usec", lambda each: each.period),
+        own("burst_usec", lambda each: each.burst, 0), own("tasks", lambda each: each.tasks),
+        own("asks_millicpu", lambda each: float(each.demand)),
+        own("request_millicpu", lambda each: None if each.request is None else float(each.request)),
+        Column("request", request, forms=PAGES), *starmap(amount, view.amounts.items()),
+        *([Column(BAR_HEAD, bar, True, forms=TEXT)] if view.width >= WIDE else []),
+        Column("reason", lambda each: reason(each).name, True, "reason", forms=FILES),
+        Column("why", lambda each: why(plan, each, True), True, forms=FILES),
+        fact("words", lambda each: reason(each).words),
+        fact("cause", lambda each: reason(each).cause),
+        fact("active_weight", lambda each: reason(each).active_weight or None),
+        fact("starved", lambda each: each.is_starved),
+        fact("throttled", lambda each: each.is_throttled),
+        fact("throttled_not_by_its_limit", lambda each: each.is_throttled_elsewhere),
+        *([] if outlook is None else [
+            fact("placement", partial(range_data, plan, outlook=outlook))])]
 
 
-def as_data(plan: Plan, view: View = View()) -> dict[str, Any]:
-    """A plan as data. Filters, order and depth hold as in the table."""
+def records(plan: Plan, view: View, outlook: Outlook | None = None) -> Table[PlannedGroup]:
+    """The groups as files have them. Filters, order and depth hold as in the table."""
+    return Table(columns(plan, view, outlook), [each for each in ordered(plan.groups, view)
+                                                if is_one_of(each, view)])
+
+
+def as_data(plan: Plan, view: View = View(), outlook: Outlook | None = None) -> dict[str, Any]:
+    """A plan as data, and how far each group may be from it by where its tasks run."""
     host = plan.model.host
+    placement = {} if outlook is None else {"placement": {
+        "not_known": outlook.why_not or None, "grain": round(outlook.grain, 4)}}
     return {
         "host": {"cpus": host.processors, "period_usec": host.period_us,
                  "slice_usec": host.slice_us, "capacity": amounts(plan, plan.capacity)},
@@ -382,20 +422,12 @@ def as_data(plan: Plan, view: View = View()) -> dict[str, Any]:
         "limiting": [{"group": group.path, "limit": amounts(plan, group.limit)}
                      for group in plan.limiting],
         "refused": plan.model.refused, "notes": plan.model.notes,
-        "groups": [group_data(plan, group, view) for group in ordered(plan.groups, view)
-                   if is_one_of(group, view)],
+        "groups": records(plan, view, outlook).data(), **placement,
     }
 
 
-def as_csv(plan: Plan, view: View) -> str:
-    """A plan as CSV: a row for each group, with amounts in the unit. Filters hold as in the table.
-    """
-    rows = [["group", "title", "weight", *view.amounts(plan.root), "reason", "why"]]
-    for group in ordered(plan.groups, view):
-        if is_one_of(group, view):
-            cells = [cell if cell != "-" else "" for cell in view.cells(plan, group).values()]
-            rows.append([shown(group.path), shown(group.title), str(group.weight), *cells,
-                         plan.reason(group).name, why(plan, group, True)])
-    written = io.StringIO()
-    csv.writer(written, lineterminator="\n").writerows(rows)
-    return written.getvalue()
+def answer(plan: Plan, view: View, outlook: Callable[[], Outlook]) -> TableAnswer:
+    """A plan, and how far groups may be from it by where their tasks run."""
+    return TableAnswer(lambda: [*lines(plan, view), *plain(*placed(plan, view, outlook()))],
+                       lambda: as_data(plan, view, outlook()),
+                       files=lambda: [records(plan, view)])

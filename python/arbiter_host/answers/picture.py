@@ -25,32 +25,33 @@ MOST_ROWS = 1500
 
 @dataclass
 class Entry:
-    """One row: a group in words, and the places of the rows right below it. `one` has its amounts:
-    the one container of a pod, else the group itself. `tight` has its limit."""
+    """One row: a group in words, and the places of the rows right below it. `one` has its amounts
+    and its limit: those of the one container of a pod, else of the group itself."""
 
     group: PlannedGroup
     one: PlannedGroup
-    tight: PlannedGroup
     name: str
     note: str
     title: str
     is_limiting: bool
+    is_bad: bool
     below: list[int] = field(default_factory=list)
 
 
 def entry_of(plan: Plan, group: PlannedGroup, view: View) -> Entry:
-    one = explain.asking_one(group) if group.depth < view.depth else group
-    tight, cells = explain.tighter(group, one), view.cells(plan, one)
-    more = "" if tight.limit is None or one.parent is None else (
-        f", at most {text.amount(plan, tight.limit, view.unit)}")
+    one = explain.row_group(group) if group.depth < view.depth else group
+    tight = explain.tighter(group, plan.groups[one.row])
+    cells = {head: text.amount(plan, of(one), view.unit) for head, of in view.amounts.items()}
+    more = "" if one.limit is None or one.parent is None else f", at most {cells['limit']}"
     if cells.get("guaranteed", "-") != "-":
         more += f", guaranteed {cells['guaranteed']}"
     name = explain.row_name(group, one)
     if one.title and "/" not in one.title:
         name = f"{name}  {one.title}"
     why = "; ".join([*explain.marks(plan, tight), explain.row_reason(plan, group, one).words])
-    return Entry(group, one, tight, name, f"{cells['gets']} of {cells['wants']}{more}: {why}",
-                 f"{one.path}: {why}", not {group.row, one.row}.isdisjoint(plan.answer.limiting))
+    return Entry(group, one, name, f"{cells['gets']} of {cells['wants']}{more}: {why}",
+                 f"{one.path}: {why}", not {group.row, one.row}.isdisjoint(plan.answer.limiting),
+                 one.is_starved or tight.is_throttled_elsewhere)
 
 
 def entries(plan: Plan, view: View) -> list[Entry]:
@@ -122,7 +123,7 @@ class Drawing:
                 yield svg.line((x, y), (x + INDENT - 6, y), svg.BRANCH)
 
     def bar(self, entry: Entry, y: float) -> Iterator[str]:
-        group, limit, tall = entry.one, entry.tight.limit, ROW - 8
+        group, limit, tall = entry.one, entry.one.limit, ROW - 8
         yield svg.box((self.left, y + 4), (self.x(group.want) - self.left, tall), svg.WANTS)
         gets = max(self.x(group.gets) - self.left, 1.5 if group.gets else 0)
         yield svg.box((self.left, y + 4), (gets, tall), svg.GETS)
@@ -141,9 +142,8 @@ class Drawing:
         yield svg.words((EDGE + INDENT * group.depth, y + 14), cut(entry.name, NAME_CELLS), ink, 12,
                         "start", entry.is_limiting, entry.title)
         yield from self.bar(entry, y)
-        is_bad = entry.one.is_starved or entry.tight.is_throttled_elsewhere
         yield svg.words((self.left + BARS + 24, y + 14), cut(entry.note, NOTE_CELLS),
-                        svg.MARK if is_bad else svg.INK, 11, title=entry.note)
+                        svg.MARK if entry.is_bad else svg.INK, 11, title=entry.note)
 
 
 def legend(y: float) -> Iterator[str]:
@@ -156,16 +156,10 @@ def legend(y: float) -> Iterator[str]:
                                 ("limits the total", 13, line(svg.MARK, 3))])
 
 
-def title_of(plan: Plan, unit: str) -> str:
-    served, most, want = (text.amount(plan, each, unit)
-                          for each in (plan.root.gets, plan.capacity, plan.root.want))
-    return f"{served} of {most} {text.UNIT_WORDS[unit]} served, {want} wanted"
-
-
 def picture(plan: Plan, view: View = View()) -> str:
     """A plan as SVG."""
     drawing = Drawing(plan, entries(plan, view), view.unit)
-    title = title_of(plan, view.unit)
+    title = explain.served_words(plan, view.unit)
     parts = [svg.words((EDGE, 20), title, svg.INK, 13, "start", True), *legend(40),
              *drawing.scale(), *drawing.branches()]
     for place, entry in enumerate(drawing.entries):

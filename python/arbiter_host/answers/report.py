@@ -13,11 +13,14 @@ from arbiter_host.base import text
 from arbiter_host.base.html import bar, rendered
 from arbiter_host.base.names import below, common_parent, last_name, parent_path, short, shown
 from arbiter_host.base.plan import Plan, PlannedGroup
+from arbiter_host.base.tables import Column, shown_in
 
 # Trees of at most so many groups are open when the page is.
 OPEN_GROUPS = 150
 # Tables of at most so many changes are open.
 OPEN_CHANGES = 40
+# The first columns of the page, in their order.
+PAGE = ("weight", "request", "limit", "wants", "gets")
 KINDS = {"green": "up", "red": "down"}
 Row = dict[str, Any]
 
@@ -35,22 +38,25 @@ def within(path: str, prefix: str) -> str:
     return "" if above == "." else short(shown(above))
 
 
-def row(plan: Plan, group: PlannedGroup, view: View) -> Row:
-    """The cells of a group, or of a pod with its one container, and what the search reads."""
+def columns_of(plan: Plan, view: View, groups: Sequence[PlannedGroup]
+               ) -> list[Column[PlannedGroup]]:
+    """The columns of the page, those of PAGE first. None is empty but the weights."""
+    shown_ = shown_in(explain.columns(plan, view), "html")
+    return sorted((each for each in shown_ if each.title == PAGE[0] or any(map(each.cell, groups))),
+                  key=lambda each: [*PAGE, each.title].index(each.title))
+
+
+def row(plan: Plan, group: PlannedGroup) -> Row:
+    """The parts of a row beside its columns: of a group, or of a pod with its one container."""
     one = asking_one(group)
-    tight = explain.tighter(group, one)
     rest = [each for each in group.children if each is not one]
-    asked = one.group.request if one.group else None
     part = 100 * one.gets / one.want if one.want else 0
     return {
         "name": explain.row_name(group, one), "title": title_of(one),
         "path": shown(f"{one.path} {shown(one.title)}"), "depth": group.depth,
         "has_children": bool(rest), "is_quiet": not any(each.want for each in rest),
-        "weight": "" if group.parent is None else group.weight,
-        "request": "" if asked is None else text.measured(plan.model.host, asked, view.unit),
-        **view.cells(plan, one),
-        "limit": text.amount(plan, tight.limit, view.unit),
-        "percent": f"{min(part, 100):.2f}", "marks": explain.marks(plan, tight),
+        "percent": f"{min(part, 100):.2f}",
+        "marks": explain.marks(plan, explain.tighter(group, one)),
         "why": explain.row_reason(plan, group, one).words, "is_idle": one.want == 0,
         "is_hurt": one.gets < one.want,
     }
@@ -59,12 +65,16 @@ def row(plan: Plan, group: PlannedGroup, view: View) -> Row:
 def rows_of(plan: Plan, view: View) -> list[Row]:
     """The rows of the page. `above` is the place of the row above."""
     groups = explain.rows(plan, view)
+    ones = [*map(explain.row_group, groups)]
+    columns = columns_of(plan, view, ones)
     place = {group.row: at for at, group in enumerate(groups)}
     prefix = common_parent(each.path for each in groups if not asking_one(each).children)
-    return [row(plan, group, view)
-            | {"above": None if group.parent is None else place[group.parent],
+    return [row(plan, group)
+            | {"cells": {each.title: each.cell(one) for each in columns},
+               "above": None if group.parent is None else place[group.parent],
                "within": within(group.path, prefix), "prefix": short(shown(prefix)),
-               "is_open": len(groups) <= OPEN_GROUPS or group.parent is None} for group in groups]
+               "is_open": len(groups) <= OPEN_GROUPS or group.parent is None}
+            for group, one in zip(groups, ones)]
 
 
 def host(plan: Plan, view: View, name: str = "") -> dict[str, Any]:
@@ -105,14 +115,14 @@ def reason_of(pair: Pair, one: Pair, at: int) -> tuple[list[str], str]:
 
 def change(pair: Pair, one: Pair, view: View) -> Row:
     """The cells of a row of the table of changes."""
-    before, after, difference, wanted, wants = one.cells(view.unit)
+    *_, wanted, wants = one.cells(view.unit)
     (was_marks, was_why), (marks, why) = (reason_of(pair, one, at) for at in (0, 1))
     was, now = (re.split("(?<=[;:]) ", "; ".join([*each, words]))
                 for each, words in ((was_marks, was_why), (marks, why)))
     same = len(os.path.commonprefix([was, now]))
     named = [(group, leaf) for group, leaf in zip(pair.groups, one.groups) if group and leaf]
-    return {"name": explain.row_name(*named[-1]), "before": before, "after": after,
-            "change": difference, "wants": wants, "wanted": wanted if wanted != wants else "",
+    return {"name": explain.row_name(*named[-1]), "wants": wants,
+            "wanted": wanted if wanted != wants else "",
             "marks": marks, "why": why, "was": "" if was == now else " ".join(was[same:]),
             "kind": KINDS.get(pair.style, "")}
 
@@ -120,6 +130,7 @@ def change(pair: Pair, one: Pair, view: View) -> Row:
 def changes(before: Plan, plan: Plan, view: View, words: Sequence[str]) -> dict[str, Any]:
     """The table of what differs from an earlier plan, as a tree, and the words that change it."""
     differ, depth, rows = differing(before, plan, view), {".": -1}, []
+    columns = shown_in(diff.columns(view), "html")
     prefix = common_parent(pair.path for pair, one in differ
                            if not any(each and each.children for each in one.groups))
     for pair, one in differ:
@@ -128,10 +139,12 @@ def changes(before: Plan, plan: Plan, view: View, words: Sequence[str]) -> dict[
             above = parent_path(above)
         depth[pair.path] = depth[above] + (pair.path != ".")
         rows.append({**change(pair, one, view), "depth": max(depth[pair.path], 0),
+                     "cells": [(each.title, each.cell(one)) for each in columns],
                      "between": within(pair.path, prefix if above == "." else above),
                      "within": within(pair.path, prefix)})
     heads = [next(explain.head(each, view)) for each in (before, plan)]
     return {"heads": list(dict.fromkeys(heads)), "rows": rows, "words": list(words),
+            "columns": [each.title for each in columns],
             "is_flat": bool(view.sort), "prefix": short(shown(prefix)),
             "is_below": all(path.startswith(f"{prefix}/") for path in depth if path != ".")}
 
@@ -144,5 +157,5 @@ def page(plan: Plan, view: View = View(), title: str = "Plan", before: Plan | No
                                                        host(plan, view, "after")]
     return rendered("plan.html", title, explain.head(plan, view), hosts=hosts,
                     rows=rows_of(plan, view), notes=notes, elsewhere=explain.ELSEWHERE,
-                    is_guaranteed=view.guaranteed is not None, open_changes=OPEN_CHANGES,
+                    open_changes=OPEN_CHANGES,
                     changes=None if before is None else changes(before, plan, view, words))

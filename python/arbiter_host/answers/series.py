@@ -254,7 +254,8 @@ def records(series: Series, unit: str) -> Table[Sampled]:
         return column(title, value)
 
     return Table([
-        column("sample", lambda each: each[0]), column("group", lambda each: each[1]),
+        Column("sample", lambda each: each[0], True, "sample"),
+        Column("group", lambda each: each[1], True, "group"),
         amount("gets", "gets"), amount("wants", "wants"), amount("limit", "limit"),
         *(column(name, lambda each, key=key: getattr(each[2], key))  # type: ignore[misc]
           for key, name in COUNTS.items() if name not in ("got", "wanted"))],
@@ -263,14 +264,15 @@ def records(series: Series, unit: str) -> Table[Sampled]:
 
 
 def column(key: str, value: Callable[[Sampled], Any]) -> Column[Sampled]:
-    """A column of records, whose title is its key."""
-    return Column(key, lambda each: str(value(each)), None, key, value)
+    """A column of numbers, whose title is its key."""
+    return Column(key, lambda each: "-" if value(each) is None else str(value(each)), key=key,
+                  value=value)
 
 
 def forms(series: Series, unit: str) -> Forms:
     """The forms of samples."""
-    return {**TableAnswer((), [table(series, unit)], dict).forms(),
-            "csv": lambda: records(series, unit).csv(),
+    return {**TableAnswer(lambda: [table(series, unit)], dict,
+                          files=lambda: [records(series, unit)]).forms(),
             "json": lambda: json.dumps({"unit": unit, "records": records(series, unit).data()},
                                        indent=1) + "\n",
             "svg": lambda: picture(series)}

@@ -14,7 +14,7 @@ from arbiter_host.base.demands import mean
 from arbiter_host.base.html import bar, rendered
 from arbiter_host.base.model import Group
 from arbiter_host.base.names import below, common_parent, cut, short, shown
-from arbiter_host.base.tables import Column, Table, TableAnswer
+from arbiter_host.base.tables import Column, Table, TableAnswer, plain
 
 # Keys of the cells of a group as data, and what they hold.
 CELLS = {"used_millicpu": "used", "demand_millicpu": "demand", "plan_millicpu": "planned",
@@ -178,8 +178,9 @@ def as_data(ranked: Ranked) -> dict[str, Any]:
 
 def answer(ranked: Ranked) -> TableAnswer:
     """An audit as lines and as data."""
-    return TableAnswer([*((line, "") for line in head(ranked)), ("", "")], [table(ranked)],
-                       lambda: as_data(ranked), [(line, "") for line in foot(ranked)])
+    return TableAnswer(
+        lambda: [*plain(*head(ranked), ""), table(ranked), *plain(*foot(ranked))],
+        lambda: as_data(ranked))
 
 
 def lines_of(row: AuditRow) -> list[tuple[str, str, list[float | None]]]:
@@ -237,9 +238,10 @@ def page(found: Ranked, title: str) -> str:
     intervals, host = found.audit.intervals, found.audit.plan.model.host
     rows, prefix = [], common_parent(row.path for row in found.busy)
     whole = table(found)
-    for row, (*cells, cause, _) in zip(found.busy, whole.rows):
-        rows.append({"name": short(shown(below(row.path, prefix))), "cause": cause,
-                     "cells": list(zip(whole.heads, cells)), "is_bad": row.cause == NOTHING})
+    for row, (*cells, cause, _) in zip(found.busy, whole.cells(COLUMNS)):
+        rows.append({"name": short(shown(below(row.path, prefix))), "cause": cause, "cells": [
+            (column.title, cell) for column, cell in zip(COLUMNS, cells)],
+            "is_bad": row.cause == NOTHING})
     return rendered("audit.html", title, head(found), rows=rows, prefix=short(shown(prefix)),
                     drawn=drawn(found.busy, intervals, prefix), foot=list(foot(found)),
                     hosts=bars(intervals, Fraction(1000 * host.processors)),

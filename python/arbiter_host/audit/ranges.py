@@ -92,8 +92,7 @@ class Places:
         self.inner = {path for path in below if below[path] or path == "."}
         leaves = {path: group for path, group in model.groups.items() if path not in self.inner}
         # The leaves that may be measured: pause containers of pods are not.
-        self.leaves = [path for path, group in leaves.items()
-                       if not group.title.endswith("/pause")]
+        self.leaves = [path for path, group in leaves.items() if not group.is_pause]
         # The leaves by what measurements call them; a name of several has None.
         self.names = unique((name, path) for path, group in leaves.items()
                             for name in {path, group.title})

@@ -116,6 +116,11 @@ class Group:
     keeps_to: int | None = None
 
     @property
+    def is_pause(self) -> bool:
+        """Whether it is the pause container of a pod."""
+        return self.title.endswith("/pause")
+
+    @property
     def usable(self) -> Fraction:
         """The demand that its tasks can use, in thousandths of a CPU."""
         tasks, demand = self.tasks, self.demand

@@ -61,6 +61,17 @@ class Range(NamedTuple):
     most: str
 
 
+class Workload(NamedTuple):
+    """The groups of one maker: its name, the number of its pods, their requests in thousandths of a
+    CPU, whether an HPA sets their number, and the paths of the containers."""
+
+    name: str
+    pods: int
+    request: int
+    is_scaled: bool
+    paths: list[str]
+
+
 @dataclass(frozen=True)
 class Amounts:
     """Requests and limits of CPU in whole thousandths; None where not given."""
@@ -126,6 +137,21 @@ class Owned:
         """Settings that can be asked for of one group: the one that weighs it, then the other."""
         raise NotImplementedError
 
+    @property
+    def asks(self) -> dict[str, int]:
+        """Requests of all groups by the names of the resources, where a scheduler counts them."""
+        return {}
+
+    @property
+    def offers(self) -> dict[str, int]:
+        """The resources for these requests, as far as they are told."""
+        return {}
+
+    def unjudged(self, _: Owned) -> list[str]:
+        """The conditions on which another source of its kind is put here that are not looked at.
+        """
+        return []
+
     def joined(self, _: Owned) -> Owned | None:
         """This with what another source of its kind has; None where they cannot be one."""
         return None
@@ -166,6 +192,14 @@ class Owned:
     def owner(self, path: str) -> str:
         """The maker of a group, for people: all that one has made have the same settings."""
         return self.title(path)
+
+    def is_scaled(self, _: str) -> bool:
+        """Whether something that follows its use sets how many such groups there are."""
+        return False
+
+    def workloads(self) -> list[Workload]:
+        """The groups by their makers."""
+        return []
 
     def now(self, path: str) -> Amounts:
         """The request and the limit of a group; None where it has none, or is not told of one."""

@@ -227,10 +227,19 @@ class Plan:
         """The reason of each group in words."""
         return [explained(self, group) for group in self.groups]
 
+    @functools.cached_property
+    def askers(self) -> Columns:
+        """The columns of guarantees: pause containers ask for nothing whatever the others do, so
+        that their limit is 0."""
+        own = self.columns
+        limits = [0 if each.group is not None and each.group.is_pause else limit
+                  for each, limit in zip(self.groups, own.limits)]
+        return Columns(own.parents, own.weights, array("Q", limits), own.demands)
+
     def guaranteed(self, row: int) -> int:
         """The guarantee of a group, whatever groups that are not under it ask for, in slices."""
         with asking("guarantee"):
-            return self.engine.library.guarantee(self.planned_host, self.columns, row)
+            return self.engine.library.guarantee(self.planned_host, self.askers, row)
 
     def reason(self, group: PlannedGroup) -> Explanation:
         return self.explanations[group.row]

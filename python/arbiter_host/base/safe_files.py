@@ -173,7 +173,8 @@ class Root:
     def write(self, folder: str, file: str, text: str) -> None:
         """Replaces the text of a file that is there, in one write. A plain file has a size:
         newlines cover a longer text before the file is cut. So a process that is killed leaves the
-        old text or the new one. Files of the kernel have size 0."""
+        old text or the new one. Files of the kernel have size 0. No new file takes the name of the
+        old one, since those of the kernel cannot be replaced."""
         line = f"{text}\n".encode()
         with faults(self.name(folder, file)), self.at(folder) as above:
             descriptor = plain(above, file, os.O_WRONLY)

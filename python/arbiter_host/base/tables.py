@@ -1,22 +1,27 @@
 """Answers as tables: each column is declared once, and here is how each form writes it."""
 from __future__ import annotations
 
-from collections.abc import Callable, Mapping, Sequence
+from collections.abc import Callable, Collection, Mapping, Sequence
 from dataclasses import dataclass
 from typing import Any, Generic, TypeVar
 
 from arbiter_host.base import text
-from arbiter_host.base.names import shown
+from arbiter_host.base.names import cut, padded, shown, width
 from arbiter_host.base.output import Styled, json_text
 
 R = TypeVar("R")
 Forms = Mapping[str, Callable[[], str | Styled]]
+# The forms of columns that people read, and those of columns that are in one of them alone.
+TEXT, FILES, PAGES = ("text",), ("csv",), ("html",)
+READ = (*TEXT, *FILES, *PAGES)
+# Letters of a name, of a reason, and of both with what is between them, at least.
+LEAST_NAME, LEAST_REASON, LEAST_ROOM = 16, 12, 30
 
 
 @dataclass(frozen=True)
 class Column(Generic[R]):
-    """A column of records: its title and the cells of it that people read, and its key and its
-    values in data and CSV. One without values is read by people alone, and in CSV as they do."""
+    """A column of records: its title, and the cells of it that people read, `-` for none. One that
+    has a key is in data too, with its values, or with its cells where it has none."""
 
     title: str
     cell: Callable[[R], str]
@@ -24,11 +29,63 @@ class Column(Generic[R]):
     is_left: bool | None = False
     key: str = ""
     value: Callable[[R], Any] | None = None
+    # The forms that have its cells.
+    forms: Collection[str] = READ
+    # Whether it stands behind the others where people read it, as names do.
+    is_last: bool = False
+
+
+def fact(key: str, value: Callable[[R], Any]) -> Column[R]:
+    """A column of data alone."""
+    return Column("", str, key=key, value=value, forms=())
+
+
+def fitting(reasons: Sequence[Sequence[str]], room: int) -> list[str]:
+    """The reasons whole where none is cut, else each in the longest other form that fits."""
+    if all(width(each[0]) <= room for each in reasons):
+        return [each[0] for each in reasons]
+    return [next((form for form in each[1:] if width(form) <= room), each[-1]) for each in reasons]
+
+
+def shown_in(columns: Sequence[Column[R]], form: str) -> list[Column[R]]:
+    """The columns of a form that people read, in its order."""
+    return sorted((each for each in columns if form in each.forms),
+                  key=lambda each: each.is_last and form != "csv")
 
 
 def are_words(cells: Sequence[str]) -> bool:
     """Whether cells are no numbers. `-` stands for none."""
     return not all(cell == "-" or cell.lstrip("+-")[:1].isdigit() for cell in cells)
+
+
+@dataclass(frozen=True)
+class Fitted(Generic[R]):
+    """The width of a table, and two columns that are made to fit it: the reasons of records, each
+    in forms from long to short, and names, which `cut` cuts.
+
+    Names have up to half of the room beside reasons, unless `keeps_names` is false.
+    """
+
+    wide: int
+    reasons: Callable[[R], Sequence[str]]
+    names: Callable[[R], str]
+    cut: Callable[[str, int], str]
+    # Letters of each other column.
+    least: int = 0
+    keeps_names: bool = True
+
+    def lines(self, cells: Sequence[str], records: Sequence[R]) -> list[str]:
+        """The lines of a table, whose other cells are laid out; the first are the heads."""
+        names, start = [*map(self.names, records)], width(cells[0]) + 4
+        room = max(self.wide - start, LEAST_ROOM)
+        longest = max([5, *map(width, names)]) if self.keeps_names else 0
+        most = max(room - max(min(longest, room // 2), LEAST_NAME), LEAST_REASON)
+        reasons = fitting([*map(self.reasons, records)], most)
+        whys = min(max([3, *map(width, reasons)]), most)
+        end = max(self.wide - start - whys, LEAST_NAME)
+        rows = zip(cells, ["why", *(cut(each, whys) for each in reasons)],
+                   ["group", *(self.cut(each, end) for each in names)])
+        return [f"{each}  {padded(reason, whys)}  {name}".rstrip() for each, reason, name in rows]
 
 
 @dataclass(frozen=True)
@@ -40,80 +97,93 @@ class Table(Generic[R]):
     title: str = ""
     # The style of a record's line on a terminal.
     style: Callable[[R], str] | None = None
+    fitted: Fitted[R] | None = None
 
-    @property
-    def heads(self) -> list[str]:
-        return [each.title for each in self.columns]
-
-    @property
-    def rows(self) -> list[list[str]]:
-        """The cells of each record."""
-        return [[each.cell(record) for each in self.columns] for record in self.records]
-
-    def left(self, rows: Sequence[Sequence[str]]) -> list[int]:
-        """The places of the columns whose cells begin at the left."""
-        cells = list(zip(*rows)) or [()] * len(self.columns)
-        return [at for at, each in enumerate(self.columns)
-                if (are_words(cells[at]) if each.is_left is None else each.is_left)]
+    def cells(self, columns: Sequence[Column[R]]) -> list[list[str]]:
+        """The cells of each record in some columns."""
+        return [[each.cell(record) for each in columns] for record in self.records]
 
     def lines(self, most: int | None = None) -> list[tuple[str, str]]:
         """The heads and the rows as lines with their styles; of more than so many, their number
         below."""
-        rows = self.rows
+        columns = shown_in(self.columns, "text")
+        rows, fitted = self.cells(columns), self.fitted
+        heads, left = [each.title for each in columns], left_of(columns, rows)
         styles = [self.style(each) if self.style else "" for each in self.records[:most]]
-        lines = text.table([self.heads, *rows[:most]], self.left(rows))
+        lines = text.table([heads, *rows[:most]], left) if fitted is None else fitted.lines(
+            text.laid_out([heads, *rows], left, fitted.least), self.records)
         more = len(rows) - len(styles)
         return [*zip(lines, ["bold", *styles]), *([(f"and {more} more (--all)", "")]
                                                  if more else [])]
 
     def page(self) -> dict[str, Any]:
         """The table as a template of a page takes it."""
-        rows = self.rows
-        return {"title": self.title, "heads": self.heads,
-                "left": [self.heads[at] for at in self.left(rows)],
+        columns = shown_in(self.columns, "html")
+        rows = self.cells(columns)
+        return {"title": self.title, "heads": [each.title for each in columns],
+                "left": [columns[at].title for at in left_of(columns, rows)],
                 "rows": [[shown(cell) for cell in row] for row in rows]}
 
     def data(self) -> list[dict[str, Any]]:
         """The records as data, under the keys of the columns."""
-        return [{each.key: each.value(record) for each in self.columns if each.value is not None}
+        return [{each.key: (each.value or each.cell)(record) for each in self.columns if each.key}
                 for record in self.records]
 
     def csv(self) -> str:
-        """The records as CSV: their values, and the cells of columns without. Names are escaped.
-        """
+        """The records as CSV. None of a number is empty there, and names are escaped."""
         import csv  # (no other form needs it)
         import io
-        written = io.StringIO()
+        written, columns = io.StringIO(), shown_in(self.columns, "csv")
         writer = csv.writer(written, lineterminator="\n")
-        writer.writerow([each.key or each.title for each in self.columns])
-        values = [each.value or each.cell for each in self.columns]
-        for record in self.records:
-            row = [value(record) for value in values]
-            writer.writerow([shown(each) if isinstance(each, str) else each for each in row])
+        writer.writerow([each.title for each in columns])
+        for row in self.cells(columns):
+            writer.writerow(["" if cell == "-" and not column.is_left else shown(cell)
+                             for column, cell in zip(columns, row)])
         return written.getvalue()
+
+
+def left_of(columns: Sequence[Column[R]], rows: Sequence[Sequence[str]]) -> list[int]:
+    """The places of the columns whose cells begin at the left."""
+    cells = list(zip(*rows)) or [()] * len(columns)
+    return [at for at, each in enumerate(columns)
+            if (are_words(cells[at]) if each.is_left is None else each.is_left)]
+
+
+# Lines with their styles, and tables.
+Parts = Sequence[tuple[str, str] | Table[Any]]
 
 
 @dataclass(frozen=True)
 class TableAnswer:
-    """An answer: the lines above and below its tables, and all of it as data."""
+    """An answer: its lines with tables among them, and all of it as data."""
 
-    head: Styled
-    tables: Sequence[Table[Any]]
+    parts: Callable[[], Parts]
     data: Callable[[], Any]
-    foot: Styled = ()
     # The most rows of a table of text; None for all.
     most: int | None = None
+    # The tables of files, where these are others than people read.
+    files: Callable[[], Sequence[Table[Any]]] | None = None
+
+    def tables(self) -> list[Table[Any]]:
+        return [each for each in self.parts() if isinstance(each, Table)]
 
     def lines(self) -> Styled:
         """The answer as lines with their styles. Tables that have a title stand below it."""
-        lines = list(self.head)
-        for each in self.tables:
-            if each.title:
-                lines += [("", ""), (f"{each.title}:", "")]
-            lines += each.lines(self.most)
-        return [*lines, *self.foot]
+        lines: list[tuple[str, str]] = []
+        for each in self.parts():
+            if isinstance(each, Table):
+                lines += [("", ""), (f"{each.title}:", "")] if each.title else []
+                lines += each.lines(self.most)
+            else:
+                lines.append(each)
+        return lines
 
     def forms(self) -> Forms:
         """The forms that every answer has."""
-        return {"text": self.lines, "json": lambda: json_text(self.data()),
-                "csv": lambda: "\n".join(each.csv() for each in self.tables)}
+        return {"text": self.lines, "json": lambda: json_text(self.data()), "csv": lambda: (
+            "\n".join(each.csv() for each in (self.files or self.tables)()))}
+
+
+def plain(*lines: str) -> list[tuple[str, str]]:
+    """Lines without a style."""
+    return [(line, "") for line in lines]

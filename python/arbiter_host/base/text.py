@@ -4,20 +4,18 @@ from __future__ import annotations
 import functools
 import os
 import sys
-from collections.abc import Callable, Collection, Sequence
+from collections.abc import Collection, Sequence
 from fractions import Fraction
-from typing import NamedTuple
 
 from arbiter import Host
 from arbiter_host.base import units
 from arbiter_host.base.model import Model
-from arbiter_host.base.names import cut, padded, width
+from arbiter_host.base.names import padded, width
 from arbiter_host.base.plan import Plan
 
 STANDARD_WIDTH = 120
 # From this width on reasons are whole sentences.
 WIDE = 110
-LEAST_NAME, LEAST_ROOM, LEAST_REASON = 16, 30, 12
 # The head of a column of bars.
 BAR_HEAD = "gets of wants"
 UNIT_WORDS = {"cpu": "CPUs", "m": "thousandths of a CPU", "%": "percent of one CPU",
@@ -110,41 +108,3 @@ def laid_out(rows: Sequence[Sequence[str]], left: Collection[int], least: int = 
 def table(rows: Sequence[Sequence[str]], left: Collection[int] = ()) -> list[str]:
     """The lines of a table of rows of cells. The columns of `left` begin at the left."""
     return [line.rstrip() for line in laid_out(rows, left)]
-
-
-class Reasoned(NamedTuple):
-    """A row of a table with reasons: its cells, its reason from long to short, and its name."""
-
-    cells: tuple[str, ...]
-    forms: tuple[str, ...]
-    name: str
-
-
-def fitting(reasons: Sequence[tuple[str, ...]], room: int) -> list[str]:
-    """The reasons whole where none is cut, else each in the longest other form that fits."""
-    if all(width(each[0]) <= room for each in reasons):
-        return [each[0] for each in reasons]
-    return [next((form for form in each[1:] if width(form) <= room), each[-1]) for each in reasons]
-
-
-def reasoned_table(heads: Sequence[str], rows: Sequence[Reasoned], wide: int,
-                   fit: Callable[[str, int], str], least: int = 0,
-                   keeps_names: bool = True) -> list[str]:
-    """The lines of a table of so many letters: cells, reasons, and names, which `fit` cuts.
-
-    Cells are numbers, and maybe a bar. Names have up to half of the room beside reasons, unless
-    `keeps_names` is false: then reasons have all but the least.
-    """
-    bars = {at for at, head in enumerate(heads) if head == BAR_HEAD}
-    cells = laid_out([heads, *(row.cells for row in rows)], bars, least)
-    left = width(cells[0]) + 4
-    room = max(wide - left, LEAST_ROOM)
-    longest = max([5, *(width(row.name) for row in rows)]) if keeps_names else 0
-    most = max(room - max(min(longest, room // 2), LEAST_NAME), LEAST_REASON)
-    reasons = fitting([row.forms for row in rows], most)
-    whys = min(max([3, *map(width, reasons)]), most)
-    end = max(wide - left - whys, LEAST_NAME)
-    lines = [f"{cells[0]}  {padded('why', whys)}  group"]
-    for numbers, reason, row in zip(cells[1:], reasons, rows):
-        lines.append(f"{numbers}  {padded(cut(reason, whys), whys)}  {fit(row.name, end)}".rstrip())
-    return lines

@@ -163,9 +163,12 @@ def document(target: Target, rows: Rows, words: Sequence[str]) -> Document:
         more = " --subresource resize"
     else:
         spec = {"template": {"spec": spec}}
+    if target.kind == "CronJob":
+        spec = {"jobTemplate": {"spec": spec}}
     file = f"{target.namespace}.{kind}.{target.name}.yaml"
     command = f"kubectl -n {target.namespace} patch {kind} {target.name}{more} --patch-file {file}"
-    data = {"apiVersion": "apps/v1" if target.kind in MAKERS else "v1", "kind": target.kind,
+    version = {"CronJob": "batch/v1", **dict.fromkeys(MAKERS, "apps/v1")}.get(target.kind, "v1")
+    data = {"apiVersion": version, "kind": target.kind,
             "metadata": {"name": target.name, "namespace": target.namespace}, "spec": spec}
     return Document(file, head("kubectl") + "".join(f"# {each}\n" for each in (command, *words))
                     + yaml.safe_dump(data, sort_keys=False))

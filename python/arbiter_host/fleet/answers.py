@@ -14,9 +14,10 @@ from typing import Any
 from arbiter import Columns, Host, QuotaColumns
 from arbiter.columns import column
 from arbiter_host.answers import series
+from arbiter_host.answers.explain import leaves, sums
 from arbiter_host.base.faults import HostFault
 from arbiter_host.base.model import Group, Model, checked
-from arbiter_host.base.plan import Engine, Plan, PlannedGroup, plan_of
+from arbiter_host.base.plan import Engine, Plan, plan_of
 from arbiter_host.fleet.work import Action, Job, Sent, SentRows
 
 # Most groups that an answer names for one reason.
@@ -58,39 +59,50 @@ def accepted(engine: Engine, host: Host, sent: SentRows) -> Plan:
     return plan_of(engine, model, rows)
 
 
-def leaves(plan: Plan) -> list[PlannedGroup]:
-    """The groups without children, in which demands are."""
-    return [each for each in plan.groups[1:] if not each.children]
+Chosen = frozenset[str] | None
 
 
-def sums(plan: Plan) -> dict[str, int]:
-    return {"served": plan.root.gets, "wanted": plan.root.want,
-            "lacking": sum(each.gets < each.want for each in leaves(plan)),
-            "starved": sum(each.is_starved for each in leaves(plan)),
-            "throttled": sum(each.is_throttled for each in plan.groups)}
+def chosen_in(told: dict[str, Any]) -> Chosen:
+    """The paths that are chosen; None for all."""
+    return None if told["chosen"] is None else frozenset(map(str, told["chosen"]))
+
+
+def by_workload(plan: Plan, told: dict[str, Any], chosen: Chosen) -> list[dict[str, Any]]:
+    """Amounts of the pods of each maker, all that are chosen of it."""
+    groups, rows = plan.by_path(), list[dict[str, Any]]()
+    for name, pods, request, is_scaled, paths in told["workloads"]:
+        of = [groups[path] for path in paths if chosen is None or path in chosen]
+        if of:
+            rows.append({"workload": str(name), "pods": int(pods), "request_millicpu": int(request),
+                         "scaled": bool(is_scaled), "served": sum(each.gets for each in of),
+                         "wanted": sum(each.want for each in of),
+                         "lacking": sum(each.gets < each.want for each in of)})
+    return rows
 
 
 def explained(_: Job, plans: Iterator[Plan], told: dict[str, Any]) -> dict[str, Any]:
     """The amounts that a host serves, which groups are worst off, and what limits the total."""
-    plan = next(plans)
-    worst = sorted((each.gets - each.want, each.path, each.row) for each in leaves(plan)
+    plan, chosen = next(plans), chosen_in(told)
+    worst = sorted((each.gets - each.want, each.path, each.row) for each in leaves(plan, chosen)
                    if each.gets < each.want)[:MOST_NAMED]
     limiting = [[each.path, each.limit] for each in plan.limiting]
-    return {**sums(plan), "limits": len(limiting), "limiting": limiting[:MOST_NAMED],
+    return {**sums(plan, chosen), "workloads": by_workload(plan, told, chosen),
+            "limits": len(limiting), "limiting": limiting[:MOST_NAMED],
             "worst": [[path, plan.groups[row].gets, plan.groups[row].want]
                       for _, path, row in worst],
+            "demands": str(told["demands"]), "weights": str(told["weights"]),
             "notes": int(told["notes"]), "refused": int(told["refused"])}
 
 
-def moved(before: Plan, after: Plan) -> list[tuple[int, str]]:
-    """By how much the amount of each group without children rises, and its path.
+def moved(before: Plan, after: Plan, chosen: Chosen = None) -> list[tuple[int, str]]:
+    """By how much the amount of each chosen group without children rises, and its path.
 
     A pod whose class changes has another path, and its row stays.
     """
     groups, by_path = after.groups, after.by_path()
     if len(before.groups) != len(groups):
         groups = [by_path[each.path] for each in before.groups]
-    return [(groups[each.row].gets - each.gets, each.path) for each in leaves(before)]
+    return [(groups[each.row].gets - each.gets, each.path) for each in leaves(before, chosen)]
 
 
 def losses(rises: Sequence[tuple[int, str]], sign: int = -1) -> list[list[Any]]:
@@ -102,33 +114,41 @@ def losses(rises: Sequence[tuple[int, str]], sign: int = -1) -> list[list[Any]]:
 def compared(_: Job, plans: Iterator[Plan], told: dict[str, Any]) -> dict[str, Any]:
     """The groups that gain by a change, and those that lose."""
     before, after, paths = next(plans), next(plans), told["matched"]
-    rises = moved(before, after)
+    chosen = chosen_in(told)
+    rises = moved(before, after, chosen)
     of_set = [rise for rise, path in rises
               if any(path == each or path.startswith(each + "/") for each in paths)]
-    return {"matched": len(paths), "before": sums(before), "after": sums(after),
+    return {"matched": len(paths), "before": sums(before, chosen), "after": sums(after, chosen),
             # How many groups have each change.
             "changes": sorted(Counter(rise for rise, _ in rises).items()),
             "changed_groups": sum(of_set), "others": sum(rise for rise, _ in rises) - sum(of_set),
             "gains": losses(rises, 1), "losses": losses(rises)}
 
 
+def amounts(told: dict[str, Any]) -> dict[str, int]:
+    """Amounts of resources by their names."""
+    return {str(name): int(amount) for name, amount in told.items()}
+
+
 def placed(job: Job, plans: Iterator[Plan], told: dict[str, Any]) -> dict[str, Any]:
     """The amounts of each pod by itself beside what is there, and who loses."""
     before, pods = next(plans), list[dict[str, Any]]()
     for (name, _), pod in zip(job.pods, told["pods"], strict=True):
+        of_all = {"pod": name, "requests": amounts(pod["requests"]),
+                  "not_looked_at": list(map(str, pod["not_looked_at"]))}
         if "why" in pod:
-            pods.append({"pod": name, "why": str(pod["why"])})
+            pods.append({**of_all, "why": str(pod["why"])})
             continue
         after, asking = next(plans), set(pod["asking"])
         groups = [each for each in leaves(after) if each.path in asking]
         rises = moved(before, after)
         lost = [-rise for rise, _ in rises if rise < 0]
-        pods.append({"pod": name, "gets": sum(each.gets for each in groups),
+        pods.append({**of_all, "gets": sum(each.gets for each in groups),
                      "wants": sum(each.want for each in groups),
                      "left": after.capacity - after.root.gets,
                      "lost": sum(lost), "losing": len(lost),
                      "losers": [[path, -rise] for path, rise in losses(rises)]})
-    return {"before": sums(before), "pods": pods}
+    return {"before": sums(before), "room": amounts(told["room"]), "pods": pods}
 
 
 def replayed(engine: Engine, host: Host, sent: Sent) -> dict[str, Any]:
@@ -158,7 +178,9 @@ def answer_of(job: Job, sent: Sent | str, engine: Engine) -> dict[str, Any]:
     try:
         if not all(type(each) is int for each in astuple(sent.host)):
             raise HostFault("a host of other than whole numbers")
-        host, groups = checked(sent.host), len(sent.plans[0].paths) - 1 if sent.plans else 0
+        host, chosen = checked(sent.host), chosen_in(sent.told)
+        all_ = len(sent.plans[0].paths) - 1 if sent.plans else 0
+        groups = all_ if chosen is None else len(chosen)
         answer = ACTIONS[job.action](
             job, (accepted(engine, host, each) for each in sent.plans), sent.told
         ) if job.action in ACTIONS else replayed(engine, host, sent)

@@ -5,7 +5,6 @@ import json
 import math
 import os
 from collections.abc import Callable, Mapping, Sequence
-from contextlib import suppress
 from dataclasses import dataclass, replace
 from typing import Any
 
@@ -13,7 +12,7 @@ from arbiter_host.base import demands, names
 from arbiter_host.base.faults import HostFault, UsageFault, strerror
 from arbiter_host.fleet.work import HostFile
 from arbiter_host.sources import kubernetes, load, pods
-from arbiter_host.sources.data import field, loads, table, text_field
+from arbiter_host.sources.data import field, loads, number, table, text_field
 from arbiter_host.sources.source_options import SourceOptions
 from arbiter_host.sources.usage import Used, of_metrics, some
 
@@ -37,17 +36,12 @@ class Pending:
 
 @dataclass(frozen=True)
 class Fleet:
-    """The hosts, and of a cluster what no node has yet and what each has left of its requests."""
+    """The hosts, and of a cluster what no node has yet."""
 
     hosts: list[HostFile]
     pending: tuple[Pending, ...] = ()
-    # Thousandths by the name of the host.
-    room: dict[str, int] | None = None
+    is_cluster: bool = False
     notes: tuple[str, ...] = ()
-
-    @property
-    def is_cluster(self) -> bool:
-        return self.room is not None
 
     def shapes(self) -> dict[pods.Pod, Pending]:
         """The first of the pods of each shape that no node has yet."""
@@ -142,15 +136,17 @@ def of_cluster(word: str, items: Sequence[dict[str, Any]], used: Sequence[Used] 
             (lost if place else pending).append(pod)
     own = list(of_metrics([each for each in items if each.get("kind") == "PodMetrics"], "usage"))
     metrics = metrics_of(used or own, want or "usage")
-    hosts_ = [host_of(word, node, of_node[name_of(node)], metrics)
+    scalers = [each for each in items if each.get("kind") == kubernetes.SCALER]
+    hosts_ = [host_of(word, node, [*of_node[name_of(node)], *scalers], metrics)
               for node in sorted(nodes, key=name_of)]
+    # The scheduler takes pods of a greater priority first.
+    pending.sort(key=lambda pod: -number(pod, "spec", "priority"))
     here = {title(pod) for each in of_node.values() for pod in each}
     told = {"pods of nodes that are not in it, left out": list(map(title, lost)),
             "used by pods that no node here has": [name for name in metrics if name not in here]}
     notes = [f"{words}: {some(list(map(names.shown, each)))}"
              for words, each in told.items() if each]
-    return Fleet([host for host, _ in hosts_], tuple(map(pending_of, pending)),
-                 {host.name: room for host, room in hosts_ if room is not None}, tuple(notes))
+    return Fleet(hosts_, tuple(map(pending_of, pending)), True, tuple(notes))
 
 
 def metrics_of(used: Sequence[Used], want: str) -> dict[str, dict[str, Any]]:
@@ -180,18 +176,13 @@ def title(pod: dict[str, Any]) -> str:
 
 
 def host_of(word: str, node: dict[str, Any], of_node: Sequence[dict[str, Any]],
-            metrics: Mapping[str, dict[str, Any]]) -> tuple[HostFile, int | None]:
-    """A node as a host, and the thousandths that it has left for requests."""
+            metrics: Mapping[str, dict[str, Any]]) -> HostFile:
+    """A node as a host, with its pods and what scales some."""
     name = names.shown(name_of(node) or "unnamed")
-    used = [metrics[each] for each in dict.fromkeys(map(title, of_node)) if each in metrics]
+    own = dict.fromkeys(map(title, filter(kubernetes.is_pod, of_node)))
+    used = [metrics[each] for each in own if each in metrics]
     data = json.dumps({"kind": "List", "items": [node, *of_node, *used]}).encode()
-    room = None
-    with suppress(HostFault):  # (what cannot be read is told when the host is)
-        allocatable = pods.thousandths(table(node, "status", "allocatable").get("cpu"), name)
-        asked = kubernetes.requested_by([pods.pod_of(pod, []) for pod in of_node
-                                         if not kubernetes.has_ended(pod)])
-        room = None if allocatable is None else allocatable - asked
-    return HostFile(name, f"{word}: {name}", data, frozenset(map(title, of_node))), room
+    return HostFile(name, f"{word}: {name}", data, frozenset(own))
 
 
 def pending_of(pod: dict[str, Any]) -> Pending:

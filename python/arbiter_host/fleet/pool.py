@@ -13,8 +13,7 @@ import os
 import signal
 import warnings
 from collections.abc import Generator, Iterable, Iterator
-from concurrent.futures import (FIRST_COMPLETED, Executor, Future, ProcessPoolExecutor,
-                                as_completed, wait)
+from concurrent.futures import FIRST_COMPLETED, Executor, Future, ProcessPoolExecutor, wait
 from concurrent.futures.process import BrokenProcessPool
 from contextlib import contextmanager, suppress
 from itertools import chain
@@ -35,6 +34,8 @@ MOST_DEATHS = 12
 ASK_SECONDS = 15.0
 # Seconds after which the end of a pool is late.
 LATE_SECONDS = 1.0
+# Seconds without any answer that end a run. A worker reads one host, which takes seconds.
+MOST_SILENT = 600.0
 GONE = "the scheduler went away"
 # PR_SET_PDEATHSIG of Linux.
 DEATH_SIGNAL = 1
@@ -42,6 +43,10 @@ DEATH_SIGNAL = 1
 
 # The name of a host, and what a worker sent of it or why nothing came.
 Replies = Generator[tuple[str, Sent | str], None, None]
+
+
+class SilentWorkers(Exception):
+    """The workers answer nothing any more."""
 
 
 def begin_worker() -> None:
@@ -98,6 +103,9 @@ def given(executor: Executor, width: int, job: Job,
     """Each host with its future when that has ended. So many are under way at a time.
 
     An executor that takes nothing more ends it: its last host has the error.
+
+    # Errors
+    SilentWorkers where none of those under way ends in time.
     """
     under: dict[Answered, HostFile] = {}
     for host in hosts:
@@ -110,9 +118,17 @@ def given(executor: Executor, width: int, job: Job,
             under[refused] = host
             break
         if len(under) >= width:
-            for each in wait(under, return_when=FIRST_COMPLETED).done:
-                yield under.pop(each), each
-    for each in as_completed(list(under)):
+            yield from ended(under)
+    while under:
+        yield from ended(under)
+
+
+def ended(under: dict[Answered, HostFile]) -> Iterator[tuple[HostFile, Answered]]:
+    """Takes those that have ended from those under way, once one has."""
+    done = wait(under, MOST_SILENT, FIRST_COMPLETED).done
+    if not done:
+        raise SilentWorkers(f"no worker answered anything in {MOST_SILENT:g} seconds")
+    for each in done:
         yield under.pop(each), each
 
 

@@ -13,11 +13,13 @@ from arbiter_host.base.output import warn
 from arbiter_host.base.plan import engine_of
 from arbiter_host.fleet import answers, pool, report
 from arbiter_host.fleet.answers import HostAnswer
-from arbiter_host.fleet.hosts import Fleet
-from arbiter_host.fleet.report import Report
+from arbiter_host.fleet.hosts import Fleet, Pending
+from arbiter_host.fleet.report import Report, Waiting
 from arbiter_host.fleet.work import Action, HostFile, Job
 from arbiter_host.sources import used
+from arbiter_host.sources.kubernetes import replicas_in
 from arbiter_host.sources.samples import History
+from arbiter_host.sources.selection import Selection, labels_of
 from arbiter_host.sources.source_options import UseOptions
 from arbiter_host.sources.usage import some
 
@@ -73,17 +75,20 @@ def asked(planners: Planners, job: Job, fleet: Fleet,
             except HostFault as fault:
                 missing[host.name] = fault.message
 
-    replies = pool.replies(workers, planners.dask, job, files())
+    replies, left = pool.replies(workers, planners.dask, job, files()), pool.GONE
     with progress.bar("hosts", len(fleet.hosts)) as tick, closing(replies):
-        for name, sent in replies:
-            try:
-                found[name] = HostAnswer(name, answers.answer_of(job, sent, engine))
-            except HostFault as fault:
-                missing[name] = fault.message
-            tick()
+        try:
+            for name, sent in replies:
+                try:
+                    found[name] = HostAnswer(name, answers.answer_of(job, sent, engine))
+                except HostFault as fault:
+                    missing[name] = fault.message
+                tick()
+        except pool.SilentWorkers as silent:
+            left = str(silent)
     for host in fleet.hosts:
         if host.name not in found:
-            missing.setdefault(host.name, pool.GONE)
+            missing.setdefault(host.name, left)
     return [found[name] for name in sorted(found)], sorted(missing.items())
 
 
@@ -92,21 +97,53 @@ def reported(name: str, planners: Planners, job: Job, fleet: Fleet, rule: str,
     """The report of a question of some name, and what raises a fault where a host is not answered,
     or where a pod fits on none. With the plans of a cluster goes where its pods go that wait."""
     hosts, missing = asked(planners, job, fleet, samples)
-    told = report.built(job.action, name, hosts, missing, rule)
-    if job.action is Action.PLAN and fleet.pending:
-        pods = [(f"{each.title}.json", each.data) for each in fleet.shapes().values()]
+    words, asks = job.selection.words, job.action is Action.PLAN
+    if words and hosts and not (any(host.answer["groups"] for host in hosts) or asks and any(
+            is_chosen(job.selection, each) for each in fleet.pending)):
+        raise NothingFound(f"no group of {names.shown(words)} on any host")
+    told = report.built(job.action, name, hosts, missing, rule, words)
+    title, placing, waiting = "pods that no node has yet", hosts, list[Waiting]()
+    if asks and fleet.pending:
+        shapes = fleet.shapes()
+        pods = [(f"{each.title}.json", each.data) for each in shapes.values()]
         placing, _ = asked(planners, replace(job, action=Action.PODS, pods=pods), fleet)
-        told = report.with_pending(told, fleet, placing, rule)
-    return told, lambda: check_answered(fleet, hosts, missing)
+        places = {shape: place for place, shape in enumerate(shapes)}
+        waiting = [Waiting(each.title, places[each.shape], each.shape.asks,
+                           is_chosen(job.selection, each)) for each in fleet.pending]
+    elif job.action is Action.PODS and hosts:
+        title = "pods, one after another"
+        waiting = list(replicas(job, hosts[0]))
+    if any(each.is_chosen for each in waiting) if asks else len(waiting) > 1:
+        told = report.with_placed(told, title, waiting, placing, rule)
+    return told, lambda: check_answered(fleet, hosts, missing, told)
 
 
-def check_answered(fleet: Fleet, hosts: Sequence[HostAnswer], missing: Missing) -> None:
+def is_chosen(by: Selection, pod: Pending) -> bool:
+    """Whether a pod that no node has is one of some namespaces and labels. It has no group."""
+    namespace, _, _ = pod.title.partition("/")
+    return not by.groups and (not by.namespaces or namespace in by.namespaces) and (
+        labels_of(by.selectors).items() <= set(pod.shape.labels))
+
+
+def replicas(job: Job, host: HostAnswer) -> Iterator[Waiting]:
+    """The pods of a question: of each file as many as its object makes."""
+    for place, (name, data) in enumerate(job.pods):
+        count, requests = replicas_in(name, data), host.answer["pods"][place]["requests"]
+        for at in range(1, count + 1):
+            yield Waiting(name if count == 1 else f"{name} {at} of {count}", place, requests)
+
+
+def check_answered(fleet: Fleet, hosts: Sequence[HostAnswer], missing: Missing,
+                   told: Report) -> None:
     """A fault where a host is not answered, or where a pod fits on none."""
     if missing:
         raise HostFault(f"hosts that are not answered: {len(missing)} of {len(fleet.hosts)}, the"
                         f" first {missing[0][0]}: {missing[0][1]}")
-    pods = [host.answer.get("pods", []) for host in hosts]
+    pods = [host.answer["pods"] for host in hosts if "pods" in host.answer]
     for each in zip(*pods):
         if all("why" in pod for pod in each):
             raise NothingFound(f"{names.shown(each[0]['pod'])}: no host of {len(hosts)} takes it,"
                                f" as {hosts[0].name}: {each[0]['why']}")
+    for row in told.data.get("pending", []) if pods else []:
+        if row["host"] is None:
+            raise NothingFound(f"{names.shown(row['pod'])}: {row['why']}")

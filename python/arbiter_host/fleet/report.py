@@ -5,35 +5,43 @@ from collections.abc import Callable, Iterable, Mapping, Sequence
 from dataclasses import dataclass, replace
 from fractions import Fraction
 from operator import itemgetter
-from typing import Any
+from typing import Any, NamedTuple
 
 from arbiter_host.answers.series import COUNTS
 from arbiter_host.base.html import bar, rendered
-from arbiter_host.base.names import short, shown
-from arbiter_host.base.tables import Column, Table, TableAnswer
+from arbiter_host.base.names import few, short, shown
+from arbiter_host.base.tables import Column, Table, TableAnswer, plain
 from arbiter_host.fleet.answers import HostAnswer
-from arbiter_host.fleet.hosts import Fleet
 from arbiter_host.fleet.work import Action
+from arbiter_host.sources.kubernetes import resource_text
 
 # The rules of `--rank`, told in the report.
 RULES = {
     "least-loss": "the least that others lose and the pod lacks, then the most CPU left",
     "most-left": "the most CPU left, then the least that others lose and the pod lacks",
 }
-# The table of pods that no node has yet, and the amounts of an answer in it.
-PENDING = ["pod", "requests", "host", "gets", "wants", "others lose", "why"]
+OWN = "the order is arbiterctl's own, neither proved nor the scheduler's scores: by"
+# The table of pods that are put on hosts, its columns that it may lack, and the amounts of an
+# answer in it.
+PENDING = ["pod", "requests", "host", "gets", "wants", "others lose", "why", "not looked at"]
+OPTIONAL = PENDING[-2:]
 AMOUNTS = ("gets", "wants", "lost")
 MOST_MOVED = 10
+# Columns of what is bad, and their cells where there is none of it.
+BAD, NONE = ("starved", "throttled", "bursts", "losing"), ("0", "0 to 0")
+# The titles of pages.
+TITLES = {Action.PLAN: "What each host serves", Action.CHANGE: "A change on many hosts",
+          Action.PODS: "Where pods would go", Action.SAMPLES: "Demands over time on many hosts"}
 # Rows of a table without `--all`.
 MOST_ROWS = 20
 
 
 @dataclass(frozen=True)
 class Report:
-    """All that is told of a run, by the name of its question: lines, tables, hosts without an
-    answer, the same as data, and the bars of all hosts together."""
+    """All that is told of a run, by its title: lines, tables, hosts without an answer, the same as
+    data, and the bars of all hosts together."""
 
-    name: str
+    title: str
     lines: list[str]
     tables: list[Table[Any]]
     missing: list[tuple[str, str]]
@@ -57,18 +65,22 @@ def amount_of(*keys: str) -> Cell:
     return lambda host: cpu(host.of(*keys))
 
 
-def table(title: str, hosts: Iterable[HostAnswer], columns: Columns) -> Table[HostAnswer]:
-    """A table with a row for each host, in the order in which they are given."""
+def table(title: str, hosts: Sequence[HostAnswer], columns: Columns) -> Table[HostAnswer]:
+    """A table with a row for each host, in the order in which they are given. What no host has of
+    bad things has no column."""
     return Table([Column("host", lambda host: host.name, True),
-                  *(Column(head, cell, None) for head, cell in columns.items())],
+                  *(Column(head, cell, None) for head, cell in columns.items()
+                    if head not in BAD or any(cell(host) not in NONE for host in hosts))],
                  list(hosts), title)
 
 
-def listed(title: str, heads: Sequence[str], rows: Sequence[Sequence[str]]
-           ) -> Table[Sequence[str]]:
-    """A table of rows that are made, of which the first column has names."""
-    return Table([Column(head, itemgetter(at), at == 0 or None) for at, head in enumerate(heads)],
-                 rows, title)
+def listed(title: str, heads: Sequence[str], rows: Sequence[Sequence[str]],
+           optional: Sequence[str] = ()) -> Table[Sequence[str]]:
+    """A table of rows that are made, of which the first column has names. Columns that it may lack
+    are there where a row has something."""
+    return Table([Column(head, itemgetter(at), at == 0 or head == "requests" or None)
+                  for at, head in enumerate(heads)
+                  if head not in optional or any(row[at] != "-" for row in rows)], rows, title)
 
 
 def cpu(value: Fraction) -> str:
@@ -115,6 +127,18 @@ PLAN_COLUMNS: Columns = {
 }
 
 
+def cell_of(key: str) -> Callable[[Mapping[str, Any]], str]:
+    """A cell with a value of a row, amounts with two decimals."""
+    return lambda row: f"{row[key]:.2f}" if isinstance(row[key], float) else str(row[key])
+
+
+LOADS: list[Column[Mapping[str, Any]]] = [
+    Column("workload", lambda row: shown(row["workload"]) + (" (HPA)" if row["scaled"] else ""),
+           True), Column("requests", lambda row: f"{row['request_millicpu']}m"),
+    *(Column(key.partition("_")[0], cell_of(key))
+      for key in ("pods", "hosts", "served_cpus", "wanted_cpus", "lacking"))]
+
+
 def of_plan(hosts: Sequence[HostAnswer], _: str) -> Parts:
     """The report of `explain`: the hosts that lack most first."""
     amounts = {key: total(hosts, key) for key in ("served", "wanted", "capacity")}
@@ -123,11 +147,40 @@ def of_plan(hosts: Sequence[HostAnswer], _: str) -> Parts:
              f" {cpu(amounts['wanted'])} wanted, groups: {counts['groups']};"
              " the proved check accepted each plan",
              f"groups without all that they want: {counts['lacking']}, of these starved:"
-             f" {counts['starved']}; throttled: {counts['throttled']}"]
+             f" {counts['starved']}; throttled: {counts['throttled']}",
+             f"demands: {distinct(hosts, 'demands')}; weights: {distinct(hosts, 'weights')}"]
     ordered = sorted(hosts, key=lambda host: (-lack(host), host.name))
-    data = {f"{key}_cpus": number(value) for key, value in amounts.items()} | counts
-    return lines, [table("Hosts, the greatest lack first", ordered, PLAN_COLUMNS)], data, {
-        "": amounts["served"]}
+    loads = workloads(hosts)
+    data = {f"{key}_cpus": number(value) for key, value in amounts.items()} | counts | {
+        "workloads": loads}
+    tables: list[Table[Any]] = [table("Hosts, the greatest lack first", ordered, PLAN_COLUMNS)]
+    tables += [Table(LOADS, loads, "Workloads, the greatest lack first")] if loads else []
+    return lines, tables, data, {"": amounts["served"]}
+
+
+def distinct(hosts: Sequence[HostAnswer], key: str) -> str:
+    """The words of some hosts, each once."""
+    return few(list(dict.fromkeys(shown(host.answer[key]) or "none" for host in hosts)), 2)
+
+
+def workloads(hosts: Sequence[HostAnswer]) -> list[dict[str, Any]]:
+    """The pods of each maker on all hosts, those that lack most first."""
+    found: dict[str, dict[str, Any]] = {}
+    for host in hosts:
+        for each in host.answer["workloads"]:
+            row = found.setdefault(each["workload"], {
+                "workload": each["workload"], "scaled": each["scaled"], "hosts": 0,
+                **dict.fromkeys(("pods", "request_millicpu", "lacking"), 0),
+                **dict.fromkeys(("served_cpus", "wanted_cpus"), Fraction(0))})
+            row["hosts"] += 1
+            for key in ("pods", "request_millicpu", "lacking"):
+                row[key] += each[key]
+            for key in ("served", "wanted"):
+                row[f"{key}_cpus"] += host.cpus(each[key])
+    rows = sorted(found.values(), key=lambda row: (row["served_cpus"] - row["wanted_cpus"],
+                                                   row["workload"]))
+    return [{**row, **{key: number(row[key]) for key in ("served_cpus", "wanted_cpus")}}
+            for row in rows]
 
 
 def lost(host: HostAnswer) -> Fraction:
@@ -186,6 +239,12 @@ def ranked(hosts: Sequence[HostAnswer], place: int, rule: str) -> list[HostAnswe
     return sorted((host for host in hosts if "why" not in host.answer["pods"][place]), key=key)
 
 
+def unjudged(pods: Iterable[dict[str, Any]]) -> list[str]:
+    """The conditions of a pod that are not looked at on some hosts, in words; none for none."""
+    words = dict.fromkeys(word for pod in pods for word in pod["not_looked_at"])
+    return [shown(", ".join(words))] if words else []
+
+
 def place_columns(place: int) -> Columns:
     def amount(key: str) -> Callable[[HostAnswer], str]:
         return lambda host: cpu(host.cpus(host.answer["pods"][place][key]))
@@ -198,7 +257,7 @@ def place_columns(place: int) -> Columns:
 
 def of_places(hosts: Sequence[HostAnswer], rule: str) -> Parts:
     """The report of `place`: for each pod the best hosts first."""
-    lines, tables, best = [f"by {rule}: {RULES[rule]}; amounts are CPUs"], [], {}
+    lines, tables, best = [f"{OWN} {rule}: {RULES[rule]}; amounts are CPUs"], [], {}
     for place, name in enumerate(pod["pod"] for pod in hosts[0].answer["pods"]) if hosts else ():
         order, pods = ranked(hosts, place, rule), [host.answer["pods"][place] for host in hosts]
         cannot = [f"{host.name}: {shown(pod['why'])}" for host, pod in zip(hosts, pods)
@@ -207,7 +266,8 @@ def of_places(hosts: Sequence[HostAnswer], rule: str) -> Parts:
                     for pod in pods)
         lines.append(f"{shown(name)}: hosts that give it all without a loss to others: {whole} of"
                      f" {len(hosts)}" + (f"; that cannot take it: {len(cannot)}, as {cannot[0]}"
-                                         if cannot else ""))
+                                         if cannot else "")
+                     + "".join(f"; not looked at: {each}" for each in unjudged(pods)[:1]))
         tables.append(table(f"Where {shown(name)} would go, the best first", order,
                             place_columns(place)))
         best[name] = [host.name for host in order]
@@ -260,43 +320,73 @@ ACTIONS: dict[Action, Callable[[Sequence[HostAnswer], str], Parts]] = {
 
 
 def built(action: Action, name: str, hosts: Sequence[HostAnswer],
-          missing: Sequence[tuple[str, str]], rule: str) -> Report:
-    """The report of a run. It depends on the answers alone, and not on who gave them when."""
-    lines, tables, data, sums = ACTIONS[action](hosts, rule)
+          missing: Sequence[tuple[str, str]], rule: str, chosen: str = "") -> Report:
+    """The report of a run, of hosts that have some of the groups that words choose. It depends on
+    the answers alone, and not on who gave them when."""
+    with_some = [host for host in hosts if host.answer["groups"] or not chosen]
+    lines, tables, data, sums = ACTIONS[action](with_some, rule)
+    if chosen:
+        lines.insert(0, f"of {shown(chosen)} alone: hosts that have some: {len(with_some)}")
     first = f"hosts: {len(hosts) + len(missing)}, answered: {len(hosts)}, not answered:" \
             f" {len(missing)}"
     data = {"action": name, "answered": len(hosts), "not_answered": [
                 {"host": host, "why": why} for host, why in missing],
-            "fleet": data, "hosts": [{"host": host.name, **host.answer} for host in hosts]}
+            "fleet": data, "hosts": [{"host": host.name, **host.answer} for host in with_some]}
     # (what is planned of the capacity of all hosts together, and what is left)
-    all_ = total(hosts, "capacity")
+    all_ = total(with_some, "capacity")
+    if len(set(sums.values())) == 1:
+        sums = {"": next(iter(sums.values()))}
     bars = [bar(each, "CPUs", planned=cpu(cpus), left=cpu(all_ - cpus), capacity=cpu(all_))
             for each, cpus in sums.items()]
-    has_any = bool(hosts)
-    return Report(name, [first, *(lines if has_any else [])], tables if has_any else [],
+    has_any = bool(with_some)
+    lines = [first, *(lines if has_any else lines[:1] if chosen else [])]
+    if action is Action.PODS:  # (whose order it is stands before anything that is ordered)
+        lines[:2] = lines[1::-1]
+    return Report(TITLES[action], lines, tables if has_any else [],
                   list(missing), data, bars if has_any else [])
 
 
-def pending(fleet: Fleet, hosts: Sequence[HostAnswer], rule: str) -> list[dict[str, Any]]:
-    """Each pod in order goes to the best host that has room for its request, or why it does not.
+class Waiting(NamedTuple):
+    """A pod that is to be put on a host: its name, its place among the pods that each host was
+    asked for, and what it requests, by the names of the resources."""
 
-    What a host gives is as if the pod came alone. Its request stays taken for those behind it.
+    name: str
+    place: int
+    requests: Mapping[str, int]
+    is_chosen: bool = True
+
+    @property
+    def words(self) -> str:
+        """The requests for people."""
+        others = [f"{resource_text(name, amount)} {shown(name)}"
+                  for name, amount in self.requests.items() if name not in ("cpu", "pods")]
+        return ", ".join([resource_text("cpu", self.requests.get("cpu", 0)), *others])
+
+
+def placed(waiting: Sequence[Waiting], hosts: Sequence[HostAnswer], rule: str
+           ) -> list[dict[str, Any]]:
+    """Each pod in order goes to the best host that has room for its requests, or why it does not.
+
+    What a host gives is as if the pod came alone. Its requests stay taken for those behind it.
     """
-    room, rows = dict(fleet.room or {}), []
-    places = {shape: place for place, shape in enumerate(fleet.shapes())}
-    for pod in fleet.pending:
-        place = places[pod.shape]
-        order = ranked(hosts, place, rule)
-        best = next((host for host in order
-                     if room.get(host.name, pod.request) >= pod.request), None)
-        row: dict[str, Any] = {"pod": pod.title, "request_millicpu": pod.request,
-                               "host": best.name if best else None}
+    room, rows = {host.name: dict(host.answer["room"]) for host in hosts}, []
+    for pod in waiting:
+        order = ranked(hosts, pod.place, rule)
+        best = next((host for host in order if all(
+            amount <= max(room[host.name].get(name, amount), 0)
+            for name, amount in pod.requests.items() if amount)), None)
+        told = (best or hosts[0]).answer["pods"][pod.place] if hosts else {"not_looked_at": []}
+        row: dict[str, Any] = {
+            "pod": pod.name, "request_millicpu": pod.requests.get("cpu", 0),
+            "requests": dict(pod.requests), "not_looked_at": told["not_looked_at"],
+            "host": best.name if best else None}
         if best is None:
-            row["why"] = refusal(place, hosts, order)
+            row["why"] = refusal(pod.place, hosts, order)
         else:
-            room[best.name] = room.get(best.name, pod.request) - pod.request
-            row |= {f"{key}_cpus": number(best.cpus(best.answer["pods"][place][key]))
-                    for key in AMOUNTS}
+            left = room[best.name]
+            left |= {name: left[name] - amount for name, amount in pod.requests.items()
+                     if name in left}
+            row |= {f"{key}_cpus": number(best.cpus(told[key])) for key in AMOUNTS}
         rows.append(row)
     return rows
 
@@ -306,29 +396,31 @@ def refusal(place: int, hosts: Sequence[HostAnswer], order: Sequence[HostAnswer]
         return "no host is answered"
     if order:
         return f"pods before it take what {order[0].name} has left"
-    rest = f", and so {len(hosts) - 1} more" if len(hosts) > 1 else ""
+    rest = f"; {len(hosts) - 1} more refuse it" if len(hosts) > 1 else ""
     return f"{hosts[0].name}: {hosts[0].answer['pods'][place]['why']}{rest}"
 
 
-def with_pending(to: Report, fleet: Fleet, hosts: Sequence[HostAnswer], rule: str) -> Report:
-    """A report with where the pods go that no node has yet."""
-    pods = pending(fleet, hosts, rule)
+def with_placed(to: Report, title: str, waiting: Sequence[Waiting], hosts: Sequence[HostAnswer],
+                rule: str) -> Report:
+    """A report with where some pods go, one after another, of those that are chosen."""
+    of_all = zip(waiting, placed(waiting, hosts, rule))
+    chosen = [(of, each) for of, each in of_all if of.is_chosen]
+    pods = [each for _, each in chosen]
     unplaced = sum(each["host"] is None for each in pods)
-    rows = [[each["pod"], f"{each['request_millicpu']}m", each["host"] or "unplaced",
+    rows = [[each["pod"], of.words, each["host"] or "unplaced",
              *(f"{each[f'{key}_cpus']:.2f}" if each["host"] else "-" for key in AMOUNTS),
-             each.get("why", "-")] for each in pods]
-    line = (f"pods that no node has yet: {len(pods)}, unplaced: {unplaced}; by {rule}:"
-            f" {RULES[rule]}")
+             each.get("why", "-"), *(unjudged([each]) or "-")] for of, each in chosen]
+    line = f"{title}: {len(pods)}, unplaced: {unplaced}; {OWN} {rule}: {RULES[rule]}"
     return replace(to, lines=[*to.lines, line], data={**to.data, "pending": pods}, tables=[
-        *to.tables, listed("Pods that no node has yet", PENDING, rows)])
+        *to.tables, listed(title[:1].upper() + title[1:], PENDING, rows, OPTIONAL)])
 
 
 def answer(report: Report, has_all: bool) -> TableAnswer:
     """The report as an answer. Each host without one is named."""
     foot = ["", "Not answered:", *(f"{name}: {shown(why)}" for name, why in report.missing)]
-    return TableAnswer([(line, "") for line in report.lines],
-                       [each for each in report.tables if each.records], lambda: report.data,
-                       [(line, "") for line in foot] if report.missing else (),
+    return TableAnswer(lambda: [
+        *plain(*report.lines), *(each for each in report.tables if each.records),
+        *plain(*(foot if report.missing else ()))], lambda: report.data,
                        None if has_all else MOST_ROWS)
 
 
@@ -336,6 +428,6 @@ def page(report: Report, words: Sequence[str] = ()) -> str:
     """The report as one HTML page, whose tables sort and can be searched, with the words of a
     change."""
     missing = [(shown(name), shown(why)) for name, why in report.missing]
-    return rendered("fleet.html", f"Fleet: {report.name}", report.lines, hosts=report.bars,
+    return rendered("fleet.html", report.title, report.lines, hosts=report.bars,
                     tables=[each.page() for each in report.tables if each.records],
                     words=list(map(shown, words)), missing=missing)

@@ -15,11 +15,12 @@ from typing import Any, NamedTuple
 from arbiter import Columns, Host
 from arbiter_host.answers import series
 from arbiter_host.base import demands, names
-from arbiter_host.base.faults import HostFault
+from arbiter_host.base.faults import HostFault, NothingFound
 from arbiter_host.base.model import Model
 from arbiter_host.base.plan import Engine, engine_of
-from arbiter_host.sources import change, load
+from arbiter_host.sources import change, load, selection
 from arbiter_host.sources.samples import History
+from arbiter_host.sources.selection import Selection
 from arbiter_host.sources.source_options import SourceOptions
 
 
@@ -49,6 +50,8 @@ class Job:
     unit: str = "cpu"
     sample_usec: int = 0
     mapping: Mapping[str, str] = field(default_factory=dict)
+    # The groups that are chosen.
+    selection: Selection = Selection()
     # Whether a server gave the columns, which may know groups of other hosts too.
     is_served: bool = False
     # The C library; none stands for the first that a worker finds.
@@ -97,8 +100,20 @@ def rows(engine: Engine, *models: Model) -> list[SentRows]:
     return [sent(each, Columns.of(each.rows(engine.library))) for each in models]
 
 
+def chosen(job: Job, model: Model) -> list[str] | None:
+    """The paths that are chosen, none where nothing of this host is; None for all."""
+    try:
+        paths = selection.chosen(model, job.selection)
+    except NothingFound:
+        return []
+    return None if paths is None else sorted(paths)
+
+
 def explained(_: Job, model: Model, engine: Engine) -> SentPlans:
-    return rows(engine, model), {"notes": len(model.notes), "refused": len(model.refused)}
+    workloads = model.owned.workloads() if model.owned is not None else []
+    return rows(engine, model), {"notes": len(model.notes), "refused": len(model.refused),
+                                 "demands": model.asked, "weights": model.weighed,
+                                 "workloads": [tuple(each) for each in workloads]}
 
 
 def matched(model: Model, words: Sequence[str]) -> tuple[list[str], set[str]]:
@@ -154,15 +169,21 @@ def pod_of(job: Job, name: str, data: bytes, model: Model, engine: Engine) -> Mo
 
 def placed(job: Job, model: Model, engine: Engine) -> SentPlans:
     """The rows without a pod, and those with each by itself."""
-    models, pods = [model], list[dict[str, Any]]()
+    models, pods, own = [model], list[dict[str, Any]](), model.owned
     for name, data in job.pods:
+        told: dict[str, Any] = {"pod": name, "requests": {}, "not_looked_at": []}
+        pods.append(told)
         try:
-            after, asking = with_pod(model, pod_of(job, name, data, model, engine))
+            pod = pod_of(job, name, data, model, engine)
+            if own is not None and pod.owned is not None:
+                told |= {"requests": pod.owned.asks, "not_looked_at": own.unjudged(pod.owned)}
+            after, told["asking"] = with_pod(model, pod)
             models.append(after)
-            pods.append({"pod": name, "asking": asking})
         except HostFault as fault:
-            pods.append({"pod": name, "why": fault.message})
-    return rows(engine, *models), {"pods": pods}
+            told["why"] = fault.message
+    room = {} if own is None else {name: amount - own.asks.get(name, 0)
+                                   for name, amount in own.offers.items()}
+    return rows(engine, *models), {"pods": pods, "room": room}
 
 
 def replayed(job: Job, model: Model, engine: Engine, history: History) -> SentPlans:
@@ -172,11 +193,13 @@ def replayed(job: Job, model: Model, engine: Engine, history: History) -> SentPl
                              missing if job.is_served else None)
     if not path_of or not history.samples:
         raise HostFault("no sample of a group of this host")
+    wanted = chosen(job, model)
     periods = series.sample_periods(job.sample_usec, model.host.period_us)
     asked = series.asked_of(engine, model, history, job.unit, path_of, periods)
     return [SentRows(asked.paths, asked.settings)], {
         "demands": asked.demands, "carries": asked.carries, "periods": periods,
-        "columns": list(path_of.values()), "unknown": missing}
+        "columns": [path for path in path_of.values() if wanted is None or path in wanted],
+        "unknown": missing, "chosen": wanted}
 
 
 ACTIONS = {Action.PLAN: explained, Action.CHANGE: compared, Action.PODS: placed}
@@ -195,6 +218,7 @@ def planned(job: Job, host: HostFile) -> Sent:
                         f" {model.refused[0]}")
     if host.history is None:
         plans, told = ACTIONS[job.action](job, model, engine)
+        told["chosen"] = chosen(job, model)
     else:
         kind = load.kind_in(options, [(host.path, host.data)])
         model = options.of_samples(engine.library, kind, model, job.unit, job.sample_usec)

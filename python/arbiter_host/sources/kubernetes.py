@@ -9,6 +9,7 @@ from __future__ import annotations
 import functools
 import math
 import re
+from collections import Counter
 from collections.abc import Iterable, Iterator, Mapping, Sequence
 from dataclasses import dataclass, replace
 from fractions import Fraction
@@ -17,21 +18,29 @@ from typing import Any
 from arbiter import Library
 from arbiter_host.base import demands, names, search, units
 from arbiter_host.base.demands import Measured, Place
-from arbiter_host.base.faults import HostFault, NoHost
+from arbiter_host.base.faults import HostFault, NoHost, naming
 from arbiter_host.base.model import NO_POD, Group, Model, PodNames, check_count, checked
 from arbiter_host.base.names import NOWHERE, shown
-from arbiter_host.base.owned import Amounts, Owned, Range, Setting
-from arbiter_host.sources.data import field, loads, table, text_field
+from arbiter_host.base.owned import Amounts, Owned, Range, Setting, Workload
+from arbiter_host.sources.conditions import ANTI_AFFINITY, NodeFacts, node_facts
+from arbiter_host.sources.data import field, loads, table, tables, text_field
 from arbiter_host.sources.measurable import Measurable
-from arbiter_host.sources.pods import (CLASSES, TOP, Container, NodeFacts, Pod, folder_at,
-                                       folder_of, names_by, names_of, node_facts, pod_of, requested,
-                                       scope_of, thousandths)
+from arbiter_host.sources.pods import (CLASSES, TOP, Container, Pod, folder_at, folder_of, names_by,
+                                       names_of, number_of, pod_of, requested, scope_of,
+                                       thousandths)
+from arbiter_host.sources.register import is_json
 from arbiter_host.sources.usage import Used, of_metrics
 from arbiter_host.sources.source_options import DRIVERS, File, SourceOptions
 
 ENDED = ("Succeeded", "Failed")
 # Kinds that make pods of a template.
 MAKERS = ("Deployment", "StatefulSet", "DaemonSet", "ReplicaSet")
+# The object that sets the number of a maker's pods by what they use.
+SCALER = "HorizontalPodAutoscaler"
+# Resources of which each node has some: one that tells of none is not known.
+COMMON = ("memory", "ephemeral-storage")
+# Pods that one template may make at once.
+MOST_REPLICAS = 10000
 # A request of so many thousandths has the greatest shares; no greater one weighs more.
 MOST_REQUEST = units.MAX_SHARES * 1000 // 1024
 
@@ -39,9 +48,11 @@ MOST_REQUEST = units.MAX_SHARES * 1000 // 1024
 def made_by(maker: dict[str, Any]) -> dict[str, Any]:
     """One pod that an object makes of its template, by the object's name."""
     metadata, template = table(maker, "metadata"), table(maker, "spec", "template")
-    name = text_field(metadata, "name")
+    name, spec = text_field(metadata, "name"), table(template, "spec")
     owner = {"kind": text_field(maker, "kind"), "name": name, "controller": True}
-    return {"kind": "Pod", "spec": table(template, "spec"),
+    claims = tables(maker, "spec", "volumeClaimTemplates")
+    volumes = [*tables(spec, "volumes"), *({"persistentVolumeClaim": each} for each in claims)]
+    return {"kind": "Pod", "spec": {**spec, "volumes": volumes},
             "metadata": {"name": name, "namespace": text_field(metadata, "namespace"),
                          "labels": table(template, "metadata", "labels"),
                          "ownerReferences": [owner]}}
@@ -63,6 +74,17 @@ def items_of(data: Any, name: str) -> list[dict[str, Any]]:
     raise HostFault(f"{name}: no pods or node as kubectl prints them with -o json")
 
 
+def replicas_in(name: str, data: bytes) -> int:
+    """The number of pods that a file's object makes: its replicas; 1 of any other."""
+    maker = loads(data, name) if is_json(data) else None
+    count = field(maker, "spec", "replicas")
+    if text_field(maker, "kind") not in MAKERS or count is None:
+        return 1
+    if isinstance(count, bool) or not isinstance(count, int) or not 1 <= count <= MOST_REPLICAS:
+        raise HostFault(f"{name}: replicas: 1 to {MOST_REPLICAS}")
+    return count
+
+
 def is_pod(item: dict[str, Any]) -> bool:
     """Whether an object is a pod; items of a list need not say so. A fault where one that does has
     not what each pod has."""
@@ -78,9 +100,17 @@ def is_pod(item: dict[str, Any]) -> bool:
 def other_kinds(items: Sequence[dict[str, Any]]) -> list[str]:
     """A note of objects that are neither pods nor nodes nor what was used, if there are any."""
     others = [text_field(each, "kind") for each in items
-              if each.get("kind", "Pod") not in ("Pod", "Node", "PodMetrics")]
+              if each.get("kind", "Pod") not in ("Pod", "Node", "PodMetrics", SCALER)]
     return [f"objects of other kinds, left out: {len(others)}:"
             f" {names.few(sorted(set(map(shown, others))))}"] if others else []
+
+
+def scaled_in(items: Sequence[dict[str, Any]]) -> frozenset[str]:
+    """The owners whose number of pods an autoscaler among some objects sets."""
+    targets = [(each, table(each, "spec", "scaleTargetRef")) for each in items
+               if each.get("kind") == SCALER]
+    return frozenset(f"{text_field(to, 'kind')} {names_of(each)[0]}/{text_field(to, 'name')}"
+                     for each, to in targets)
 
 
 def has_ended(item: dict[str, Any]) -> bool:
@@ -213,6 +243,16 @@ def amount_of(setting: Setting) -> int | None:
     return None if amount is None else math.ceil(amount)
 
 
+def resource_text(name: str, amount: int) -> str:
+    """An amount of a resource as Kubernetes writes it: `m` of CPU, and bytes by Mi or Gi."""
+    if name == "cpu":
+        return f"{amount}m"
+    if name == "memory" or name.endswith("storage") or name.startswith("hugepages-"):
+        unit, of = ("Gi", 2**30) if amount >= 2**30 else ("Mi", 2**20)
+        return f"{units.decimal(Fraction(amount, of), 2)}{unit}"
+    return str(amount)
+
+
 def amount_text(amount: int | None) -> str:
     """A request or a limit as Kubernetes writes it."""
     return "-" if amount is None else f"{amount}m"
@@ -242,6 +282,8 @@ class PodSource(Measurable):
     allocatable: int | None = None
     names_host: bool = False
     node: NodeFacts = NodeFacts()
+    # The owners of which something else sets how many pods run.
+    scaled: frozenset[str] = frozenset()
 
     @functools.cached_property
     def built(self) -> tuple[Model, Mapping[str, Place]]:
@@ -318,6 +360,20 @@ class PodSource(Measurable):
     def owner(self, path: str) -> str:
         pod, number, _ = self.part(path)
         return f"{pod.owner}/{pod.parts[number].name}" if pod.owner else self.title(path)
+
+    def is_scaled(self, path: str) -> bool:
+        return self.part(path)[0].owner in self.scaled
+
+    def workloads(self) -> list[Workload]:
+        pods: dict[str, list[int]] = {}
+        for place, pod in enumerate(self.pods):
+            pods.setdefault(pod.owner or pod.title, []).append(place)
+        paths: dict[int, list[str]] = {}
+        for path, (place, _) in self.built[1].items():
+            paths.setdefault(place, []).append(path)
+        return [Workload(name, len(places), requested_by([self.pods[at] for at in places]),
+                         name in self.scaled, [path for at in places for path in paths.get(at, [])])
+                for name, places in pods.items()]
 
     @functools.cached_property
     def makers(self) -> dict[tuple[str, str], dict[str, re.Pattern[str]]]:
@@ -415,19 +471,50 @@ class PodSource(Measurable):
             return most, "the most that counts"
         return max(hindered - 1, getattr(amounts, key) or 0), hindrance(hindered)
 
+    @functools.cached_property
+    def asks(self) -> dict[str, int]:
+        """Requests of all pods, by the names of the resources; CPU in thousandths."""
+        return dict(sum((Counter(pod.asks) for pod in self.pods), Counter()))
+
+    @property
+    def offers(self) -> dict[str, int]:
+        """The resources that the node has for pods, as far as it tells."""
+        cpu = {} if self.allocatable is None else {"cpu": self.allocatable}
+        return {**dict(self.node.has), **cpu}
+
+    def unjudged(self, other: Owned) -> list[str]:
+        """The conditions of another source's pods on this node that are not looked at."""
+        if not isinstance(other, PodSource):
+            return []
+        own = [name for pod in other.pods for name in pod.conditions.unjudged]
+        return list(dict.fromkeys([
+            *own, *(name for name in COMMON if other.asks.get(name)
+                   and name not in self.offers),
+            *(f"{ANTI_AFFINITY} of others" for pod in self.pods
+              if ANTI_AFFINITY in pod.conditions.unjudged)]))
+
+    def check_room(self, asks: Mapping[str, int]) -> None:
+        """A fault where the node has not the room for requests."""
+        taken, has = self.asks, self.offers
+        for name, amount in asks.items():
+            most = has.get(name, None if name in ("cpu", "pods", *COMMON) or not has else 0)
+            if most is not None and amount > max(most - taken.get(name, 0), 0):
+                of = "" if name == "cpu" else f" of {shown(name)}"
+                one, all_, others = (resource_text(name, each)
+                                     for each in (amount, most, taken.get(name, 0)))
+                raise HostFault(f"it requests {one}{of}, and {all_} less the {others} of others are"
+                                " there")
+
     def joined(self, other: Owned) -> PodSource | None:
-        """This node with the pods of another source. A fault where it has not the room."""
+        """This node with the pods of another source. A fault where it takes none such."""
         if not isinstance(other, PodSource):
             return None
         here = {pod.title for pod in self.pods}
         for pod in other.pods:
             if pod.title in here:
                 raise HostFault(f"{shown(pod.title)}: the host has this group already")
-            self.node.check(pod)
-        asked, taken = requested_by(other.pods), requested_by(self.pods)
-        if self.allocatable is not None and asked > self.allocatable - taken:
-            raise HostFault(f"it requests {asked}m, and {self.allocatable}m less the {taken}m of"
-                            " others are there")
+            self.node.check(pod.conditions)
+        self.check_room(other.asks)
         known = dict(self.known)
         if self.options.want in demands.OF_USE:
             # What is new has used nothing yet: it asks for its requests.
@@ -435,6 +522,27 @@ class PodSource(Measurable):
                 told=(Fraction(each.amounts.request or 0),))
                 for (place, number), _, each in other.every}
         return replace(self, pods=(*self.pods, *other.pods), known=known)
+
+
+def with_pods(tree: Model, source: PodSource) -> Model:
+    """A tree whose groups have the paths and titles of the pods of a source, where their folders
+    tell that they are these, by the driver that fits more of them."""
+    def by_folder(driver: str) -> dict[str, Group]:
+        made = replace(source, options=replace(source.options, driver=driver)).plain
+        return {names.path_of_folder(each.place): each for each in made.groups.values()
+                if each.place != NOWHERE}
+
+    known = max(map(by_folder, DRIVERS), key=lambda each: len(each.keys() & tree.groups.keys()))
+    after, paths = replace(tree, groups={}, owned=None), {".": "."}
+    for path, group in tree.groups.items():
+        own, above = known.get(path), paths[names.parent_path(path)]
+        if own is not None and names.parent_path(own.path) == above:
+            paths[path] = own.path
+            after.add(replace(group, path=own.path, title=own.title, pod=own.pod))
+        else:
+            paths[path] = names.joined(above, names.last_name(path))
+            after.add(replace(group, path=paths[path]))
+    return after
 
 
 def names_at(files: Sequence[File]) -> dict[str, PodNames]:
@@ -478,8 +586,12 @@ def read(files: Sequence[File], library: Library, options: SourceOptions) -> Mod
                      " this node too, these are given what is theirs (kubectl get pods -A)")
     if node is None:
         notes.append("no node's JSON: kubepods has weight 100")
+    with naming("node, allocatable"):
+        has = {name: math.floor(number_of(value, shown(name)))
+               for name, value in table(node, "status", "allocatable").items() if name != "cpu"}
     source = PodSource(library, options, host, tuple(pods), allocatable, capacity is not None,
-                       node_facts(node), notes=tuple(notes))
+                       node_facts(node, tuple(sorted(has.items()))), scaled_in(items),
+                       notes=tuple(notes))
     used = list(of_metrics([each for each in items if each.get("kind") == "PodMetrics"], "usage"))
     source = source.with_usage(used, "usage") if used else source
     return (options.measured(source) if options.measured else source).model()

@@ -1,7 +1,4 @@
-"""Pods as their JSON has them, and what kubelet reckons of them: requests, limits, classes.
-
-Whether the scheduler may put a pod on a node: cordons, taints and labels of the node.
-"""
+"""Pods as their JSON has them, and what kubelet reckons of them: requests, limits, classes."""
 from __future__ import annotations
 
 import functools
@@ -9,33 +6,38 @@ import json
 import math
 import re
 from collections.abc import Sequence
+from contextlib import suppress
 from dataclasses import dataclass, replace
+from datetime import datetime
 from fractions import Fraction
-from typing import Any, NamedTuple
+from typing import Any
 
 from arbiter_host.base import units
 from arbiter_host.base.faults import HostFault, naming
 from arbiter_host.base.names import NOWHERE, shown, slice_folder
 from arbiter_host.base.owned import Amounts
+from arbiter_host.sources.conditions import Conditions, conditions_of, pairs_of
 from arbiter_host.sources.data import field, table, tables, text_field
 
 TOP = "kubepods"
 KEYS = ("requests", "limits")
-# Kinds that make pods of a template.
-TEMPLATED = ("Deployment", "StatefulSet", "DaemonSet", "ReplicaSet", "ReplicationController")
+# Kinds that make pods of a template which may be changed.
+TEMPLATED = ("Deployment", "StatefulSet", "DaemonSet", "ReplicaSet", "ReplicationController",
+             "CronJob")
 CLASSES = {"Guaranteed": TOP, "Burstable": f"{TOP}/burstable", "BestEffort": f"{TOP}/besteffort"}
 # Names of kubelet's groups, by either of its drivers.
 KUBELET = re.compile(r"kubepods([-.].*)?")
 # What Kubernetes puts behind the name of an owner in that of a pod: a hash of the template, letters
 # at random, or a number.
 MADE = "[bcdfghjklmnpqrstvwxz2456789]"
-BEHIND = {"Deployment": f"-{MADE}{{1,10}}-{MADE}{{5}}", "StatefulSet": "-[0-9]{1,9}"}
+BEHIND = {"Deployment": f"-{MADE}{{1,10}}-{MADE}{{5}}", "StatefulSet": "-[0-9]{1,9}",
+          "CronJob": f"-[0-9]{{8}}(-[0-9]{{1,5}})?-{MADE}{{5}}"}
+# The name of a Job that a CronJob makes: its own, and the minute for which it is.
+OF_CRON = re.compile("(.+)-([0-9]{8})")
 # The annotation by which the API server's copy of a static pod has kubelet's own identifier of it.
 MIRROR = "kubernetes.io/config.mirror"
 # What the runtimes put before an identifier in the name of a group.
 SCOPES = {"containerd": "cri-containerd-", "cri-o": "crio-", "docker": "docker-"}
-# The effects of a taint that keep a new pod away.
-EFFECTS = ("NoSchedule", "NoExecute")
 # A quantity: a number, and either a suffix or an exponent. None below 0 is an amount of CPU.
 QUANTITY = re.compile(r"\+?([0-9]{1,30}(?:\.[0-9]{0,30})?|\.[0-9]{1,30})"
                       r"(?:([numkMGTPE]|[KMGTPE]i)|[eE]([+-]?[0-9]{1,2}))?")
@@ -59,16 +61,6 @@ class Container:
 
 
 @dataclass(frozen=True)
-class Toleration:
-    """The taints that a pod tolerates: those of a key, a value and an effect. Empty: of any."""
-
-    key: str = ""
-    # Any value where this is none.
-    value: str | None = None
-    effect: str = ""
-
-
-@dataclass(frozen=True)
 class Pod:
     """A pod: what kubelet reckons with."""
 
@@ -87,9 +79,9 @@ class Pod:
     # request: the pod itself where it is whole, else its containers.
     asks_memory: bool = False
     is_memory_equal: bool = False
-    # The labels that its node must have, and the taints of a node that it tolerates.
-    selector: tuple[tuple[str, str], ...] = ()
-    tolerations: tuple[Toleration, ...] = ()
+    # Requests of other resources than CPU, by their names, and the conditions on its node.
+    others: tuple[tuple[str, int], ...] = ()
+    conditions: Conditions = Conditions()
     labels: tuple[tuple[str, str], ...] = ()
     # What makes it of a template: kind, namespace and name; empty for nothing.
     owner: str = ""
@@ -109,6 +101,11 @@ class Pod:
         if limit is None and is_limited(self.parts):
             limit = requested(self.parts, "limit")
         return Amounts(request + self.overhead, None if limit is None else limit + self.overhead)
+
+    @property
+    def asks(self) -> dict[str, int]:
+        """Requests of all resources by their names, CPU in thousandths; a pod is one of `pods`."""
+        return {"cpu": self.amounts.request or 0, **dict(self.others), "pods": 1}
 
     @property
     def quality(self) -> str:
@@ -138,39 +135,6 @@ class Pod:
         if after.quality_by_rule == self.quality_by_rule:
             return after
         return replace(after, told="")
-
-
-class Taint(NamedTuple):
-    """A taint of a node."""
-
-    key: str
-    value: str
-    effect: str
-
-    def is_tolerated(self, by: Toleration) -> bool:
-        """Whether a toleration is of this taint. A key that is empty is of any."""
-        return (by.effect in ("", self.effect) and by.value in (None, self.value)
-                and (by.key == self.key or not by.key and by.value is None))
-
-
-@dataclass(frozen=True)
-class NodeFacts:
-    """The word of a node on the pods that it takes."""
-
-    is_cordoned: bool = False
-    taints: tuple[Taint, ...] = ()
-    labels: tuple[tuple[str, str], ...] = ()
-
-    def check(self, pod: Pod) -> None:
-        """A fault where the scheduler puts no such pod on the node."""
-        if self.is_cordoned:
-            raise HostFault("the node takes no new pods (unschedulable)")
-        for key, value in pod.selector:
-            if (key, value) not in self.labels:
-                raise HostFault(f"the node has no label {shown(key)}={shown(value)}")
-        for taint in self.taints:
-            if not any(taint.is_tolerated(each) for each in pod.tolerations):
-                raise HostFault(f"it does not tolerate the taint {shown(taint.key)}")
 
 
 def number_of(value: Any, what: str) -> Fraction:
@@ -273,13 +237,12 @@ def is_limited(containers: Sequence[Container]) -> bool:
     return bool(containers)
 
 
-def memory_of(container: dict[str, Any], where: str) -> Amounts:
-    """The request and the limit of memory in bytes. A limit without a request is the request too.
-    """
+def other_amounts(container: dict[str, Any], name: str, where: str) -> Amounts:
+    """The request and the limit of a resource other than CPU, such as bytes of memory. A limit
+    without a request is the request too."""
     with naming(where):
-        request, limit = (None if value is None else math.ceil(number_of(value, "memory"))
-                          for value in (field(container, "resources", key, "memory")
-                                        for key in KEYS))
+        request, limit = (None if value is None else math.ceil(number_of(value, shown(name)))
+                          for value in (field(container, "resources", key, name) for key in KEYS))
     return Amounts(limit if request is None else request, limit)
 
 
@@ -298,20 +261,21 @@ def names_of(pod: dict[str, Any]) -> tuple[str, str]:
     return text_field(metadata, "namespace") or "default", text_field(metadata, "name") or "unnamed"
 
 
-def pairs_of(labels: dict[str, Any]) -> tuple[tuple[str, str], ...]:
-    """Labels in order: those of a pod or a node, or those that a pod's node must have."""
-    return tuple(sorted((key, text_field(labels, key)) for key in labels))
-
-
 def owner_of(pod: dict[str, Any]) -> str:
     """The maker of a pod of a template: kind, namespace and name; empty for nothing. A ReplicaSet
-    with the pod's hash behind its name is its Deployment's."""
+    with the pod's hash behind its name is its Deployment's. A Job is its CronJob's where the minute
+    behind its name is at most a day before the pod was made."""
     owner = next((each for each in tables(pod, "metadata", "ownerReferences")
                   if each.get("controller") is True), None)
     kind, name, (namespace, _) = text_field(owner, "kind"), text_field(owner, "name"), names_of(pod)
     mark = text_field(pod, "metadata", "labels", "pod-template-hash")
     if kind == "ReplicaSet" and mark and name.endswith(f"-{mark}"):
         kind, name = "Deployment", name.removesuffix(f"-{mark}")
+    planned = OF_CRON.fullmatch(name) if kind == "Job" else None
+    with suppress(ValueError):
+        made = datetime.fromisoformat(text_field(pod, "metadata", "creationTimestamp"))
+        if planned and 0 <= made.timestamp() - 60 * int(planned[2]) <= 86400:
+            kind, name = "CronJob", planned[1]
     return f"{kind} {namespace}/{name}" if kind in TEMPLATED and name else ""
 
 
@@ -321,44 +285,51 @@ def names_by(owner: str) -> re.Pattern[str]:
     return re.compile(re.escape(name.partition("/")[2]) + BEHIND.get(kind, f"-{MADE}{{5}}"))
 
 
+def other_resources(spec: dict[str, Any], parts: Sequence[Container], where: str
+                    ) -> dict[str, tuple[int, list[Amounts]]]:
+    """The requests of a pod of other resources than CPU, as the scheduler adds them up, by their
+    names; and the amounts of each, of the pod itself where it is told of it as a whole."""
+    raw = [*tables(spec, "initContainers"), *tables(spec, "containers")]
+    found, is_whole = {}, is_whole_pod(spec)
+    for name in sorted({"memory"}.union(table(spec, "overhead"), *(
+            table(each, "resources", key) for each in (spec, *raw) for key in KEYS)) - {"cpu"}):
+        each = [other_amounts(one, name, where) for one in raw]
+        with_each = [replace(part, amounts=one) for part, one in zip(parts, each)]
+        own = whole_amounts(other_amounts(spec, name, where),
+                            name in table(spec, "resources", "requests"), with_each)
+        over = other_amounts({"resources": {"requests": table(spec, "overhead")}}, name, where)
+        asked = requested(with_each, "request") if own.request is None else own.request
+        found[name] = asked + (over.request or 0), [own] if is_whole else each
+    return found
+
+
+def is_whole_pod(spec: dict[str, Any]) -> bool:
+    """Whether requests or limits of CPU or memory are those of a pod itself."""
+    return any({"cpu", "memory"} & table(spec, "resources", key).keys() for key in KEYS)
+
+
 def pod_of(pod: dict[str, Any], notes: list[str]) -> Pod:
     """A pod as kubelet reckons with it."""
     metadata, spec, (namespace, name) = table(pod, "metadata"), table(pod, "spec"), names_of(pod)
     where, told = f"{namespace}/{name}", text_field(pod, "status", "qosClass")
-    is_whole = any({"cpu", "memory"} & table(spec, "resources", key).keys() for key in KEYS)
     parts, asked = containers_of(pod, where, notes), table(spec, "resources", "requests")
-    memory = [memory_of(each, where) for key in ("initContainers", "containers")
-              for each in tables(spec, key)]
-    own = whole_amounts(amounts_of(table(spec, "resources"), where), "cpu" in asked, parts)
-    if is_whole:
-        memory = [whole_amounts(memory_of(spec, where), "memory" in asked, [
-            replace(part, amounts=each) for part, each in zip(parts, memory)])]
+    others = other_resources(spec, parts, where)
+    memory = others["memory"][1]
     return Pod(
         namespace, name,
         # The mirror of a static pod has an identifier that is not the one of its group.
         uid=text_field(metadata, "annotations", MIRROR) or text_field(metadata, "uid"),
         parts=parts,
         overhead=thousandths(field(spec, "overhead", "cpu"), where) or 0,
-        own=own, is_whole=is_whole,
+        own=whole_amounts(amounts_of(table(spec, "resources"), where), "cpu" in asked, parts),
+        is_whole=is_whole_pod(spec),
         told=told if told in CLASSES else "",
         asks_memory=any(each.request or each.limit for each in memory),
         is_memory_equal=all(each.limit and each.request == each.limit for each in memory),
-        selector=pairs_of(table(spec, "nodeSelector")),
-        tolerations=tuple(Toleration(
-            text_field(each, "key"),
-            None if text_field(each, "operator") == "Exists" else text_field(each, "value"),
-            text_field(each, "effect")) for each in tables(spec, "tolerations")),
+        others=tuple((key, amount) for key, (amount, _) in others.items() if amount),
+        conditions=conditions_of(spec, text_field(metadata, "uid")),
         labels=pairs_of(table(metadata, "labels")), owner=owner_of(pod),
         is_static=bool(text_field(metadata, "annotations", MIRROR)))
-
-
-def node_facts(node: dict[str, Any] | None) -> NodeFacts:
-    """The facts of a node's JSON on the pods that it takes."""
-    return NodeFacts(field(node, "spec", "unschedulable") is True,
-                     tuple(Taint(*(text_field(each, key) for key in Taint._fields))
-                           for each in tables(node, "spec", "taints")
-                           if text_field(each, "effect") in EFFECTS),
-                     pairs_of(table(node, "metadata", "labels")))
 
 
 def folder_at(parts: Sequence[str], driver: str) -> str:

@@ -17,6 +17,11 @@ class Selection(NamedTuple):
     namespaces: Sequence[str] = ()
     selectors: Sequence[str] = ()
 
+    @property
+    def words(self) -> str:
+        """The options as they are given."""
+        return " ".join(f"-{letter} {word}" for letter, words in zip("gnl", self) for word in words)
+
 
 def chosen(model: Model, by: Selection) -> frozenset[str] | None:
     """The paths that are chosen; None where no option chooses. A fault of status 6 where nothing
@@ -52,9 +57,7 @@ def pods(model: Model, by: Selection) -> list[str]:
     source = model.owned
     paths = source.pods_where(by.namespaces, labels) if source else []
     if not paths:
-        words = [*(f"-n {each}" for each in by.namespaces),
-                 *(f"-l {key}={value}" for key, value in labels.items())]
-        raise NothingFound(f"no pod of {shown(' '.join(words))}")
+        raise NothingFound(f"no pod of {shown(by._replace(groups=()).words)}")
     return paths
 
 

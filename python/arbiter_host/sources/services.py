@@ -7,6 +7,7 @@ from __future__ import annotations
 
 import json
 import os
+import time
 from collections.abc import Iterator, Sequence
 from typing import Any
 from urllib.parse import urlencode
@@ -23,8 +24,10 @@ TOOLS = {"k8s": ["kubectl"], "docker": ["docker", "--host=unix:///var/run/docker
 UNITS = ("show", "*.slice", "*.service", "*.scope")
 # The lists of the API server.
 NODES, PODS, METRICS = "/api/v1/nodes", "/api/v1/pods", "/apis/metrics.k8s.io/v1beta1/pods"
-# Seconds of one answer, objects of a page, and pages.
-SECONDS, PAGE, MOST_PAGES = 120, 500, 2000
+# Seconds of one answer, and after which no page more of a list is asked for.
+SECONDS, MOST_SECONDS = 120, 600
+# Objects of a page, and pages.
+PAGE, MOST_PAGES = 500, 2000
 
 
 def printed(words: Sequence[str]) -> bytes:
@@ -51,8 +54,10 @@ class RunningService:
 
     def objects(self, path: str, kind: str, **asked: str) -> Iterator[dict[str, Any]]:
         """The objects of a list of the API server, page by page, each with its kind."""
-        size, mark = 0, ""
+        size, mark, until = 0, "", time.monotonic() + MOST_SECONDS
         for _ in range(MOST_PAGES):
+            if time.monotonic() > until:
+                raise HostFault(f"{path}: no whole list in {MOST_SECONDS} seconds")
             words = urlencode({"limit": PAGE, **asked, **({"continue": mark} if mark else {})})
             data = self.printed("get", "--raw", f"{path}?{words}")
             size, page = size + len(data), loads(data, path)

@@ -2,15 +2,19 @@
 from __future__ import annotations
 
 import argparse
-from collections.abc import Sequence
+from collections.abc import Callable, Sequence
+from dataclasses import replace
 from typing import Any
 
+from arbiter_host import options as table
 from arbiter_host.answers import explain
 from arbiter_host.answers.explain import View
 from arbiter_host.base import names, text
 from arbiter_host.base.faults import UsageFault
 from arbiter_host.base.model import MAX_DEPTH, Model
+from arbiter_host.base.output import write_forms
 from arbiter_host.base.plan import Engine
+from arbiter_host.base.tables import Forms
 from arbiter_host.records import source_options
 from arbiter_host.sources import load, selection
 from arbiter_host.sources.load import Opened
@@ -22,13 +26,17 @@ def source_name(paths: Sequence[str]) -> str:
     return "standard input" if paths[0] == "-" else names.shown(paths[0])
 
 
-def are_many(options: argparse.Namespace, files: Sequence[Opened], action: str) -> bool:
-    """Whether the files are many hosts: then these are asked, and all is told."""
-    if not load.may_be_many(source_options(options, uses=None), files):
-        return False
-    from arbiter_host.fleet.work import Action
-    from arbiter_host.subcommands import many  # (one host needs none)
-    return many.answered(options, files, Action[action])
+def answer(options: argparse.Namespace, action: str,
+           of_one: Callable[[argparse.Namespace, Sequence[Opened]], Forms], **more: Any) -> None:
+    """Answers a question of one host, or of many, in the forms asked for."""
+    outputs = table.outputs(options)
+    source = source_options(options, **more)
+    files = load.opened(source, options.source)
+    if load.may_be_many(replace(source, uses=None), files):
+        from arbiter_host.subcommands import many  # (one host needs none)
+        if many.answered(options, files, action):
+            return
+    write_forms(outputs, of_one(options, files))
 
 
 def loaded(options: argparse.Namespace, files: Sequence[Opened], by: Engine,

@@ -5,18 +5,19 @@ import argparse
 from collections.abc import Sequence
 from dataclasses import replace
 
-from arbiter_host import options as table
 from arbiter_host.answers import diff, report
 from arbiter_host.base.faults import NoHost, NothingFound, UsageFault
 from arbiter_host.base.model import Model
 from arbiter_host.base.names import shown
-from arbiter_host.base.output import json_text, write_forms
 from arbiter_host.base.plan import Engine, engine_of, plan
+from arbiter_host.base.tables import Forms
 from arbiter_host.records import source_options
 from arbiter_host.sources import change, load
+from arbiter_host.sources.kubernetes import PodSource, with_pods
 from arbiter_host.sources.load import Opened
 from arbiter_host.sources.source_options import SourceOptions
-from arbiter_host.subcommands.base import are_many, chosen, source_name, view_of
+from arbiter_host.sources.systemd import TreeSource
+from arbiter_host.subcommands.base import answer, chosen, source_name, view_of
 
 
 def read(options: SourceOptions, files: Sequence[Opened], by: Engine) -> Model | None:
@@ -43,16 +44,24 @@ def models_of(options: SourceOptions, sources: Sequence[Sequence[Opened]],
             for each, files in zip(models, sources)]
 
 
-def compared(options: argparse.Namespace, source: SourceOptions, files: Sequence[Opened],
+def compared(options: argparse.Namespace, files: Sequence[Opened],
              by: Engine) -> tuple[Model, Model]:
     """The models before and after: of two sources, or of one and of it with changes."""
+    source = source_options(options, has_settings_alone=True)
     sources = load.sources(source, files)
     if len(sources) > 2 or len(sources) == 1 and not options.set:
         raise UsageFault("diff takes BEFORE and AFTER, or BEFORE and --set")
-    models = models_of(source, sources, by)
+    models = met(models_of(source, sources, by))
     for model, of_one in zip(models, sources):
         load.warn(model, source_name([path for path, _ in of_one]))
     return models[0], change.warned(models[-1], change.changed(models[-1], options.set))
+
+
+def met(models: list[Model]) -> list[Model]:
+    """The models, with groups of a tree under the names of the pods that another one has."""
+    pods = [each.owned for each in models if isinstance(each.owned, PodSource)]
+    return [with_pods(each, pods[0]) if len(pods) == 1 and isinstance(each.owned, TreeSource)
+            else each for each in models]
 
 
 def chosen_in(options: argparse.Namespace, models: Sequence[Model]) -> frozenset[str] | None:
@@ -68,19 +77,17 @@ def chosen_in(options: argparse.Namespace, models: Sequence[Model]) -> frozenset
     return None if None in groups else frozenset().union(*(each or () for each in groups))
 
 
-def run(options: argparse.Namespace) -> None:
-    outputs, by = table.outputs(options), engine_of(options.library)
-    source = source_options(options, has_settings_alone=True)
-    files = load.opened(source, options.source)
-    if are_many(options, files, "CHANGE"):
-        return
-    before, after = compared(options, source, files, by)
+def forms(options: argparse.Namespace, files: Sequence[Opened]) -> Forms:
+    """The forms of what differs on one host."""
+    by = engine_of(options.library)
+    before, after = compared(options, files, by)
     view = view_of(options, chosen_in(options, [before, after]))
     one, two = plan(by, before), plan(by, after)
     models = change.if_busy(before, after, options.set)
     busy = None if models is None else (plan(by, models[0]), plan(by, models[1]))
-    write_forms(outputs, {"text": lambda: diff.table(one, two, view, busy),
-                          "json": lambda: json_text(diff.as_data(one, two, view, busy)),
-                          "html": lambda: report.page(
-                              two, view, f"Change of {source_name(options.source)}", one,
-                              [shown(word) for word in options.set])})
+    return {**diff.answer(one, two, view, busy).forms(), "html": lambda: report.page(
+        two, view, f"Change of {source_name(options.source)}", one, [*map(shown, options.set)])}
+
+
+def run(options: argparse.Namespace) -> None:
+    answer(options, "CHANGE", forms, has_settings_alone=True)

@@ -2,16 +2,15 @@
 from __future__ import annotations
 
 import argparse
+from collections.abc import Sequence
 from functools import cache
 
-from arbiter_host import options as table
 from arbiter_host.answers import explain, placement
 from arbiter_host.answers.explain import View
-from arbiter_host.base.output import json_text, write_forms
 from arbiter_host.base.plan import Plan, engine_of, guarantees, plan
-from arbiter_host.records import source_options
-from arbiter_host.sources import load
-from arbiter_host.subcommands.base import are_many, chosen, loaded, source_name, view_of
+from arbiter_host.base.tables import Forms
+from arbiter_host.sources.load import Opened
+from arbiter_host.subcommands.base import answer, chosen, loaded, source_name, view_of
 
 
 def shown_view(options: argparse.Namespace, plan: Plan) -> View:
@@ -36,19 +35,15 @@ def picture(plan: Plan, view: View) -> str:
     return drawing.picture(plan, view)
 
 
-def run(options: argparse.Namespace) -> None:
-    outputs = table.outputs(options)
-    files = load.opened(source_options(options), options.source)
-    if are_many(options, files, "PLAN"):
-        return
+def forms(options: argparse.Namespace, files: Sequence[Opened]) -> Forms:
+    """The forms of the plan of one host."""
     by = engine_of(options.library)
     plan_ = plan(by, loaded(options, files, by))
     view, outlook = shown_view(options, plan_), cache(lambda: placement.outlook(plan_.model))
-    write_forms(outputs, {
-        "text": lambda: [*explain.table(plan_, view), *(
-            (line, "") for line in explain.placed(plan_, view, outlook()))],
-        "json": lambda: json_text(explain.with_placement(
-            plan_, explain.as_data(plan_, view), outlook())),
-        "csv": lambda: explain.as_csv(plan_, view),
-        "html": lambda: page(plan_, view, f"Plan of {source_name(options.source)}"),
-        "svg": lambda: picture(plan_, view)})
+    return {**explain.answer(plan_, view, outlook).forms(),
+            "html": lambda: page(plan_, view, f"Plan of {source_name(options.source)}"),
+            "svg": lambda: picture(plan_, view)}
+
+
+def run(options: argparse.Namespace) -> None:
+    answer(options, "PLAN", forms)

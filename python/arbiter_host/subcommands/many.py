@@ -17,9 +17,10 @@ from arbiter_host.fleet.work import Action, Job
 from arbiter_host.records import source_options, time_option
 from arbiter_host.sources import change, used
 from arbiter_host.sources.load import Opened
+from arbiter_host.sources.selection import Selection, labels_of
 
-# The forms of an answer of many hosts.
-FORMS = ("text", "json", "html")
+# The forms of an answer of one host alone.
+OF_ONE = {"csv", "svg"}
 
 
 def fleet_in(options: argparse.Namespace, files: Sequence[Opened], action: Action
@@ -60,6 +61,8 @@ def job_of(options: argparse.Namespace, action: Action, fleet: Fleet) -> Job:
         raise UsageFault("diff of many hosts takes --set")
     check_sets(options.set)
     source = source_options(options)
+    meant = Selection(options.group, options.namespace, options.selector)
+    labels_of(meant.selectors)
     reading = replace(source, uses=None, check=None)
     if fleet.is_cluster:
         reading = replace(reading, kind="kubernetes")
@@ -73,12 +76,13 @@ def job_of(options: argparse.Namespace, action: Action, fleet: Fleet) -> Job:
     sample = time_option(options.step, "--step") if options.step else 0
     is_served = source.uses is not None and used.is_served(source.uses)
     return Job(action, reading, list(options.set), pods, options.unit, sample,
-               used.mapped(options.map), is_served, library)
+               used.mapped(options.map), meant, is_served, library)
 
 
 def answer(options: argparse.Namespace, fleet: Fleet, action: Action) -> None:
     """Asks each host of a fleet, and reports."""
-    outputs, job = table.outputs(options, FORMS), job_of(options, action, fleet)
+    outputs = table.outputs(options, {*table.FORMS[options.asked]} - OF_ONE)
+    job = job_of(options, action, fleet)
     uses = source_options(options).uses
     samples = questions.samples_of(uses, fleet) if uses and action is Action.SAMPLES else None
     told, check = questions.reported(
@@ -89,8 +93,9 @@ def answer(options: argparse.Namespace, fleet: Fleet, action: Action) -> None:
     check()
 
 
-def answered(options: argparse.Namespace, files: Sequence[Opened], action: Action) -> bool:
+def answered(options: argparse.Namespace, files: Sequence[Opened], name: str) -> bool:
     """Whether the words are of many hosts: then these are asked, and all is told."""
+    action = Action[name]
     fleet = fleet_in(options, files, action)
     if fleet is not None:
         answer(options, fleet, action)

@@ -153,7 +153,7 @@ def heading(advice: Recommendation, short_: list[str]) -> Styled:
 def title(one: Proposal) -> str:
     """The name of an owner, and how many groups it has where these are several."""
     of = f" ({len(one.groups)})" if len(one.groups) > 1 else ""
-    return cut(short(shown(one.title)), 100) + of
+    return cut(short(shown(one.title)), 100) + of + (" (HPA)" if one.is_scaled else "")
 
 
 def columns(advice: Recommendation) -> list[Column[Advised]]:
@@ -179,8 +179,11 @@ def answer(advice: Recommendation) -> TableAnswer:
     notes = [(words, "") for words, is_told in (
         ("* throttled at its limit: it wanted more than it used",
          any(each.proposal.is_throttled for each in advice.rows)),
+        ("(HPA) an autoscaler sets how many pods run: where its target is a part of the request,"
+         " another request moves their number",
+         any(each.proposal.is_scaled for each in advice.rows)),
         (f"(N) N {advice.noun}s: `gets` and `guaranteed` are of the one that has least",
          any(len(each.proposal.groups) > 1 for each in advice.rows))) if is_told]
-    return TableAnswer(heading(advice, short_), [Table(
-        columns(advice), advice.rows, style=lambda each: "red" if each.is_short else "")],
-                       lambda: recommend.as_data(advice), notes)
+    return TableAnswer(lambda: [*heading(advice, short_), Table(
+        columns(advice), advice.rows, style=lambda each: "red" if each.is_short else ""), *notes],
+                       lambda: recommend.as_data(advice))

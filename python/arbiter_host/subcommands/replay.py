@@ -4,15 +4,16 @@ from __future__ import annotations
 import argparse
 from collections.abc import Collection, Sequence
 from fractions import Fraction
+from functools import partial
 
 from arbiter_host import options as table
 from arbiter_host.answers import series
-from arbiter_host.answers.series import Series
 from arbiter_host.base import output, progress
 from arbiter_host.base.faults import HostFault, UsageFault
 from arbiter_host.base.model import Model
 from arbiter_host.base.names import shown
-from arbiter_host.base.plan import Engine, engine_of
+from arbiter_host.base.plan import engine_of
+from arbiter_host.base.tables import Forms
 from arbiter_host.records import source_options, time_option, use_options
 from arbiter_host.sources import load, prometheus, selection, used
 from arbiter_host.sources.load import Opened
@@ -20,7 +21,7 @@ from arbiter_host.sources.samples import History
 from arbiter_host.sources.selection import Selection
 from arbiter_host.sources.source_options import UseOptions
 from arbiter_host.sources.usage import some
-from arbiter_host.subcommands.base import are_many, source_name
+from arbiter_host.subcommands.base import answer, source_name
 
 
 def sample_of(uses: UseOptions) -> int:
@@ -49,8 +50,11 @@ def check_use(unit: str, model: Model, history: History, columns: Collection[str
         prometheus.check_use(shown(column), amounts.get(column, []), model.host.processors, where)
 
 
-def replayed(options: argparse.Namespace, files: Sequence[Opened], uses: UseOptions,
-             by: Engine) -> Series:
+def forms(options: argparse.Namespace, files: Sequence[Opened], uses: UseOptions) -> Forms:
+    """The forms of the samples of one host."""
+    if any(form == "html" for form, _ in table.outputs(options)):
+        raise UsageFault("-o html: of one host there is text, json, csv and svg")
+    by = engine_of(options.library)
     source = source_options(options)
     kind = load.kind_in(source, files)
     model = load.model_of(source.without_use(kind), files, by.library)
@@ -69,19 +73,13 @@ def replayed(options: argparse.Namespace, files: Sequence[Opened], uses: UseOpti
         output.warn(f"{used.name(uses)}: series of no group here, {some(missing)}")
     paths = shown_groups(options, model)
     with progress.bar("samples", len(history.samples)) as tick:
-        return series.run(by, model, history, options.unit, paths, path_of,
-                          series.sample_periods(sample, model.host.period_us), tick)
+        found = series.run(by, model, history, options.unit, paths, path_of,
+                           series.sample_periods(sample, model.host.period_us), tick)
+    return series.forms(found, options.unit)
 
 
 def run(options: argparse.Namespace) -> None:
     uses = use_options(options)
     if uses is None:
         raise UsageFault("--used: a file of demands over time, or a server's address")
-    outputs = table.outputs(options)
-    files = load.opened(source_options(options), options.source)
-    if are_many(options, files, "SAMPLES"):
-        return
-    if any(form == "html" for form, _ in outputs):
-        raise UsageFault("-o html: of one host there is text, json, csv and svg")
-    series_ = replayed(options, files, uses, engine_of(options.library))
-    output.write_forms(outputs, series.forms(series_, options.unit))
+    answer(options, "SAMPLES", partial(forms, uses=uses))

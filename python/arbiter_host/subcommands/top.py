@@ -22,6 +22,7 @@ from arbiter_host.base.names import shown
 from arbiter_host.base.plan import Plan, engine_of, plan
 from arbiter_host.records import source_options
 from arbiter_host.sources import kubernetes, load, readings
+from arbiter_host.sources.register import SERVICE
 from arbiter_host.sources.source_options import SourceOptions
 from arbiter_host.sources.times import times_of
 from arbiter_host.subcommands.base import chosen, view_of
@@ -46,6 +47,8 @@ def reader(asked: argparse.Namespace, wanted: Sequence[top.Condition],
     source = source_options(asked, is_reread=False)
     if len(paths) == 1 and os.path.isdir(paths[0]) and asked.kind in (None, "cgroup"):
         options.check(asked, "cgroup")
+        if asked.node and not any(map(SERVICE.match, asked.pod or ())):
+            raise UsageFault("--node: of a tree it needs --pods k8s://")
         want = asked.want or "psi"
         tree = readings.Tree(paths[0], source.machine(by.library), time.monotonic)
         ask = functools.partial(pod_names, source, asked.pod) if asked.pod else None
@@ -127,7 +130,7 @@ class Watch:
         if self.form == "json":
             output.emit(json.dumps(top.line_of(state, found)) + "\n")
         elif self.form == "text":
-            lines = explain.table(found.plan, shown_view(self.asked, found.plan))
+            lines = explain.lines(found.plan, shown_view(self.asked, found.plan))
             output.emit("".join(f"{line}\n" for line in [
                 f"{time.strftime('%H:%M:%S')}  {lines[0][0]}", *(line for line, _ in lines[1:]),
                 ""]))

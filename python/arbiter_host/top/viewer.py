@@ -156,18 +156,18 @@ class Viewer:
         has_history = view.width >= WIDE
         room = USED + (HISTORY + 1) * has_history
         narrow = view._replace(width=max(view.width - room, 40))
-        lines = explain.table(plan, narrow)
-        at = next((at for at, (_, style) in enumerate(lines) if style == "bold"), len(lines) - 1)
+        found = explain.table(plan, narrow)
+        (head, _), *lines = found.lines()
 
         def begin(history: str, amount: str) -> str:
             return f"{history:{HISTORY}} {amount:>{USED - 2}}  "[(HISTORY + 1) * (not has_history):]
 
-        rows = [(group.path, style, begin(
-            self.history.line(group.path),
-            used(plan, self.got.get(group.path), view.unit)) + line)
-            for (group, _), (line, style) in zip(explain.shown_groups(plan, narrow),
-                                                 lines[at + 1:])]
-        return begin("history", "used") + lines[at][0] if rows else lines[-1][0], rows
+        if not lines:
+            return f"no group is {' or '.join(view.only)}", []
+        return begin("history", "used") + head, [
+            (group.path, style, begin(self.history.line(group.path), used(
+                plan, self.got.get(group.path), view.unit)) + line)
+            for group, (line, style) in zip(found.records, lines)]
 
     def lines(self, plan: Plan, height: int) -> Lines:
         """The lines of the screen: the head, the rows around the cursor, and what keys do."""

@@ -7,6 +7,7 @@ from dataclasses import dataclass
 from fractions import Fraction
 from typing import NamedTuple
 
+from arbiter import Columns
 from arbiter_host.base import demands, search, units
 from arbiter_host.base.faults import HostFault, UsageFault, naming
 from arbiter_host.base.model import Model
@@ -84,6 +85,11 @@ class Goals:
         return frozenset(goal.group.row for goal in self.goals)
 
     @property
+    def columns(self) -> Columns:
+        """The columns of the plan, or those of guarantees."""
+        return self.before.askers if self.is_guaranteed else self.before.columns
+
+    @property
     def paths(self) -> frozenset[int]:
         """The rows of goals' groups and of those above them."""
         return frozenset(each.row for goal in self.goals
@@ -132,9 +138,6 @@ class Goals:
         return next((place for place, goal in enumerate(self.goals)
                      if self.amount(after, goal.group.row) < goal.amount), None)
 
-    def are_met(self, after: Plan) -> bool:
-        return self.short(after) is None
-
     def plan_of(self, model: Model) -> Plan:
         return plan(self.before.engine, model)
 
@@ -147,7 +150,7 @@ class Goals:
         none is tried."""
         if len(rows) > MOST_LEFT:
             return rows, ""
-        return search.needed(rows, lambda some: self.are_met(plan_with(some)), what), NEEDED
+        return search.needed(rows, lambda some: self.short(plan_with(some)) is None, what), NEEDED
 
     def way(self, after: Plan, changes: Sequence[NewSetting], told: str) -> Way:
         """Settings whose accepted plan has to meet all goals."""
@@ -178,7 +181,7 @@ def goals_of(before: Plan, words: Sequence[str]) -> tuple[Goal, ...]:
     goals = [Goal(groups[each.path], slices.demand(thousandths), thousandths)
              for pattern, thousandths in map(goal_of, words)
              for each in demands.matching(before.model, pattern)
-             if pattern in (each.path, each.title) or not each.title.endswith("/pause")]
+             if pattern in (each.path, each.title) or not each.is_pause]
     for path, many in Counter(goal.group.path for goal in goals).items():
         if many > 1:
             raise UsageFault(f"--goal: {shown(path)} has two goals: name it once")

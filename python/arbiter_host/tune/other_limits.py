@@ -142,7 +142,7 @@ def by_limits(goals: Goals) -> Way | None:
         lowest = [caps[row].least if row in caps else None for row in range(len(may))]
         with asking("limits of other groups"):
             return before.engine.library.limit_others(
-                before.planned_host, before.columns, goals.column, may, lowest,
+                before.planned_host, goals.columns, goals.column, may, lowest,
                 goals.is_guaranteed)
 
     found = limits([False] * len(before.groups))

@@ -9,14 +9,14 @@ from __future__ import annotations
 from collections.abc import Callable
 from dataclasses import replace
 from functools import partial
-from typing import Any, NamedTuple
+from typing import NamedTuple
 
 from arbiter import Columns, Host
 from arbiter_host.base import progress
 from arbiter_host.base.faults import HostFault
 from arbiter_host.base.model import Model, up_to_64_cpus
 from arbiter_host.base.owned import Range
-from arbiter_host.base.plan import Plan, asking, payers
+from arbiter_host.base.plan import Plan, asking
 from arbiter_host.tune.goals import Goals
 from arbiter_host.tune.tune_settings import Raised
 
@@ -99,22 +99,3 @@ def each_of(goals: Goals) -> list[SingleSetting]:
             found.append(find())
             step()
     return found
-
-
-def losses(goals: Goals, single: SingleSetting) -> list[tuple[str, int]]:
-    """The other groups that get less by a setting, and how many slices less."""
-    own = goals.goals[0].group.path
-    return [] if single.plan is None else [
-        each for each in payers(goals.before, single.plan) if each[0] != own]
-
-
-def as_data(goals: Goals, single: SingleSetting) -> dict[str, Any]:
-    """A setting as data. Amounts are thousandths of a CPU."""
-    def value(number: int | str | None) -> float | str | None:
-        is_amount = single.name == "limit" and isinstance(number, int)
-        return goals.before.millicpu(int(number or 0)) if is_amount else number
-
-    pays = [{"group": path, "millicpu": goals.before.millicpu(slices)}
-            for path, slices in losses(goals, single)]
-    return {"name": single.name, "owned": single.is_owned, "now": value(single.now),
-            "least": value(single.least), "told": single.told, "pays": pays}

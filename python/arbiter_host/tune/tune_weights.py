@@ -23,7 +23,7 @@ def own_weights(goals: Goals, keeps: Mapping[int, int] = {}) -> list[int] | Clas
     before = goals.before
     column = [max(amount, keeps.get(row, 0)) for row, amount in enumerate(goals.column)]
     with asking("tune"):
-        answer = before.engine.library.tune(before.planned_host, before.columns, column, goals.may,
+        answer = before.engine.library.tune(before.planned_host, goals.columns, column, goals.may,
                                             goals.is_guaranteed)
     if isinstance(answer, list):
         return answer
