@@ -1,7 +1,8 @@
 #!/usr/bin/env python3
 """Prints lists that are made of the sources.
 
-    scripts/indexes.py --clauses        the clauses of each public function
+    scripts/indexes.py --clauses        the clauses of each public function, and its words
+    scripts/indexes.py --laws           the laws alone, in words
     scripts/indexes.py --definitions    the definitions that these name, in words
     scripts/indexes.py --lemmas         the lemma files, with what each proves
 """
@@ -43,12 +44,18 @@ def crates() -> List[str]:
 
 @dataclass
 class Contract:
-    """A function's contract: each clause's kind and label, "" for none, and all of its words."""
+    """A function's contract: each clause's kind and label, "" for none, and all of its words.
+
+    A law takes nothing, returns nothing and does no work. `comment` has the words above it.
+    """
 
     name: str
     is_public: bool
+    is_of_crate: bool
     clauses: List[Tuple[str, str]]
     words: Set[str]
+    is_law: bool
+    comment: str
 
     def promises(self) -> List[str]:
         """The labels of what it ensures."""
@@ -57,6 +64,8 @@ class Contract:
 
 FUNCTION = re.compile(r'( *)(pub(?:\(\w+\))? )?(?:[\w"]+ )*fn (\w+)')
 CLAUSE = re.compile(r"^ *(ensures|requires)(?: (\w+))? \{")
+# The head of a function that takes nothing and returns nothing.
+LAW = re.compile(r"pub fn \w+(?:<[^>]*>)?\(\)$")
 # Parts whose functions are as public as what they belong to.
 TRAIT = re.compile(r"(?:pub )?trait\b|impl\b.* for ")
 
@@ -76,6 +85,17 @@ def contract_lines(lines: List[str], at: int, indent: int) -> List[str]:
     return found
 
 
+def doc_comment(lines: List[str], at: int) -> str:
+    """The words above the function whose head is at a line."""
+    words: List[str] = []
+    while at > 0 and re.match(r" *(?:///|#\[)", lines[at - 1]):
+        at -= 1
+        if "///" in lines[at]:
+            words.insert(0, lines[at].split("///")[1].strip())
+    text = " ".join(filter(None, words)).removeprefix("Law: ")
+    return re.sub(r"# (Errors|Cost|Panics)\b", r"\1:", text)
+
+
 def contracts(text: str) -> Iterator[Contract]:
     """The contract of each function of a source file, in its order."""
     lines, part = text.splitlines(), ""
@@ -87,46 +107,68 @@ def contracts(text: str) -> Iterator[Contract]:
             own = contract_lines(lines, at, len(head[1]))
             clauses = [(found[1], found[2] or "") for found in map(CLAUSE.match, own) if found]
             is_public = head[2] == "pub " or TRAIT.match(part) is not None
-            yield Contract(head[3], is_public, clauses, set(re.findall(r"\w+", " ".join(own))))
+            words = set(re.findall(r"\w+", " ".join(own)))
+            yield Contract(head[3], is_public, head[2] == "pub(crate) ", clauses, words,
+                           LAW.match(line) is not None, doc_comment(lines, at))
 
 
 def sources(crate: str) -> List[Path]:
     return sorted((ROOT / "crates" / crate / "src").rglob("*.rt"))
 
 
-def public_contracts(path: Path) -> List[Contract]:
-    """The contracts of a file's public functions that ensure something."""
+def public_contracts(path: Path, inner: bool = False) -> List[Contract]:
+    """The contracts of a file's public functions that ensure something, or of the crate's too."""
     found = contracts(path.read_text(encoding="utf-8"))
-    return [each for each in found if each.is_public and each.promises()
-            and each.name not in FAULTS]
+    return [each for each in found if (each.is_public or inner and each.is_of_crate)
+            and each.promises() and each.name not in FAULTS]
 
 
+# Crates whose own functions are steps that docs/PROVED.md speaks of.
+LOCK = ("bw_ticket", "bw_lend")
 # Each fault has them: its number and its name, by one clause each.
 FAULTS = ("number", "name")
 CLAUSES_HEAD = """# The clauses of each public function
 
-The claims in plain words are in docs/PROVED.md.
-Each function has the labels of what it ensures behind it. One without labels has one clause.
+Each function has the labels of what it ensures, and the comment above it.
+One without labels has one clause.
 Methods of traits are among them; `number` and `name` of a fault are not.
+Of bw_ticket and bw_lend the functions of the crate are there too: they are the steps of the lock.
 What a function asks for (`requires`) is proved at its calls.
+"""
+LAWS_HEAD = """# Laws
+
+A law is proved as the contract of a function that takes nothing, returns nothing and does no work.
+Its words are the comment above it.
 """
 
 
-def promised(contract: Contract) -> str:
-    """A function's name, and the labels of what it ensures."""
+def table_of_crates(columns: str, row: Callable[[str, Contract], str], laws: bool = False) -> str:
+    """A table for each crate, with a row for each public contract, or for each law alone."""
+    text = ""
+    for crate in crates():
+        top = ROOT / "crates" / crate / "src"
+        rows = [row(f"`{path.relative_to(top)}:{each.name}`", each) for path in sources(crate)
+                for each in public_contracts(path, crate in LOCK) if each.is_law or not laws]
+        line = "|---" * (columns.count("|") + 1)
+        text += f"\n## {crate}\n\n| {columns} |\n{line}|\n{''.join(rows)}" if rows else ""
+    return text
+
+
+def clause_row(name: str, contract: Contract) -> str:
     labels = " ".join(label for label in contract.promises() if label)
-    return f"`{contract.name}`" + (f" ({labels})" if labels else "")
+    return f"| {name} | {labels} | {contract.comment} |\n"
+
+
+def law_row(name: str, contract: Contract) -> str:
+    return f"| {name} | {contract.comment[:1].upper()}{contract.comment[1:]} |\n"
 
 
 def clauses_page() -> str:
-    text = CLAUSES_HEAD
-    for crate in crates():
-        top, rows = ROOT / "crates" / crate / "src", ""
-        for path in sources(crate):
-            found = "; ".join(promised(each) for each in public_contracts(path))
-            rows += f"| `{path.relative_to(top)}` | {found} |\n" if found else ""
-        text += f"\n## {crate}\n\n| File | Clauses |\n|---|---|\n{rows}" if rows else ""
-    return text
+    return CLAUSES_HEAD + table_of_crates("Function | Clauses | In words", clause_row)
+
+
+def laws_page() -> str:
+    return LAWS_HEAD + table_of_crates("Law | In words", law_row, laws=True)
 
 
 # Definitions
@@ -138,7 +180,7 @@ IMPORT = re.compile(r"^(?:ghost )?use Rattle\.(\w+)\.specs\.([\w.]+)\.\{([^}]*)\
 # Crates whose functions are there beside their predicates and records.
 WHOLE = ("bw_model", "bw_machine")
 # Programs and the C library, whose definitions put those of the crates below into other forms, and
-# the laws, which docs/PROVED.md has in words.
+# the laws, which `--laws` has in words.
 LEFT_OUT_CRATES = ("arbiter", "bw_exports", "bw_change_laws")
 # Functions of a refusal that say no more than their names.
 PLAIN = re.compile(r"_fault_(?:number|name)$")
@@ -147,7 +189,7 @@ DEFINITIONS_HEAD = """# Definitions
 Below are the predicates and records that a clause of a public function names. `Plan.IsPlan` is in `specs/Plan.antt` of its crate.
 Of bw_model and bw_machine functions are there too, and what other crates name. Those of other \
 crates are in the same files, each with a comment. Programs and the C library are left out: they \
-put the same into other forms. So are the laws of a change, which docs/PROVED.md has in words.
+put the same into other forms. So are the laws of a change, which `--laws` has in words.
 Numbers in definitions are whole numbers without bound.
 """
 
@@ -235,7 +277,8 @@ def lemmas() -> str:
 
 
 LISTS: Dict[str, Callable[[], str]] = {
-    "--clauses": clauses_page, "--definitions": definitions_page, "--lemmas": lemmas}
+    "--clauses": clauses_page, "--laws": laws_page, "--definitions": definitions_page,
+    "--lemmas": lemmas}
 
 
 def main(words: List[str]) -> int:

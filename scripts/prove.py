@@ -4,7 +4,7 @@
 usage: prove.py COMMAND CRATE LOG     COMMAND begins each line; all that the kit says goes to LOG
 
 What is proved stays in crates/*/out. So a run that was interrupted goes on where it was. The exit
-status is that of `rt all check`.
+status is that of `rt all check`. `rt ci` would try each must-fail edit, too.
 """
 import io
 import os

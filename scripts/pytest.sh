@@ -73,7 +73,7 @@ pytest_quick() {
 pytest_checked() {
   rm -f "$test_report"
   timeout --kill-after=10 "$test_seconds" "$python" -m pytest tests python/tests --checked \
-    --fuzz-runs 200 -n "$(nproc)" --dist loadfile --junitxml="$test_report" -q </dev/null
+    --fuzz-runs 20 -n "$(nproc)" --dist loadfile --junitxml="$test_report" -q </dev/null
 }
 
 # ./test --checked: its last line says what was not proved.

@@ -30,8 +30,9 @@ KINDS = ("text", "columns")
 @pytest.fixture(scope="module")
 def built(library, tmp_path_factory):
     """A function that builds a program of tests/attack over the static library."""
-    if not shutil.which(CLANG):
-        pytest.skip(f"no {CLANG}")
+    for tool in (CLANG, "objcopy"):
+        if not shutil.which(tool):
+            pytest.skip(f"no {tool}")
     folder = tmp_path_factory.mktemp("attack")
     archive = library.with_suffix(".a")
     guarded = folder / "libguarded.a"

@@ -8,7 +8,7 @@ import instructions
 import pytest
 import questions
 import runs
-from instructions import Row
+from instructions import BOTH, Row
 from shapes import AGAIN, Tree, host, text_of
 
 from support import ROOT, run, same
@@ -79,10 +79,29 @@ def test_kept_numbers_are_read_back():
 
 
 def test_all_work_is_counted():
-    """Each piece of work on four trees of 4096 groups, three on two of 16384, and three lines on
-    two of which a part was removed."""
+    """Eleven pieces of work on four trees of 4096 groups, six edits before a question on two of
+    them, all on two of 16384, and three lines on two of which a part was removed."""
     rows = instructions.rows_of(instructions.WORK)
-    same((len(rows), len(set(rows))), (4 * 11 + 3 * 2 + 3 * 2,) * 2)
+    same((len(rows), len(set(rows))), (4 * 11 + 2 * 6 + 2 * 17 + 2 * 3,) * 2)
+
+
+@pytest.mark.parametrize("work, form", [
+    ("demand;plan", r"demand g\d \d+"), ("write;plan", r"write g\d cpu.weight \d+"),
+    ("max;plan", r"write g\d cpu.max \d+000 1000000"), ("write;cert", r"write g\d cpu.weight \d+")])
+def test_an_edit_comes_before_each_question(work, form):
+    """Each turn is one edit, and then the question. The set-up stays as it is."""
+    tree = Tree("flat", 10)
+    lines = tree.edited(work, 3)
+    same(lines[1::2], [work.partition(";")[2]] * 3)
+    assert len(lines) == 6 and all(re.fullmatch(form, line) for line in lines[::2]), lines
+    same(tree.made, Tree("flat", 10).made)
+
+
+def test_all_demands_come_before_a_period():
+    """A turn sets the demand of each leaf, and then runs a period."""
+    lines = Tree("pairs", 9).edited("demands;period", 2)
+    same([line.rpartition(" ")[0] or line for line in lines],
+         [*(f"demand g{number}/x" for number in range(4)), "period"] * 2)
 
 
 @pytest.mark.parametrize("number, is_dearer", [(103.0, False), (103.1, True), (60.0, False)])
@@ -165,11 +184,20 @@ def test_counts_that_differ_say_nothing(stub):
 
 
 def test_a_floor_is_counted_beside(stub):
-    """`--floor` prints the numbers of a flat tree over those of another program."""
+    """`--floor` prints the numbers of flat and random trees over those of another program."""
     ended = stub.run("--only", "plan", "--floor", stub.folder / "program")
-    same(ended.out.decode().split("\n")[-5:-1], [
-        "| Over the floor, flat, 4096 | plan |", "|---|---|", "| the floor | 100 |",
-        "| ours, and over it | 100, 1.00 |"], ended.err.decode())
+    same(ended.out.decode().split("\n")[-6:-1], [
+        "| Over the floor | flat, 4096 | random, 4096 | flat, 16384 | random, 16384 |",
+        "|---|---|---|---|---|", "| `plan` |" + " 1.00 (100, 100) |" * 4, "",
+        "On some tree over 1.5 times the floor: none."], ended.err.decode())
+
+
+def test_work_far_over_the_floor_is_named():
+    """Work is named if it is over 1.5 times the floor on one tree."""
+    rows = [Row(work, shape, 4096) for work in ("plan", "total", "cert") for shape in BOTH]
+    found = dict(zip(rows, [150.0, 150.0, 100.0, 151.0, 200.0, 10.0]))
+    same(list(instructions.over_floor(found, dict.fromkeys(rows, 100.0)))[-1],
+         "On some tree over 1.5 times the floor: `total`, `cert`.")
 
 
 def test_nothing_kept(stub):

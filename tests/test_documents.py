@@ -182,3 +182,34 @@ def test_headline_is_quoted():
     for phrase in phrases:
         assert phrase in quoted and phrase in said, phrase
     assert "`bw_workers/serving.rt:serve.headline`" in text
+
+
+def test_public_constants_are_stated(monkeypatch):
+    """A law of its crate or of one above states each number that a crate exports or defines by.
+
+    The definitions read these numbers from the code, so they cannot tell a wrong one.
+    """
+    monkeypatch.syspath_prepend(ROOT / "scripts")
+    monkeypatch.chdir(ROOT)
+    from crates import crates, with_all_below
+    sources = {name: [path.read_text(encoding="utf-8")
+                      for path in (ROOT / "crates" / name / "src").rglob("*.rt")]
+               for name in crates()}
+    laws = {name: set(re.findall(r"ensures (?:\w+ )?\{ ([A-Z]\w+) ≡ ", "\n".join(texts)))
+            for name, texts in sources.items()}
+    for name, texts in sources.items():
+        own = set(re.findall(r"^pub const ([A-Z]\w+): u", "\n".join(texts), re.M))
+        above = set.union(*(laws[each] for each in crates() if name in with_all_below(each)))
+        same(sorted((own & constants_of(name)) - above), [], f"constants of {name} without a law")
+
+
+def constants_of(name):
+    """Constants that a crate exports, or that its definitions name."""
+    folder, found = ROOT / "crates" / name, set()
+    for path in (folder / "src").glob("lib.rt"):
+        for used in re.findall(r"^pub use [^;]+;", path.read_text(encoding="utf-8"), re.M):
+            found |= set(re.findall(r"\b[A-Z][A-Z0-9_]+\b", used))
+    for path in (folder / "specs").rglob("*.antt"):
+        code = re.sub(r"--.*", "", path.read_text(encoding="utf-8"))
+        found |= set(re.findall(r"\b[A-Z][A-Z0-9_]+\b", code))
+    return found

@@ -21,7 +21,7 @@ PAGES = TOP_PAGES + [f"docs/{path.name}" for path in sorted((ROOT / "docs").glob
 SHORT = ("README.md", "docs/ARCHITECTURE.md", "docs/USING.md")
 GREATEST_WORDS = 30
 # Pages whose references to clauses and definitions are held to the sources, and how many they have.
-REFERRING = {"docs/PROVED.md": 40, "docs/ARCHITECTURE.md": 20}
+REFERRING = {"docs/PROVED.md": 40, "docs/ARCHITECTURE.md": 20, "docs/LINUX.md": 8}
 REFERENCE = re.compile(r"`(?:(\w+)/)?((?:\w+/)*\w+\.(rt|antt)):(\w+)(?:\.(\w+))?`(?: of (\w+))?")
 # One more clause of the function before it: `host.rt:new.ok`, `.err`
 FURTHER = re.compile(r"(?<=, )`\.(\w+)`")
@@ -42,11 +42,13 @@ def crates() -> list:
 
 def test_pages_are_small():
     """README and docs/ are at most ten pages. What users read has a bound: the door, and the four
-    pages of commands, hosts and calls together."""
+    pages of commands, hosts and calls together. So has the reading of what is proved: lists of
+    clauses, laws and definitions are printed by scripts/indexes.py."""
     pages = [ROOT / "README.md", *(ROOT / "docs").glob("**/*.md")]
     sizes = {path.name: path.stat().st_size for path in pages}
     assert len(sizes) <= 10
     assert sizes["README.md"] <= 8 * 1024
+    assert sizes["PROVED.md"] <= 20 * 1024
     users = {page: sizes[f"{page}.md"] for page in ("USING", "TOOLS", "LINUX", "EMBEDDING")}
     assert sum(users.values()) <= 90 * 1024, users
 
@@ -295,7 +297,10 @@ CALLS_OF_THE_LOCK = {
     r"\.load::<Looking>": ("sleeping.rt", ["look"]),
     r"\.load::<Woken>": ("sleeping.rt", ["note_wake"]),
     r"\.load::<Record>": ("steps.rt", ["leave"]),
-    r"\.load::<PeekNext>": ("steps.rt", ["peek_next"]),
+    r"\.load::<PeekNext>": ("behind.rt", ["peek_next"]),
+    # what tells of a load is made of it alone
+    r"\bBehind \{ left\b": ("behind.rt", ["peek_next"]),
+    r"\n +Sighting \{": ("sleeping.rt", ["tickets_served"]),
     r"\.load::<PeekWord>": ("steps.rt", ["wake"]),
     r"\.load::<Front>": ("lock.rt", ["front"]),
 }
@@ -309,8 +314,7 @@ CALLS_OF_LENT_SEATS = {
     r"\bCount::none\(": [("sleeping.rt", "of")],
     # the loads that are no steps of a table
     r"\.peek\(": [("errands.rt", "hint"), ("sleeping.rt", "read")],
-    r"\.served\(": [("lending.rt", "is_served_soon"), ("sleeping.rt", "look")],
-    r"\(Sighting \{": [("sleeping.rt", "look")],
+    r"\.look\(": [("lending.rt", "is_served_soon"), ("sleeping.rt", "look")],
     # each call that is made has its errand
     r"\.finish\w*\(": [("errands.rt", "finish_owing"), ("seat.rt", "call")],
     r"\.hint\(": [("errands.rt", "seek")],
@@ -437,7 +441,7 @@ def test_calls_of_lent_seats():
 
 
 @pytest.mark.parametrize("call", ["table.park(rt, 2, 1)", "table.wake_all(2)", "yield_now()",
-                                  "table.peek(2)", "lock.served()", "Owed::to(place)",
+                                  "table.peek(2)", "lock.look()", "Owed::to(place)",
                                   "bells.rouse(place)", "TableBells::of(table)",
                                   "seat.finish(rt, lock)", "hints.hint(ticket)"])
 def test_another_call_of_lent_seats_is_found(call):
@@ -569,8 +573,15 @@ ROWS = {
                       "| `Host.Shape` | the value of a host |",
                       "| `History.replay` | the machine after all calls of the history, played by "
                       "one thread |"),
-    "--clauses": ("| `opening.rt` | `open` (range lock seats each err) |",
-                  "| `by_depth.rt` | `gather` |", "| `gate.rt` | `uses` |"),
+    "--clauses": ("| `steps.rt:claim` | table claimed | Takes the place if the seat of this ticket is "
+                  "lent there. |",
+                  "| `gate.rt:uses` |  | Whether a leaf uses its slices. The planner does not know "
+                  "it. |",
+                  "| `counted.rt:add` | rounds picks | Adds the rounds and picks of another count, "
+                  "as of a piece of work in another thread. |"),
+    "--laws": ("| `laws.rt:there_is_one_plan` | Each instance has exactly one plan. |",
+               "| `host.rt:capacity_takes_nothing` | A host with a greater capacity gives no group "
+               "less. |"),
     "--lemmas": ("| `allocation/Limiting.antt` | The limiting groups give the greatest total. |",),
 }
 
@@ -625,6 +636,33 @@ def test_contracts_are_read():
                  ("alone", False, [("ensures", "left")])], "contracts")
     words = [each.words for each in indexes.contracts(CONTRACTS)]
     assert "IsMade" in words[1] and "IsNothing" not in words[1]
+
+
+LAW = """/// Law: nothing changes.
+///
+/// Premise: none.
+///
+/// # Errors
+/// None.
+#[inline]
+pub fn nothing_changes<M: Machine>()
+    ensures { NothingChanges }
+{}
+
+/// Ends.
+pub(crate) fn end(rt: u8)
+    ensures done { Done }
+{}
+"""
+
+
+def test_laws_are_read():
+    """A law takes nothing and returns nothing. Its words are the comment, with its errors."""
+    found = [(each.name, each.is_law, each.is_public, each.is_of_crate, each.comment)
+             for each in indexes.contracts(LAW)]
+    same(found, [("nothing_changes", True, True, False,
+                  "nothing changes. Premise: none. Errors: None."),
+                 ("end", False, False, True, "Ends.")], "laws")
 
 
 def test_definitions_are_read(tmp_path):

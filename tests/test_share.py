@@ -4,6 +4,7 @@ import os
 import re
 import shutil
 import tempfile
+from datetime import datetime
 
 import pytest
 
@@ -167,7 +168,12 @@ def test_one_version(path):
                           ("arbiter.h", '^#define ARBITER_VERSION "(.*)"$'),
                           ("rust/Cargo.toml", '^version = "(.*)"$'),
                           ("arbiter.1", r"^\.Ql arbiter (\S*) ,$"),
-                          ("debian/changelog", r"\Aarbiter \((.*)\) ")):
+                          ("debian/changelog", r"\Aarbiter \((.*)\) "),
+                          ("../python/pyproject.toml", '^version = "(.*)"$'),
+                          ("../python/arbiter/__init__.py", '^__version__ = "(.*)"$'),
+                          ("../python/arbiter_host/__init__.py", '^__version__ = "(.*)"$'),
+                          ("../independent/main.ml", '^let version = "(.*)"$'),
+                          ("../independent/script_main.ml", '^let version = "(.*)"$')):
         same(re.findall(spelled, share(name), re.M), [wanted], f"version in {name}")
     exported = (ROOT / "crates/bw_exports/src/version_call.rt").read_text()
     same(re.findall('^const VERSION: &str = "(.*)";$', exported, re.M), [wanted], "arbiter_version")
@@ -176,14 +182,22 @@ def test_one_version(path):
     module = (ROOT / "python/arbiter/found.py").read_text()
     soname = re.findall('^SONAME = "(.*)"$', module, re.M)
     same(soname, [f"libarbiter.so.{first}"], "python/arbiter/found.py")
+    symbols = re.findall(r"^(libarbiter\.so\.\S+) ", share("debian/libarbiter1.symbols"), re.M)
+    same(symbols, soname, "debian/libarbiter1.symbols")
 
 
 def test_newest_changes_are_of_the_version():
-    """The first number of CHANGELOG.md is the version. Only what is not released is above it."""
-    heads = re.findall(r"^## (.*)$", (ROOT / "CHANGELOG.md").read_text(), re.M)
-    numbered = heads[heads[:1] == ["Unreleased"]:]
-    same(numbered[:1], [version()], "the newest version of CHANGELOG.md")
-    numbers = [tuple(map(int, each.split("."))) for each in numbered]
+    """The first number of CHANGELOG.md is the version, with its day, which is that of the packages,
+    and its tag. What is not released is above it."""
+    text = (ROOT / "CHANGELOG.md").read_text()
+    unreleased, *heads = re.findall(r"^## (.*)$", text, re.M)
+    same(unreleased, "Unreleased", "the first heading")
+    days = dict(each.split(", ") for each in heads)
+    same(list(days)[:1], [version()], "the newest version of CHANGELOG.md")
+    holds(f"`v{version()}`", text, "the tag")
+    dated = re.search(r"^ -- .*>  \w+, (\d\d \w+ \d{4}) ", share("debian/changelog"), re.M)[1]
+    same(datetime.strptime(dated, "%d %b %Y").date().isoformat(), days[version()], "the day")
+    numbers = [tuple(map(int, each.split("."))) for each in days]
     same(numbers, sorted(set(numbers), reverse=True), "versions of CHANGELOG.md")
     page = (ROOT / "docs/EMBEDDING.md").read_text()
     installed = set(re.findall(r"libarbiter\.so\.(\d+\.\d+\.\d+)", page))
