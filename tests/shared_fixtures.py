@@ -135,14 +135,24 @@ def heeds_interrupts():
         signal.signal(signal.SIGINT, signal.default_int_handler)
 
 
-@pytest.fixture(scope="session")
-def built():
-    """The folder in which all is proved in Coq, and both programs are made."""
-    if not all(map(shutil.which, ("coqc", "coqchk", "ocamlfind"))):
-        pytest.skip("no Coq: apt-get install coq ocaml-findlib libzarith-ocaml-dev")
-    folder = support.ROOT / "out/independent"
+def has_coq() -> bool:
+    """Whether what proves in Coq, and makes programs of it, is there."""
+    return all(map(shutil.which, ("coqc", "coqchk", "ocamlfind")))
+
+
+def build_in_coq(folder: Path) -> str:
+    """Proves in Coq, and makes both programs. Gives the words that were printed."""
     ended = subprocess.run([support.ROOT / "independent/build", folder], capture_output=True, text=True,
                            timeout=900, check=False)
     assert ended.returncode == 0, ended.stdout + ended.stderr
-    print(ended.stdout)
+    return ended.stdout
+
+
+@pytest.fixture(scope="session")
+def built():
+    """The folder in which all is proved in Coq, and both programs are made."""
+    if not has_coq():
+        pytest.skip("no Coq: apt-get install coq ocaml-findlib libzarith-ocaml-dev")
+    folder = support.ROOT / "out/independent"
+    print(build_in_coq(folder))
     return folder

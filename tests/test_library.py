@@ -20,6 +20,7 @@ import pytest
 import arbiter
 import pages
 from arbiter import c
+from shared_fixtures import build_in_coq, has_coq
 from stand_in import version
 from support import ROOT, Program, Talk, kit_folder, run, same
 from worked_scripts import all_scripts
@@ -786,7 +787,10 @@ def test_soname_and_names(library):
 
 @pytest.fixture(scope="module")
 def installed():
-    """A folder in which `./build --install` put everything. Nothing is proved here."""
+    """A folder in which `./build --install` put everything. The kit proves nothing here."""
+    if has_coq():
+        # that takes longer than the limit of what is read below
+        build_in_coq(ROOT / "out/independent")
     with tempfile.TemporaryDirectory() as folder:
         words, text = ["--install", folder], b""
         options = {"cwd": ROOT, "stderr": subprocess.STDOUT}
