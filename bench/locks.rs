@@ -2,6 +2,10 @@
 //! program's `period`. bench/locks.py compiles and runs it:
 //!
 //!     rustc -O bench/locks.rs -o /tmp/locks && /tmp/locks 10
+//!     /tmp/locks 10 pool 64 2000
+//!
+//! The first times ten periods of each lock. The second makes ten of one lock, 64 seats and 2000
+//! slices for each: another program counts its instructions.
 //!
 //! Nine leaves have 1000 slices for each processor. A draw takes one slice. `mutex` is
 //! `std::sync::Mutex`, with draws in any order. `tickets` is a ticket lock: each waiter sleeps on
@@ -33,17 +37,16 @@ unsafe extern "C" {
 
 /// Slices of leaves, which seats draw.
 trait Slices: Send {
-    /// All slices of some seats, shared out evenly.
-    fn new(seats: u32) -> Self;
+    /// All slices of some seats, so many for each, shared out evenly.
+    fn new(seats: u32, each: u32) -> Self;
     /// Takes one slice of the leaf, if one is left.
     fn draw(&mut self, seat: u32, leaf: usize) -> bool;
     /// Number of slices drawn so far.
     fn drawn(&self) -> usize;
 }
 
-/// The slices of each leaf, of all slices of some seats.
-fn shares(seats: u32) -> [u32; LEAVES] {
-    let whole = seats * EACH;
+/// The slices of each leaf, of all slices.
+fn shares(whole: u32) -> [u32; LEAVES] {
     let mut shares = [whole / LEAVES as u32; LEAVES];
     shares[0] += whole % LEAVES as u32;
     shares
@@ -56,8 +59,9 @@ struct Bare {
 }
 
 impl Slices for Bare {
-    fn new(seats: u32) -> Bare {
-        Bare { left: shares(seats), draws: Vec::with_capacity((seats * EACH) as usize) }
+    fn new(seats: u32, each: u32) -> Bare {
+        let whole = seats * each;
+        Bare { left: shares(whole), draws: Vec::with_capacity(whole as usize) }
     }
 
     fn draw(&mut self, seat: u32, leaf: usize) -> bool {
@@ -180,16 +184,16 @@ impl Whole {
 }
 
 impl Slices for Whole {
-    fn new(seats: u32) -> Whole {
+    fn new(seats: u32, each: u32) -> Whole {
         let rows = LEAVES + 1;
-        let leaves = shares(seats).map(u64::from);
-        let calls = seats * (EACH + LEAVES as u32);
+        let leaves = shares(seats * each).map(u64::from);
+        let calls = seats * (each + LEAVES as u32);
         Whole {
-            per_processor: u64::from(EACH),
+            per_processor: u64::from(each),
             parents: (0..rows).map(|row| (row > 0).then_some(0)).collect(),
             leaf: (0..rows).map(|row| row > 0).collect(),
             drawn: vec![0; rows],
-            ceiling: std::iter::once(u64::from(seats * EACH)).chain(leaves).collect(),
+            ceiling: std::iter::once(u64::from(seats * each)).chain(leaves).collect(),
             by_processor: vec![0; seats as usize],
             held: vec![0; seats as usize * rows],
             history: Vec::with_capacity(calls as usize),
@@ -315,9 +319,9 @@ impl<P: Slices> Lock<P> for Tickets<P> {
 }
 
 /// Draws the slices of one seat.
-fn work<P, L: Lock<P>>(lock: &L, seat: u32) {
+fn work<P, L: Lock<P>>(lock: &L, seat: u32, each: u32) {
     let (mut leaf, mut drawn) = (0, 0);
-    while drawn < EACH && leaf < LEAVES {
+    while drawn < each && leaf < LEAVES {
         if lock.draw(seat, leaf) {
             drawn += 1;
         } else {
@@ -327,32 +331,43 @@ fn work<P, L: Lock<P>>(lock: &L, seat: u32) {
 }
 
 /// Milliseconds of a period in which each seat has a thread.
-fn period<P: Slices, L: Lock<P>>(seats: u32) -> f64 {
+fn period<P: Slices, L: Lock<P>>(seats: u32, each: u32) -> f64 {
     let began = Instant::now();
-    let lock = L::new(P::new(seats));
+    let lock = L::new(P::new(seats, each));
     std::thread::scope(|scope| {
         for seat in 0..seats {
             let lock = &lock;
-            scope.spawn(move || work(lock, seat));
+            scope.spawn(move || work(lock, seat, each));
         }
     });
     let pool = lock.into_pool();
     let took = began.elapsed().as_secs_f64() * 1e3;
-    assert_eq!(pool.drawn(), (seats * EACH) as usize);
+    assert_eq!(pool.drawn(), (seats * each) as usize);
     took
 }
 
 /// Prints the lock, the seats, and the milliseconds of each run.
-fn show<P: Slices, L: Lock<P>>(name: &str, seats: u32, runs: usize) {
-    let times: Vec<String> = (0..runs).map(|_| format!("{:.4}", period::<P, L>(seats))).collect();
+fn show<P: Slices, L: Lock<P>>(name: &str, seats: u32, each: u32, runs: usize) {
+    let times: Vec<String> =
+        (0..runs).map(|_| format!("{:.4}", period::<P, L>(seats, each))).collect();
     println!("{name} {seats} {}", times.join(" "));
 }
 
 fn main() {
-    let runs = std::env::args().nth(1).and_then(|word| word.parse().ok()).unwrap_or(10);
-    for seats in [1, 4, 16, 64] {
-        show::<Bare, Mutex<Bare>>("mutex", seats, runs);
-        show::<Whole, Mutex<Whole>>("pool", seats, runs);
-        show::<Bare, Tickets<Bare>>("tickets", seats, runs);
+    let words: Vec<String> = std::env::args().collect();
+    let number = |at: usize| words.get(at).and_then(|word| word.parse().ok());
+    let runs = number(1).unwrap_or(10) as usize;
+    let each = number(4).unwrap_or(EACH);
+    let only = words.get(2).map_or("", |word| word.as_str());
+    for seats in number(3).map_or(vec![1, 4, 16, 64], |seats| vec![seats]) {
+        if only.is_empty() || only == "mutex" {
+            show::<Bare, Mutex<Bare>>("mutex", seats, each, runs);
+        }
+        if only.is_empty() || only == "pool" {
+            show::<Whole, Mutex<Whole>>("pool", seats, each, runs);
+        }
+        if only.is_empty() || only == "tickets" {
+            show::<Bare, Tickets<Bare>>("tickets", seats, each, runs);
+        }
     }
 }

@@ -60,7 +60,8 @@ def test_types():
     typed = ["calm_rounds.py", "instructions.py", "locks.py", "periods.py", "perturbed.py",
              "questions.py", "runs.py", "shapes.py", "../tests/meeting_names.py",
              "../scripts/indexes.py", "../scripts/kit.py", "../scripts/telling",
-             *map(str, sorted((ROOT / "bench/kernel/laboratory").glob("*.py")))]
+             *map(str, sorted((ROOT / "bench/kernel/laboratory").glob("*.py"))),
+             *map(str, sorted((ROOT / "tests/lock").glob("*.py")))]
     words = {"mypy": ["--strict", "--cache-dir", "/dev/null", *typed],
              "pyflakes": [*map(str, sorted((ROOT / "bench").rglob("*.py")))]}
     folders = os.pathsep.join(str(ROOT / name) for name in ("python", "tests", "bench/kernel"))
