@@ -52,7 +52,7 @@ class Recording(NamedTuple):
 
     lock: int
     places: int
-    accesses: list[Access]
+    accesses: tuple[Access, ...]
 
 
 def only(found: Iterable[int], what: str) -> int:
@@ -78,7 +78,7 @@ def recording(text: str) -> Recording:
     atomic = [access.block for access in found if access.kind in ATOMIC]
     lock = only((each for each in atomic if sizes[each] == LOCK_BYTES), "the lock's")
     places = only((each for each in atomic if sizes[each] == PLACES_BYTES), "of places")
-    return Recording(lock, places, [each for each in found if each.block in (lock, places)])
+    return Recording(lock, places, tuple(each for each in found if each.block in (lock, places)))
 
 
 def in_word(place: Place) -> int:
