@@ -11,8 +11,8 @@ an idle machine, and stops after ten at the latest. `rustc` compiles bench/locks
 
 With `--costs` it prints what a draw costs instead, of 1 and of 64 workers: instructions, which
 valgrind counts, and processor time on one core. Beside the program is the Mutex round the pool that
-does what the program's does. Instructions are those of a further draw: of a period of 2000 slices a
-worker, less those of one of 1000. Valgrind lets one thread run at a time.
+does what the program's does. Instructions are those of a further draw: of a period of 1000 slices a
+worker, less those of one of 500. Valgrind lets one thread run at a time.
 """
 import argparse
 import os
@@ -36,7 +36,7 @@ LOCKS = ("mutex", "pool", "tickets")
 Runs = dict[tuple[str, int], list[float]]
 COSTS = ("| Workers | instructions a draw: `period` | Mutex, the program's pool | ratio "
          "| processor ms a period, one core: `period` | Mutex, the program's pool | ratio |")
-SLICES = 1000
+SLICES = 500
 LEAVES = [f"mkdir g{at}\ndemand g{at} 1000000" for at in range(9)]
 
 
@@ -103,7 +103,7 @@ class Periods:
         for _ in range(runs):
             for is_ours in (True, False):
                 for some in (1, 1 + number):
-                    used = spent(*self.run(is_ours, SLICES, some))[0]
+                    used = spent(*self.run(is_ours, 2 * SLICES, some))[0]
                     least[is_ours, some] = min(used, least.get((is_ours, some), used))
         return [1e3 * (least[is_ours, 1 + number] - least[is_ours, 1]) / number
                 for is_ours in (True, False)]

@@ -2,9 +2,9 @@
 //! program's `period`. bench/locks.py compiles and runs it:
 //!
 //!     rustc -O bench/locks.rs -o /tmp/locks && /tmp/locks 10
-//!     /tmp/locks 10 pool 64 2000
+//!     /tmp/locks 10 pool 64 500
 //!
-//! The first times ten periods of each lock. The second makes ten of one lock, 64 seats and 2000
+//! The first times ten periods of each lock. The second makes ten of one lock, 64 seats and 500
 //! slices for each: another program counts its instructions.
 //!
 //! Nine leaves have 1000 slices for each processor. A draw takes one slice. `mutex` is

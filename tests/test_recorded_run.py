@@ -10,7 +10,7 @@ import functools
 import subprocess
 
 import pytest
-from lock import crowd, recorder, rounds
+from lock import crowd, explore, recorder, rounds
 from lock.replay import PLACES, Access, Recording, Refused, Replay, recording
 
 from support import same
@@ -85,6 +85,13 @@ def test_recorded_run(made, threads, slices, order, record_property):
             f"{rounds.greatest(accesses)} of accesses, {rounds.greatest(turns)} of turns")
     record_property("rounds", said)
     print(said)
+
+
+def test_all_states_of_two_seats():
+    """The most rounds that raise what is served, in the model and of the accesses of the code. No
+    state of the code has a hint that is passed over."""
+    same(explore.most_rounds(2, explore.model_steps), (1095, 12))
+    same(explore.most_rounds(2, explore.code_steps), (803, 14))
 
 
 def test_each_event_occurs(made):

@@ -31,38 +31,47 @@ class Stage(enum.Enum):
     INSIDE = enum.auto()
 
 
-class Peeking(NamedTuple):
+# Errands of the same seat are equal only if they are of one class, unlike tuples.
+
+
+@dataclasses.dataclass(frozen=True)
+class Peeking:
     """It makes so many loads of the lock's own, and then looks for a hint."""
 
     loads: int
 
 
-class Claiming(NamedTuple):
+@dataclasses.dataclass(frozen=True)
+class Claiming:
     """It has seen the hint of this seat."""
 
     seat: int
 
 
-class EnteringFor(NamedTuple):
+@dataclasses.dataclass(frozen=True)
+class EnteringFor:
     """It has claimed this seat, and looks whether its ticket is served."""
 
     seat: int
 
 
-class Helping(NamedTuple):
+@dataclasses.dataclass(frozen=True)
+class Helping:
     """It is inside the lock for this seat."""
 
     seat: int
 
 
-class Giving(NamedTuple):
+@dataclasses.dataclass(frozen=True)
+class Giving:
     """It has left for this seat, makes so many loads, and gives the seat back."""
 
     seat: int
     loads: int
 
 
-class Returning(NamedTuple):
+@dataclasses.dataclass(frozen=True)
+class Returning:
     """It has claimed this seat, and gives it back without its call made."""
 
     seat: int
