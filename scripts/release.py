@@ -1,31 +1,32 @@
 #!/usr/bin/env python3
 """Makes the files that a maintainer uploads, of what ./build --install installs. For ./build.
 
-usage: release.py INSTALLED OUT VERSION COMMIT SECONDS KIT [DEB..]
+usage: release.py INSTALLED OUT VERSION COMMIT SECONDS KIT IMAGE [DEB..]
 
 INSTALLED is a folder that ./build has installed in, OUT gets the files, and SECONDS is the time of
-the commit since 1970. The same input gives the same bytes: archives are sorted, their files belong
-to root and have that time, and no name of the machine is in them.
+the commit since 1970. IMAGE has Debian's packages for an image of containers, or is empty. The same
+input gives the same bytes: archives are sorted, their files belong to root and have that time, and
+no name of the machine is in them.
 """
 from __future__ import annotations
 
 import base64
-import gzip
 import hashlib
 import io
 import json
 import os
 import re
 import sys
-import tarfile
 import tempfile
 import time
 import tomllib
 import zipfile
 from collections.abc import Iterable, Mapping, Sequence
-from dataclasses import dataclass
 from pathlib import Path
 from typing import Any
+
+import image
+from archives import Fault, File, Files, Release, tar
 
 TOP = Path(__file__).resolve().parents[1]
 MACHINE = "x86_64"
@@ -47,36 +48,6 @@ OF_MACHINE = re.compile(rb"(?:/(?:root|home|tmp|var/tmp)/[\w.-]+|" + re.escape(o
 COMPILED = (b"\x7fELF", b"!<arch>\n")
 # The oldest C library for which there is a tag of wheels on this machine.
 OLDEST = 5
-
-
-class Fault(Exception):
-    """Why no release is made."""
-
-
-@dataclass(frozen=True)
-class File:
-    """A file of an archive: its bytes and whether it runs, or the file that it links to."""
-
-    data: bytes = b""
-    runs: bool = False
-    link: str = ""
-
-
-Files = Mapping[str, File]
-
-
-@dataclass(frozen=True)
-class Release:
-    """A version, and the commit and kit that it is made of."""
-
-    version: str
-    commit: str
-    seconds: int
-    kit: str
-
-    @property
-    def day(self) -> str:
-        return time.strftime("%Y-%m-%dT%H:%M:%SZ", time.gmtime(self.seconds))
 
 
 def read(path: Path) -> File:
@@ -111,34 +82,6 @@ def check_paths(files: Files) -> None:
 
 
 # Archives
-
-
-def tar(files: Files, release: Release) -> bytes:
-    """A compressed archive of files in the order of their names, with the folders above them."""
-    made, known = io.BytesIO(), set[str]()
-    with tarfile.open(fileobj=made, mode="w", format=tarfile.USTAR_FORMAT) as archive:
-        for place, file in sorted(files.items()):
-            for folder in [each.as_posix() for each in reversed(Path(place).parents)][1:]:
-                if folder not in known:
-                    known.add(folder)
-                    archive.addfile(entry(folder, release, tarfile.DIRTYPE, 0o755))
-            if file.link:
-                its = entry(place, release, tarfile.SYMTYPE, 0o777)
-                its.linkname = file.link
-                archive.addfile(its)
-                continue
-            its = entry(place, release, tarfile.REGTYPE, 0o755 if file.runs else 0o644)
-            its.size = len(file.data)
-            archive.addfile(its, io.BytesIO(file.data))
-    return gzip.compress(made.getvalue(), 9, mtime=release.seconds)
-
-
-def entry(place: str, release: Release, kind: bytes, mode: int) -> tarfile.TarInfo:
-    """The head of a file of root."""
-    its = tarfile.TarInfo(place)
-    its.type, its.mode, its.mtime = kind, mode, release.seconds
-    its.uname = its.gname = "root"
-    return its
 
 
 def zipped(files: Files, release: Release) -> bytes:
@@ -301,8 +244,11 @@ def hashed(file: File) -> dict[str, str]:
 
 
 def bill(made: Files, project: Mapping[str, Any], release: Release) -> dict[str, Any]:
-    """The bill of materials in the form of SPDX 2.3: each file, and what it needs of others."""
+    """The bill of materials in the form of SPDX 2.3: each file, what it needs of others, and which
+    packages of Debian are in the image."""
     base = f"arbiter-{release.version}"
+    images = [name for name in made if name.endswith(image.ENDING)]
+    inside = image.pins() if images else []
     packages = [{
         "SPDXID": f"SPDXRef-file-{re.sub('[^A-Za-z0-9.-]', '-', name)}", "name": name,
         "versionInfo": release.version, "packageFileName": name, "filesAnalyzed": False,
@@ -322,6 +268,12 @@ def bill(made: Files, project: Mapping[str, Any], release: Release) -> dict[str,
         "copyrightText": "NOASSERTION"} for name, least in others]
     ids = [str(each["SPDXID"]) for each in packages]
     mine, theirs = ids[:len(made)], ids[len(made):]
+    packages += [{
+        "SPDXID": f"SPDXRef-debian-{each.package}", "name": each.package,
+        "versionInfo": each.version, "packageFileName": each.name, "filesAnalyzed": False,
+        "downloadLocation": each.url, "licenseConcluded": "NOASSERTION",
+        "licenseDeclared": "NOASSERTION", "copyrightText": "NOASSERTION",
+        "checksums": [{"algorithm": "SHA256", "checksumValue": each.sha256}]} for each in inside]
     kinds = ["DEPENDS_ON"] * (len(theirs) - 1) + ["GENERATED_FROM"]
     return {
         "spdxVersion": "SPDX-2.3", "dataLicense": "CC0-1.0", "SPDXID": "SPDXRef-DOCUMENT",
@@ -332,14 +284,17 @@ def bill(made: Files, project: Mapping[str, Any], release: Release) -> dict[str,
             *({"spdxElementId": "SPDXRef-DOCUMENT", "relationshipType": "DESCRIBES",
                "relatedSpdxElement": each} for each in mine),
             *({"spdxElementId": one, "relationshipType": kind, "relatedSpdxElement": other}
-              for one in mine for other, kind in zip(theirs, kinds))],
+              for one in mine for other, kind in zip(theirs, kinds)),
+            *({"spdxElementId": one, "relationshipType": "CONTAINS", "relatedSpdxElement": other}
+              for one, name in zip(mine, made) if name in images
+              for other in [f"SPDXRef-debian-{each.package}" for each in inside])],
     }
 
 
 def plug_in(made: Files, release: Release) -> dict[str, File]:
     """The manifest of `kubectl arbiter` for krew, with the version and the hash of the tarball."""
     text = (TOP / "share/kubernetes/krew.yaml").read_text()
-    (tarball_,) = [file for name, file in made.items() if f"-linux-{MACHINE}" in name]
+    (tarball_,) = [file for name, file in made.items() if name.endswith(f"-linux-{MACHINE}.tar.gz")]
     text = text.replace("SHA256", hashlib.sha256(tarball_.data).hexdigest())
     return {"arbiter.krew.yaml": File(text.replace("VERSION", release.version).encode())}
 
@@ -349,12 +304,15 @@ def text_of(value: object) -> File:
     return File((json.dumps(value, indent=1) + "\n").encode())
 
 
-def release_of(installed: Files, debs: Sequence[Path], release: Release) -> dict[str, File]:
-    """All files of a release by name, with their sums last."""
+def release_of(installed: Files, debs: Sequence[Path], folder: Path | None,
+               release: Release) -> dict[str, File]:
+    """All files of a release by name, with their sums last. The folder has Debian's packages for
+    the image."""
     project = tomllib.loads((TOP / "python/pyproject.toml").read_text())["project"]
     check_paths(installed)
     made = {**tarball(installed, release), **wheel(installed, project, release),
-            **sdist(installed, project, release), **{each.name: read(each) for each in debs}}
+            **sdist(installed, project, release), **{each.name: read(each) for each in debs},
+            **(image.image(debs, folder, release) if folder else {})}
     made = dict(sorted({**made, **plug_in(made, release)}.items()))
     made["PROVED.json"] = text_of(proved(installed, release))
     made[f"arbiter-{release.version}.spdx.json"] = text_of(bill(made, project, release))
@@ -363,10 +321,11 @@ def release_of(installed: Files, debs: Sequence[Path], release: Release) -> dict
 
 
 def main(words: Sequence[str]) -> int:
-    installed, out, version, commit, seconds, kit, *debs = words
+    installed, out, version, commit, seconds, kit, base, *debs = words
     release = Release(version, commit, int(seconds), kit)
     try:
-        made = release_of(below(Path(installed)), sorted(map(Path, debs)), release)
+        made = release_of(below(Path(installed)), sorted(map(Path, debs)),
+                          Path(base) if base else None, release)
         Path(out).mkdir(parents=True, exist_ok=True)
         # (each has its name when all are whole)
         with tempfile.TemporaryDirectory(prefix=".arbiter.", dir=out) as beside:

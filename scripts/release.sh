@@ -13,6 +13,17 @@ need_release() {
   exit 2
 }
 
+# Sets `image` to the folder of Debian's packages for an image of containers. It is empty where they
+# cannot be had, and then no image is made.
+find_image() {
+  image=''
+  if ! hash apt-get 2>/dev/null; then
+    echo "build: no image of containers: apt-get is missing" >&2
+  elif /usr/bin/python3 scripts/image.py out/image; then
+    image=out/image
+  fi
+}
+
 # Makes all files of a release in a folder, which is made if it is not there.
 make_release() ( # DIR LOG
   scratch=$(mktemp -d) || exit 1
@@ -22,7 +33,8 @@ make_release() ( # DIR LOG
   export SOURCE_DATE_EPOCH=$commit_time PYTHONDONTWRITEBYTECODE=1 LC_ALL=C TZ=UTC
   umask 022
   find_kit
+  find_image
   install_below "$scratch/installed" >/dev/null && make_debs "$scratch/debs" "$2" >/dev/null &&
     /usr/bin/python3 scripts/release.py "$scratch/installed" "$1" "$version" "$commit" \
-      "$commit_time" "$kit" "$scratch"/debs/*.deb
+      "$commit_time" "$kit" "$image" "$scratch"/debs/*.deb
 )

@@ -1,5 +1,6 @@
 """./build --release: the same bytes twice, nothing of the machine, and each file runs where nobody
 builds. Programs are those under test; the kit is a stand-in."""
+import gzip
 import hashlib
 import importlib
 import io
@@ -59,9 +60,9 @@ def lets_through(release, library, monkeypatch):
     return release
 
 
-def made(release, installed, out, *debs):
-    """The files of a release."""
-    words = [str(installed), str(out), VERSION, COMMIT, str(SECONDS), KIT, *map(str, debs)]
+def made(release, installed, out, *debs, image=""):
+    """The files of a release, with Debian's packages for an image in a folder."""
+    words = [str(installed), str(out), VERSION, COMMIT, str(SECONDS), KIT, str(image), *map(str, debs)]
     same(release.main(words), 0, "the status")
     return {path.name: path.read_bytes() for path in out.iterdir()}
 
@@ -152,7 +153,7 @@ def test_a_folder_of_the_machine(release, installed, tmp_path, capsys, file, hea
     for each in ("bin/arbiter", "lib/libarbiter.a", f"lib/libarbiter.so.{VERSION}"):
         (tmp_path / "in" / each).write_bytes(b"\x7fELF\0")
     (tmp_path / "in" / file).write_bytes(head + place.encode() + b"\0")
-    words = [str(tmp_path / "in"), str(tmp_path / "out"), VERSION, COMMIT, str(SECONDS), KIT]
+    words = [str(tmp_path / "in"), str(tmp_path / "out"), VERSION, COMMIT, str(SECONDS), KIT, ""]
     same((release.main(words), (tmp_path / "out").exists()), (1, False), "the status")
     same(capsys.readouterr().err,
          f"build: no release: {file} names a folder of this machine: {place}\n", "the message")
@@ -354,6 +355,187 @@ def test_bill_of_materials(whole, installed, tmp_path):
     named = {each["name"]: each["versionInfo"] for each in found["packages"]}
     same({name: named[name] for name in ("python", "jinja2", "rich", "PyYAML")},
          {"python": "3.11", "jinja2": "3.1.2", "rich": "13.3.1", "PyYAML": "6.0"}, "what is needed")
+
+
+# The image
+
+
+def deb(name, *files):
+    """A package of files: each with its place, bytes or target, and mode."""
+    def part(members):
+        made = io.BytesIO()
+        with tarfile.open(fileobj=made, mode="w:xz") as archive:
+            for place, data, mode in members:
+                its = tarfile.TarInfo(f"./{place}")
+                its.mode, its.mtime, its.uid = mode, time.time_ns() // 10**9, 1000
+                if isinstance(data, str):
+                    its.type, its.linkname = tarfile.SYMTYPE, data
+                    archive.addfile(its)
+                else:
+                    its.size = len(data)
+                    archive.addfile(its, io.BytesIO(data))
+        return made.getvalue()
+
+    control = f"Package: {name}\nVersion: 1:2~3\n".encode()
+    made = b"!<arch>\n"
+    for kind, data in (("debian-binary", b"2.0\n"),
+                       ("control.tar.xz", part([("control", control, 0o644)])),
+                       ("data.tar.xz", part(files))):
+        made += f"{kind:16}{0:<12}{0:<6}{0:<6}{0:<8o}{len(data):<10}`\n".encode()
+        made += data + b"\n" * (len(data) % 2)
+    return made
+
+
+@pytest.fixture(name="parts")
+def parts_of_an_image(whole, monkeypatch, tmp_path):
+    """Debian's packages in a folder, as a list names them, and those of the release."""
+    folder, lines = tmp_path / "debian", ["# A list.\n"]
+    folder.mkdir()
+    for name, *files in (
+            ("libc6", ("lib64/ld.so", "/lib/x/ld.so", 0o777), ("lib/x/ld.so", b"loader", 0o755),
+             ("usr/share/doc/libc6/copyright", b"free", 0o644),
+             ("usr/share/doc/libc6/changelog.gz", b"long", 0o644),
+             ("usr/share/man/man1/a.1.gz", b"page", 0o644)),
+            ("dash", ("bin/sh", "dash", 0o777), ("bin/dash", b"shell", 0o4755))):
+        data = deb(name, *files)
+        path = folder / f"{name}_1%3a2%7e3_amd64.deb"
+        path.write_bytes(data)
+        lines.append(f"{hashlib.sha256(data).hexdigest()} http://debian.example/{path.name}\n")
+    pins = tmp_path / "image.txt"
+    pins.write_text("".join(lines))
+    monkeypatch.setattr(whole.image, "PINS", pins)
+    ours = []
+    for name in ("arbiter", "arbiter-host", "libarbiter1", "libarbiter-dev"):
+        ours.append(tmp_path / f"{name}_{VERSION}_amd64.deb")
+        ours[-1].write_bytes(deb(name, (f"usr/share/doc/{name}/examples/of", b"one", 0o644)))
+    return folder, ours
+
+
+def blobs(data):
+    """The files of an OCI layout, whose blobs have their hashes as names."""
+    with tarfile.open(fileobj=io.BytesIO(data)) as archive:
+        found = {each.name: archive.extractfile(each).read() for each in archive if each.isfile()}
+    for name, blob in found.items():
+        if name.startswith("blobs/"):
+            same(name, f"blobs/sha256/{hashlib.sha256(blob).hexdigest()}", "a blob")
+    return found
+
+
+def test_image(whole, installed, tmp_path, parts):
+    """Two layers of files that belong to root, which no script of a package made. Nobody runs it,
+    nothing in it has the rights of its owner, and licences and the examples are inside."""
+    folder, ours = parts
+    one, two = (made(whole, installed, tmp_path / name, *ours, image=folder)
+                for name in ("one", "two"))
+    name = f"{TARBALL}.oci.tar"
+    same(one, two, "both")
+    found = blobs(one[name])
+    said = {each: json.loads(found[each]) for each in ("index.json", "manifest.json")}
+    (head,) = said["index.json"]["manifests"]
+    same(head["annotations"]["org.opencontainers.image.ref.name"], f"arbiter:{VERSION}", "name")
+    of = {each: found[f"blobs/{each.replace(':', '/')}"] for each in (
+        head["digest"], *(f"sha256:{path[13:]}" for path in found if path.startswith("blobs/")))}
+    manifest = json.loads(of[head["digest"]])
+    config = json.loads(of[manifest["config"]["digest"]])
+    same((config["config"]["User"], config["config"]["Entrypoint"], config["created"]),
+         ("65534:65534", ["arbiterctl"], "2025-11-24T16:00:00Z"), "the config")
+    same(config["config"]["Labels"]["org.opencontainers.image.revision"], COMMIT, "commit")
+    layers = [of[each["digest"]] for each in manifest["layers"]]
+    plain = [gzip.decompress(each) for each in layers]
+    same(config["rootfs"]["diff_ids"],
+         [f"sha256:{hashlib.sha256(each).hexdigest()}" for each in plain], "layers")
+    (old,) = said["manifest.json"]
+    same([found[each] for each in old["Layers"]], layers, "layers of docker")
+    same(found[old["Config"]], of[manifest["config"]["digest"]], "config of docker")
+    places = []
+    for layer in plain:
+        with tarfile.open(fileobj=io.BytesIO(layer)) as archive:
+            entries = archive.getmembers()
+        same({(each.uid, each.gid, each.mtime) for each in entries}, {(0, 0, SECONDS)}, "owners")
+        same({each.mode for each in entries} - {0o755, 0o644, 0o777, 0o1777}, set(), "modes")
+        same([each.name for each in entries if each.mode == 0o1777],
+             ["tmp"] if layer is plain[0] else [], "folders that all write")
+        places.append({each.name: each.linkname for each in entries if not each.isdir()})
+    status = "var/lib/dpkg/status.d"
+    same(places[0], {"bin": "usr/bin", "lib": "usr/lib", "lib64": "usr/lib64", "sbin": "usr/sbin",
+                     "etc/passwd": "", "etc/group": "", "usr/lib64/ld.so": "/lib/x/ld.so",
+                     "usr/lib/x/ld.so": "", "usr/share/doc/libc6/copyright": "",
+                     "usr/bin/sh": "dash", "usr/bin/dash": "", f"{status}/libc6": "",
+                     f"{status}/dash": ""}, "Debian's files")
+    wanted = ("arbiter", "arbiter-host", "libarbiter1")
+    same(set(places[1]), {*(f"usr/share/doc/{each}/examples/of" for each in wanted),
+                          *(f"{status}/{each}" for each in wanted)}, "files of arbiter")
+    found = json.loads(one[f"arbiter-{VERSION}.spdx.json"])
+    inside = {each["SPDXID"]: each for each in found["packages"]
+              if each["SPDXID"].startswith("SPDXRef-debian-")}
+    same({each["name"]: (each["versionInfo"], each["downloadLocation"])
+          for each in inside.values()},
+         {each: ("1:2~3", f"http://debian.example/{each}_1%3a2%7e3_amd64.deb")
+          for each in ("libc6", "dash")}, "the bill")
+    same({each["relatedSpdxElement"] for each in found["relationships"]
+          if each["relationshipType"] == "CONTAINS"}, set(inside), "what the image has")
+
+
+@pytest.mark.parametrize("wrong, message", [
+    ("a byte", "debian has no dash_1%3a2%7e3_amd64.deb as image.txt means it"),
+    ("no package", "an image needs the package libarbiter1"),
+    ("twice", "usr/share/doc/arbiter/examples/of of libarbiter1 is of another package too")])
+def test_no_image_of_others(whole, installed, tmp_path, parts, capsys, wrong, message):
+    """A package of another hash, one that lacks, and one that has another's file make no release."""
+    folder, ours = parts
+    if wrong == "a byte":
+        path = folder / "dash_1%3a2%7e3_amd64.deb"
+        path.write_bytes(path.read_bytes()[:-1] + b"\1")
+    elif wrong == "no package":
+        del ours[2]
+    else:
+        ours[2].write_bytes(deb("libarbiter1",
+                                ("usr/share/doc/arbiter/examples/of", b"two", 0o644)))
+    words = [str(installed), str(tmp_path / "out"), VERSION, COMMIT, str(SECONDS), KIT,
+             str(folder), *map(str, ours)]
+    same((whole.main(words), (tmp_path / "out").exists()), (1, False), "the status")
+    assert capsys.readouterr().err.endswith(f"{message}\n")
+
+
+def test_packages_are_fetched(whole, tmp_path, parts, monkeypatch, capsys):
+    """Those that lack, by apt's helper. One of another hash, or that cannot be had, is named."""
+    folder, _ = parts
+    there, log = tmp_path / "archive", tmp_path / "log"
+    folder.rename(there)
+    helper = tmp_path / "helper"
+    helper.write_text(f"""#!/bin/sh
+echo "$1 $2 $4" >>{log}
+cp "{there}/${{2##*/}}" "$3" || {{ echo 'E: none' >&2; exit 100; }}
+""")
+    helper.chmod(0o755)
+    monkeypatch.setattr(whole.image, "HELPER", str(helper))
+    same(whole.image.main([str(folder)]), 0, "the status")
+    same([whole.image.is_there(folder, pin) for pin in whole.image.pins()], [True, True], "both")
+    same(log.read_text().splitlines(), [f"download-file {pin.url} SHA256:{pin.sha256}"
+                                        for pin in whole.image.pins()], "what was asked")
+    log.unlink()
+    same((whole.image.main([str(folder)]), log.exists()), (0, False), "again")
+    for path in folder.iterdir():
+        path.write_bytes(b"other")
+    (there / "libc6_1%3a2%7e3_amd64.deb").write_bytes(b"other")
+    same(whole.image.main([str(folder)]), 1, "another hash")
+    (there / "libc6_1%3a2%7e3_amd64.deb").unlink()
+    same(whole.image.main([str(folder)]), 1, "none")
+    url = "http://debian.example/libc6_1%3a2%7e3_amd64.deb"
+    same(capsys.readouterr().err, f"build: no image of containers: {url} has another hash\n"
+         f"build: no image of containers: {url} cannot be had: E: none\n", "the messages")
+
+
+def test_list_of_packages(release):
+    """Each of Debian's packages of an image is named once, by its hash, of this machine's kind."""
+    pins = release.image.pins()
+    same(len({pin.package for pin in pins}), len(pins), "packages")
+    same(pins, sorted(pins, key=lambda pin: pin.url), "their order")
+    for pin in pins:
+        assert re.fullmatch("[0-9a-f]{64}", pin.sha256), pin
+        assert re.fullmatch(r"http://deb\.debian\.org/debian(-security)?/pool/\S+_(amd64|all)\.deb",
+                            pin.url), pin
+    same(set(release.image.WANTED) - {pin.package for pin in pins}, set(), "wanted")
 
 
 # The command
