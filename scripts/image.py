@@ -38,9 +38,9 @@ LEFT_OUT = ("dpkg", "tar", "mawk", "debconf", "debianutils", "readline-common", 
 OURS, OF_COQ = ("arbiter", "arbiter-host", "libarbiter1"), "arbiter-check"
 # Folders that Debian links to those below usr/.
 MERGED = ("bin", "lib", "lib64", "sbin")
-# Pages and words of other languages. Licences stay, and all of arbiter's own.
+# Pages, completions and words of other languages. Licences stay, and arbiter's own documents.
 DROPPED = re.compile(r"usr/share/(?:man|info|locale|lintian|bash-completion|zsh)/|"
-                     r"usr/share/doc/(?!arbiter|[^/]+/copyright$|[^/]+$)")
+                     r"usr/share/doc/(?!(?:lib)?arbiter|[^/]+/copyright$|[^/]+$)")
 FOLDERS = {**dict.fromkeys(("dev", "etc", "proc", "run", "sys"), 0o755), "tmp": 0o1777}
 NOBODY = "65534:65534"
 ENDING = ".oci.tar"

@@ -1,11 +1,13 @@
-"""The Debian packages of ./build --deb: lintian, and their use in a root of debootstrap.
+"""A release of ./build --release where nobody builds: lintian, and its use in fresh roots of
+debootstrap, of Debian 12 and 13.
 
     /usr/bin/python3 -m pytest tests/debs.py -q
 
 It is no part of ./test: it needs root, lintian, debootstrap and Debian's archive, and takes some
-minutes. ARBITER_BASE names a root that debootstrap made before, which is copied. A root has no
-kit, no file of this folder, and Debian's packages alone. The service is tried in a guest, which
-needs what ./test --kernel does.
+minutes. ARBITER_RELEASE names a release that was made before. ARBITER_BASE names a folder of roots
+that debootstrap made before, each by the name of its suite, which are copied. A root has no kit, no
+file of this folder, Debian's packages alone, and no network when it has those. The services are
+tried in a guest, which needs what ./test --kernel does.
 """
 import json
 import os
@@ -20,12 +22,15 @@ from stand_in import version
 from support import ROOT, same
 
 SECONDS = 1800
-SUITE, ARCHIVE = "bookworm", "http://deb.debian.org/debian"
+SUITES, ARCHIVE = ("bookworm", "trixie"), "http://deb.debian.org/debian"
+TARBALL = f"arbiter-{version()}-linux-x86_64"
+NOBODY = "65534:65534"
 NAMES = ("arbiter", "arbiter-check", "arbiter-host", "arbiter-scheduler", "libarbiter-dev",
          "libarbiter1")
-# What the packages depend on, and what a program over the library is made with.
+# What the packages depend on, what a program over the library is made with, and pip.
 NEEDED = ("python3", "python3-jinja2", "python3-rich", "python3-yaml", "gcc", "libc6-dev",
-          "pkgconf", "systemd", f"libbpf1/{SUITE}-backports")
+          "pkgconf", "systemd", "python3-venv")
+LIBBPF = {"bookworm": "libbpf1/bookworm-backports", "trixie": "libbpf1"}
 # Where dpkg and apt keep their books.
 BOOKS = ("proc", "sys", "dev", "tmp", "debs", "var/log", "var/cache", "var/lib/apt", "var/lib/dpkg",
          "etc/ld.so.cache")
@@ -49,39 +54,62 @@ def ended(*words, given=b"", **options):
 
 
 @pytest.fixture(scope="module")
-def debs():
-    """The files of the packages, which ./build --deb makes from an up to date build."""
-    ended(ROOT / "build", "--deb")
-    return [path for name in NAMES for path in (ROOT / "out/debs").glob(f"{name}_{version()}_*")]
+def release(tmp_path_factory):
+    """The folder of a release. A release is of a commit, so the clone has no changed file."""
+    made = os.environ.get("ARBITER_RELEASE")
+    if made:
+        return Path(made)
+    if ended("git", "-C", ROOT, "status", "--porcelain"):
+        pytest.skip("a release is of a commit without a changed file")
+    folder = tmp_path_factory.mktemp("release") / "one"
+    ended(ROOT / "build", "--release", folder)
+    return folder
 
 
 @pytest.fixture(scope="module")
-def root(debs, tmp_path_factory):
-    """A root of Debian with what the packages depend on, and the packages in /debs."""
+def debs(release):
+    """The files of the packages."""
+    return [path for name in NAMES for path in release.glob(f"{name}_{version()}_*")]
+
+
+@pytest.fixture(scope="module", params=SUITES)
+def suite(request):
+    """A release of Debian."""
+    return request.param
+
+
+@pytest.fixture(scope="module")
+def root(release, suite, tmp_path_factory):
+    """A root of Debian with what the packages depend on, and the release in /debs."""
     if os.geteuid() != 0:
         pytest.skip("debootstrap needs root")
-    folder = tmp_path_factory.mktemp("debian") / "root"
+    folder = tmp_path_factory.mktemp("debian") / suite
     base = os.environ.get("ARBITER_BASE")
     if base:
-        ended("cp", "-a", base, folder)
+        ended("cp", "-a", Path(base) / suite, folder)
     else:
-        ended("debootstrap", "--variant=minbase", SUITE, folder, ARCHIVE)
-    with open(folder / "etc/apt/sources.list", "a", encoding="ascii") as sources:
-        sources.write(f"deb {ARCHIVE} {SUITE}-backports main\n")
-    apt(folder, "update")
-    apt(folder, "install", "--no-install-recommends", *NEEDED)
+        ended("debootstrap", "--variant=minbase", suite, folder, ARCHIVE)
+    if "/" in LIBBPF[suite]:
+        (folder / "etc/apt/sources.list.d/backports.list").write_text(
+            f"deb {ARCHIVE} {suite}-backports main\n")
+    needed = (*NEEDED, LIBBPF[suite])
+    within(folder, "apt-get", "-y", "-q", "update", net=True)
+    within(folder, "apt-get", "-y", "-q", "install", "--no-install-recommends", *needed, net=True)
     (folder / "debs").mkdir()
-    for path in debs:
+    for path in release.iterdir():
         shutil.copy(path, folder / "debs")
     yield folder
     shutil.rmtree(folder)
 
 
-def within(folder, *words, given=b"", user="0:0"):
-    """The output of a command inside a root, from its top."""
+def within(folder, *words, given=b"", user="0:0", net=False):
+    """The output of a command inside a root, from its top. It has no network but where that is
+    said."""
     environment = {"PATH": "/usr/sbin:/usr/bin:/sbin:/bin", "HOME": "/", "LC_ALL": "C",
                    "DEBIAN_FRONTEND": "noninteractive"}
-    return ended("chroot", f"--userspec={user}", folder, *words, given=given, env=environment)
+    alone = [] if net else ["unshare", "--net"]
+    return ended(*alone, "chroot", f"--userspec={user}", folder, *words, given=given,
+                 env=environment)
 
 
 def apt(folder, *words):
@@ -100,14 +128,25 @@ def files_of(folder):
     return found - set(BOOKS)
 
 
-def test_a_release_is_twice_the_same(tmp_path):
-    """Two runs of ./build --release give the same bytes, of the packages too."""
+def test_a_release_is_twice_the_same(release, tmp_path):
+    """Two runs of ./build --release give the same bytes, of the packages and the image too."""
     if ended("git", "-C", ROOT, "status", "--porcelain"):
         pytest.skip("a release is of a commit without a changed file")
-    for name in ("one", "two"):
-        ended(ROOT / "build", "--release", tmp_path / name)
-    same(ended("diff", "-r", tmp_path / "one", tmp_path / "two"), "", "what differs")
-    assert len(list((tmp_path / "one").iterdir())) >= 10
+    ended(ROOT / "build", "--release", tmp_path / "two")
+    same(ended("diff", "-r", release, tmp_path / "two"), "", "what differs")
+    same((len(list(release.iterdir())), (release / f"{TARBALL}.oci.tar").is_file()), (13, True),
+         "files")
+
+
+def test_what_was_proved(release):
+    """Each crate of crates.txt is counted, and the files that came of proofs have their hashes."""
+    found = json.loads((release / "PROVED.json").read_text())
+    same(found["not_counted"], [], "crates that no log counts")
+    assert found["commit"] == ended("git", "-C", ROOT, "rev-parse", "HEAD").strip()
+    assert min(each["functions"] for each in found["crates"].values()) > 0
+    assert len(found["coq_theorems_without_axioms"]) > 100 and found["refused_edits"]
+    same(sorted(found["files"]), ["bin/arbiter", "bin/arbiter-check", "bin/arbiter-script",
+                                  "lib/libarbiter.a", f"lib/libarbiter.so.{version()}"], "files")
 
 
 def test_all_packages(debs):
@@ -144,6 +183,55 @@ def test_contents(debs):
         assert needed in depends["arbiter-host"], needed
 
 
+def pods(said, engine):
+    """The answer about README's pods is of a library of the release, and its check accepted it."""
+    found = json.loads(said)
+    same((found["check"], found["engine"]), ("accepted", f"library {engine}"), "the answer")
+    gets = {each["group"]: each["gets"]["millicpu"] for each in found["groups"]}
+    same([gets["kubepods/burstable/shop:web"], gets["kubepods/shop:db"]], [1444, 500], "pods")
+
+
+@pytest.fixture(scope="module")
+def home(root):
+    """The home of a user without rights inside a root, who has the examples."""
+    folder = root / "home/nobody"
+    folder.mkdir()
+    os.chown(folder, 65534, 65534)
+
+    def typed(line):
+        return within(root, "sh", "-c", f"export HOME=/home/nobody; cd; {line}", user=NOBODY)
+    yield typed
+    shutil.rmtree(folder)
+
+
+def test_tarball_in_a_home(home):
+    """What a user without rights types from the download to the first answer about pods."""
+    home(f"tar xf /debs/{TARBALL}.tar.gz")
+    home(f"cp -r {TARBALL}/examples .")
+    bin_ = f"cd {TARBALL}; bin"
+    explain = f"{bin_}/arbiterctl explain examples/pods.json examples/node.json --want busy"
+    assert "1.444  2.100      -  [########....]" in home(explain)
+    pods(home(f"{explain} -o json"), f"/home/nobody/{TARBALL}/lib/libarbiter.so.1")
+    said = home(f"{bin_}/arbiter run < examples/two-groups.script")
+    same(said.split("\n")[-2], "demand 0", "a script")
+    for program in ("arbiter check", "arbiter-check"):
+        said = home(f"{bin_}/{program} < examples/two-groups.certified")
+        same(said, "accepted\n", program)
+
+
+def test_wheel_in_a_venv(home, root):
+    """pip finds what it needs in Debian's packages, and goes without a rest."""
+    pip = "venv/bin/pip -q --no-input --disable-pip-version-check"
+    home("python3 -m venv --system-site-packages venv")
+    home(f"{pip} install --no-index /debs/*.whl")
+    (place,) = root.glob("home/nobody/venv/lib/python3*/site-packages")
+    said = home("venv/bin/arbiterctl explain examples/pods.json examples/node.json --want busy"
+                " -o json")
+    pods(said, f"/{(place / 'arbiter/libarbiter.so.1').relative_to(root)}")
+    home(f"{pip} uninstall -y arbiter-host")
+    same([path.name for path in place.rglob("*arbiter*") if path.is_file()], [], "left behind")
+
+
 @pytest.fixture(scope="module")
 def before(root):
     """The files of the root before the packages are there."""
@@ -154,8 +242,8 @@ def before(root):
 def installed(root, before):
     """The root with the packages."""
     assert not any("arbiter" in path for path in before)
-    apt(root, "install", "--no-install-recommends", *(f"/debs/{path.name}"
-                                                      for path in (root / "debs").iterdir()))
+    apt(root, "install", "--no-install-recommends",
+        *(f"/debs/{path.name}" for path in (root / "debs").glob("*.deb")))
     return root
 
 
@@ -163,12 +251,11 @@ def test_program_runs(installed):
     """A script is answered and a text checked, by a user without rights and without a kit."""
     examples = installed / "usr/share/doc/arbiter/examples"
     same(within(installed, "sh", "-c", "command -v rt || echo none"), "none\n", "the kit")
-    nobody = "65534:65534"
-    same(within(installed, "arbiter", "--version", user=nobody), f"arbiter {version()}\n", "")
-    said = within(installed, "arbiter", "run", "--processors", "4", "--slice", "1000", user=nobody,
+    same(within(installed, "arbiter", "--version", user=NOBODY), f"arbiter {version()}\n", "")
+    said = within(installed, "arbiter", "run", "--processors", "4", "--slice", "1000", user=NOBODY,
                   given=(examples / "node.script").read_bytes())
     same(said, (examples / "node.transcript").read_text(), "the node's answers")
-    said = within(installed, "arbiter", "check", user=nobody,
+    said = within(installed, "arbiter", "check", user=NOBODY,
                   given=(examples / "two-groups.certified").read_bytes())
     same(said, "accepted\n", "the check")
 
@@ -183,14 +270,20 @@ def test_arbiterctl_runs(installed):
                        ("cpu.stat", "usage_usec 5")):
         (group / name).write_text(f"{text}\n")
     script = within(installed, "arbiterctl", "export", "/srv/cgroup", "--want", "busy",
-                    "--cpus", "2", user="65534:65534")
+                    "--cpus", "2", user=NOBODY)
     assert "write web.service cpu.weight 200\n" in script, script
     found = json.loads(within(installed, "arbiterctl", "explain", "-o", "json", "-",
-                              given=script.encode(), user="65534:65534"))
+                              given=script.encode(), user=NOBODY))
     assert found["engine"].endswith("libarbiter.so.1"), found["engine"]
     same(found["check"], "accepted", "the check")
     same([each["gets"]["slices"] for each in found["groups"]], [50, 50], "the plan")
-    same(within(installed, "arbiterctl", "--version").split("\n")[0], f"arbiterctl {version()}", "--version")
+    examples = "/usr/share/doc/arbiter/examples"
+    said = within(installed, "arbiterctl", "explain", f"{examples}/pods.json",
+                  f"{examples}/node.json", "--want", "busy", "-o", "json", user=NOBODY)
+    pods(said, "libarbiter.so.1")
+    said = within(installed, "arbiterctl", "--version").split("\n")
+    same(said[0], f"arbiterctl {version()}", "--version")
+    assert "library proved by rattle-kit" in said[1], said
     same(within(installed, "python3", "-c", "import arbiter_host as a; print(a.__version__)"),
          f"{version()}\n", "the package")
     shutil.rmtree(group.parent)
@@ -199,7 +292,7 @@ def test_arbiterctl_runs(installed):
 def test_scheduler_runs(installed):
     """Its loader finds its libraries, and loads nothing for a user."""
     said = within(installed, "sh", "-c", "PATH=/usr/sbin:$PATH; arbiter-scheduler /tmp 2>&1 || :",
-                  user="65534:65534")
+                  user=NOBODY)
     same(said, "arbiter-scheduler: only root may load a scheduler\n", "the loader")
 
 
@@ -234,8 +327,10 @@ def test_units_are_not_enabled(installed, name):
 
 
 @pytest.fixture(scope="module")
-def told(installed):
+def told(installed, suite):
     """What the service did under systemd: the root, booted in a guest."""
+    if suite != SUITES[0]:
+        pytest.skip("the services are tried in one root")
     if packages.missing():
         pytest.skip(packages.missing())
     return real_unit.shown_by(packages.kernel("6.12"), installed)
@@ -280,8 +375,10 @@ def test_service_begins_again(told):
 
 
 @pytest.fixture(scope="module")
-def scheduled(installed):
+def scheduled(installed, suite):
     """What the other service did, on a kernel that takes a scheduler."""
+    if suite != SUITES[0]:
+        pytest.skip("the services are tried in one root")
     if packages.missing():
         pytest.skip(packages.missing())
     return real_unit.shown_by(packages.kernel(packages.NEWEST), installed, "arbiter-schedule",
@@ -326,3 +423,52 @@ def test_purge_leaves_nothing(installed, before):
     books = [path.name for path in (installed / "var/lib/dpkg/info").iterdir()
              if "arbiter" in path.name]
     same(books, [], "dpkg's books")
+
+
+# The image
+
+
+# Where controllers are of both versions of cgroups, as here, the container sees the second alone.
+OF_ONE_VERSION = ("mount --make-rprivate /; if [ -d /sys/fs/cgroup/unified ]; then"
+                  " umount -R /sys/fs/cgroup && mount -t cgroup2 none /sys/fs/cgroup; fi; ")
+
+
+@pytest.fixture(scope="module")
+def podman(release, tmp_path_factory):
+    """podman with the image of the release alone: the output of a container."""
+    if not shutil.which("podman") or os.geteuid() != 0:
+        pytest.skip("no podman, or no root for it")
+    folder = tmp_path_factory.mktemp("podman")
+    words = ["podman", "--root", folder / "root", "--runroot", folder / "run",
+             "--storage-driver", "vfs"]
+    try:
+        loaded = ended(*words, "load", "-i", release / f"{TARBALL}.oci.tar")
+        assert f"/arbiter:{version()}" in loaded, loaded
+
+        def runs(*command, given=b""):
+            limits = ("--ulimit=nofile=1024:1024", "--ulimit=nproc=1024:1024", "--cgroups=disabled")
+            return ended("unshare", "--mount", "sh", "-c", f'{OF_ONE_VERSION}exec "$@"', "sh",
+                         *words, "run", "--rm", "-i", "--network=none", "--read-only",
+                         "--cap-drop=all", *limits, *command, given=given)
+        yield runs
+    finally:
+        ended(*words, "rmi", "--all", "--force")
+        shutil.rmtree(folder)
+
+
+def test_image_runs(podman):
+    """README's first commands, by nobody, without capabilities, on files that are read only."""
+    name = f"arbiter:{version()}"
+    said = podman("--entrypoint=arbiter", name, "run",
+                  given=(ROOT / "examples/two-groups.script").read_bytes())
+    same(said.split("\n")[-2], "demand 0", "a script")
+    said = podman("--entrypoint=arbiter", name, "check",
+                  given=(ROOT / "examples/two-groups.certified").read_bytes())
+    same(said, "accepted\n", "the check")
+    explain = (name, "explain", "examples/pods.json", "examples/node.json", "--want", "busy")
+    assert "1.444  2.100      -  [########....]" in podman(*explain)
+    pods(podman(*explain, "-o", "json"), "libarbiter.so.1")
+    same(podman("--entrypoint=id", name, "-u"), "65534\n", "the user")
+    assert "Client Version" in podman("--entrypoint=kubectl", name, "version", "--client")
+    same(podman("--entrypoint=python3", name, "-c", "import arbiter_host, prometheus_client as p;"
+                "print(p.__name__)"), "prometheus_client\n", "what `top` serves with")

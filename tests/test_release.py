@@ -62,8 +62,8 @@ def lets_through(release, library, monkeypatch):
 
 def made(release, installed, out, *debs, image=""):
     """The files of a release, with Debian's packages for an image in a folder."""
-    words = [str(installed), str(out), VERSION, COMMIT, str(SECONDS), KIT, str(image), *map(str, debs)]
-    same(release.main(words), 0, "the status")
+    words = [installed, out, VERSION, COMMIT, SECONDS, KIT, image, *debs]
+    same(release.main(list(map(str, words))), 0, "the status")
     return {path.name: path.read_bytes() for path in out.iterdir()}
 
 
@@ -481,7 +481,7 @@ def test_image(whole, installed, tmp_path, parts):
     ("no package", "an image needs the package libarbiter1"),
     ("twice", "usr/share/doc/arbiter/examples/of of libarbiter1 is of another package too")])
 def test_no_image_of_others(whole, installed, tmp_path, parts, capsys, wrong, message):
-    """A package of another hash, one that lacks, and one that has another's file make no release."""
+    """A package of another hash, one that lacks, and one with another's file make no release."""
     folder, ours = parts
     if wrong == "a byte":
         path = folder / "dash_1%3a2%7e3_amd64.deb"
