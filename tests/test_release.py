@@ -433,6 +433,9 @@ def test_image(whole, installed, tmp_path, parts):
     said = {each: json.loads(found[each]) for each in ("index.json", "manifest.json")}
     (head,) = said["index.json"]["manifests"]
     same(head["annotations"]["org.opencontainers.image.ref.name"], f"arbiter:{VERSION}", "name")
+    for name in ("explain", "top"):
+        holds(f"image: arbiter:{VERSION}\n",
+              (ROOT / f"share/kubernetes/{name}.yaml").read_text(), "the workload's image")
     of = {each: found[f"blobs/{each.replace(':', '/')}"] for each in (
         head["digest"], *(f"sha256:{path[13:]}" for path in found if path.startswith("blobs/")))}
     manifest = json.loads(of[head["digest"]])

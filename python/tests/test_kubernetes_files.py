@@ -74,7 +74,7 @@ def test_each_file_is_parsed():
     version = (ROOT / "share/arbiter.pc").read_text().split("Version: ")[1].split("\n")[0]
     assert {each["image"] for pod in workloads().values()
             for each in pod["containers"]} == {f"arbiter:{version}"}
-    assert f"-t arbiter:{version} " in (FOLDER / "Containerfile").read_text()
+    assert f"arbiter-{version}-linux-x86_64.oci.tar" in (FOLDER / "README.md").read_text()
 
 
 def test_pods_may_little():
