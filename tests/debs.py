@@ -134,7 +134,7 @@ def test_a_release_is_twice_the_same(release, tmp_path):
         pytest.skip("a release is of a commit without a changed file")
     ended(ROOT / "build", "--release", tmp_path / "two")
     same(ended("diff", "-r", release, tmp_path / "two"), "", "what differs")
-    same((len(list(release.iterdir())), (release / f"{TARBALL}.oci.tar").is_file()), (13, True),
+    same((len(list(release.iterdir())), (release / f"{TARBALL}.oci.tar").is_file()), (14, True),
          "files")
 
 
@@ -191,9 +191,9 @@ def pods(said, engine):
     same([gets["kubepods/burstable/shop:web"], gets["kubepods/shop:db"]], [1444, 500], "pods")
 
 
-@pytest.fixture(scope="module")
+@pytest.fixture
 def home(root):
-    """The home of a user without rights inside a root, who has the examples."""
+    """The home of a user without rights inside a root: the output of a line that is typed there."""
     folder = root / "home/nobody"
     folder.mkdir()
     os.chown(folder, 65534, 65534)
@@ -207,7 +207,6 @@ def home(root):
 def test_tarball_in_a_home(home):
     """What a user without rights types from the download to the first answer about pods."""
     home(f"tar xf /debs/{TARBALL}.tar.gz")
-    home(f"cp -r {TARBALL}/examples .")
     bin_ = f"cd {TARBALL}; bin"
     explain = f"{bin_}/arbiterctl explain examples/pods.json examples/node.json --want busy"
     assert "1.444  2.100      -  [########....]" in home(explain)
@@ -225,8 +224,9 @@ def test_wheel_in_a_venv(home, root):
     home("python3 -m venv --system-site-packages venv")
     home(f"{pip} install --no-index /debs/*.whl")
     (place,) = root.glob("home/nobody/venv/lib/python3*/site-packages")
-    said = home("venv/bin/arbiterctl explain examples/pods.json examples/node.json --want busy"
-                " -o json")
+    home(f"tar xf /debs/{TARBALL}.tar.gz")
+    said = home(f"cd {TARBALL}; ../venv/bin/arbiterctl explain examples/pods.json"
+                " examples/node.json --want busy -o json")
     pods(said, f"/{(place / 'arbiter/libarbiter.so.1').relative_to(root)}")
     home(f"{pip} uninstall -y arbiter-host")
     same([path.name for path in place.rglob("*arbiter*") if path.is_file()], [], "left behind")
