@@ -11,6 +11,7 @@ tried in a guest, which needs what ./test --kernel does.
 """
 import json
 import os
+import re
 import shutil
 import subprocess
 from pathlib import Path
@@ -144,7 +145,13 @@ def test_what_was_proved(release):
     same(found["not_counted"], [], "crates that no log counts")
     assert found["commit"] == ended("git", "-C", ROOT, "rev-parse", "HEAD").strip()
     assert min(each["functions"] for each in found["crates"].values()) > 0
-    assert len(found["coq_theorems_without_axioms"]) > 100 and found["refused_edits"]
+    asked = (ROOT / "independent/Assumptions.v").read_text()
+    same(found["coq_theorems_without_axioms"],
+         re.findall(r"^Print Assumptions ([\w.]+)\.$", asked, re.M), "theorems of Coq")
+    edits = sorted((path.parents[1].name, path.stem)
+                   for path in ROOT.glob("crates/*/must-fail/*.edit"))
+    same(sorted((crate, each) for crate, names in found["refused_edits"].items()
+                for each in names), edits, "wrong bodies that were refused")
     same(sorted(found["files"]), ["bin/arbiter", "bin/arbiter-check", "bin/arbiter-script",
                                   "lib/libarbiter.a", f"lib/libarbiter.so.{version()}"], "files")
 
