@@ -33,6 +33,9 @@ struct cpumask no_cpus SEC(".bss.types") __attribute__((visibility("hidden")));
 #define MOST_DEPTH 64
 /* A number that is given again is the first of a list. */
 GUARDED u32 first_free, numbers;
+/* Parts of a new plan: which one is taken, and up to where. */
+enum part { TAKE_LIMITS, FREE_LEAVES, TAKE_LEVEL, TAKE_LEAVES };
+GUARDED u32 taking, taken_to;
 
 /* The loader writes these, and calls `take_plan`. */
 struct given given[MOST_LEAVES];
@@ -40,6 +43,8 @@ struct limited limits[MOST_BUDGETS];
 volatile u32 rows = 1, budget_count = 1;
 /* It rises when the groups of the plan have changed. */
 volatile u32 tree = 1;
+/* Whether the next plan is the first one before the scheduler is attached. */
+bool begins = true;
 u64 exit_kind, unplanned;
 /* The queue of tasks without a number, and how often a CPU takes one beside others that wait. */
 #define UNPLANNED 1
@@ -553,8 +558,19 @@ void BPF_PROG(plan_cpu_online, s32 cpu)
 {
 }
 
-/* A new period of a group with a limit, if it has one. Returns whether a leaf may run again. */
-static __noinline bool begin_period(u32 number, bool is_plan)
+/* A leaf that waits for a period of a group waits no longer. Returns whether there was one. */
+static __noinline int free_one(struct on_cpu *here, u32 number)
+{
+    u32 row = free_first(here, number);
+
+    if (row >= NOBODY)
+        return 0;
+    play_leaf(row);
+    return 1;
+}
+
+/* A new period of a group with a limit. Returns whether a leaf may run again. */
+static __noinline bool begin_period(u32 number)
 {
     struct on_cpu *here = this_cpu();
     u64 now = bpf_ktime_get_ns();
@@ -565,7 +581,7 @@ static __noinline bool begin_period(u32 number, bool is_plan)
         bool is_more;
         bpf_spin_lock(&lock);
         pass(now);
-        is_more = (times || is_plan || refill(number)) && take_back(here, number);
+        is_more = (times || refill(number)) && free_one(here, number);
         bpf_spin_unlock(&lock);
         tell(here);
         if (!is_more)
@@ -581,7 +597,7 @@ static int on_beat(void *map, int *key, struct beat *beat)
     u32 each;
 
     bpf_for(each, 1, budget_count)
-        is_free |= begin_period(each, false);
+        is_free |= begin_period(each);
     bpf_for(each, 0, rows)
         is_full |= leaf_of(each)->charged > MOST_CHARGE;
     if (is_full) {
@@ -609,35 +625,57 @@ static __always_inline void take_limit(u32 number)
     struct budget *budget = budget_of(number);
     struct limited *limit = &limits[WITHIN(number, MOST_BUDGETS)];
 
-    begin_period(number, true);
-    bpf_spin_lock(&lock);
     if (!budget->limit_ns)
         budget->left_ns = limit->limit_ns;
     budget->limit_ns = limit->limit_ns;
     budget->burst_ns = limit->burst_ns;
     budget->above = limit->above;
-    bpf_spin_unlock(&lock);
+}
+
+/* A step of a new plan: a limit is taken, a leaf that waits for a period is freed, the level is taken
+ * or a leaf's part is. Returns whether it was the last one. (All are one loop that plays a leaf in one
+ * place, and what it is at is in memory: the verifier follows each call by itself, and once more for
+ * each range of a number.) */
+static __noinline int take_step(struct on_cpu *here)
+{
+    u32 at = taken_to, row = NOBODY;
+
+    if (taking == TAKE_LIMITS) {
+        take_limit(at);
+    } else if (taking == FREE_LEAVES) {
+        row = free_first(here, at);
+        at -= row < NOBODY;
+    } else if (taking == TAKE_LEVEL) {
+        take_level(here);
+    } else {
+        row = take_given(here, &given[WITHIN(at, MOST_LEAVES)], at);
+    }
+    taken_to = at + 1;
+    if (taken_to >= (taking == TAKE_LEVEL ? 1 : taking == TAKE_LEAVES ? rows : budget_count)) {
+        taken_to = 0;
+        taking++;
+    }
+    if (row < NOBODY)
+        play_leaf(row);
+    return 0;
 }
 
 /* Takes the limits, amounts and guarantees that the loader wrote. */
-static __noinline int start(void)
+static __noinline int take_all(void)
 {
     struct on_cpu *here = this_cpu();
     u64 now = bpf_ktime_get_ns();
     u32 each;
 
-    bpf_for(each, 1, budget_count)
-        take_limit(each);
-    bpf_spin_lock(&lock);
-    pass(now);
-    find_level();
-    note(here, EVENT_LEVEL, 0, 0, 0, 0);
-    bpf_spin_unlock(&lock);
-    bpf_for(each, 0, rows) {
+    taking = taken_to = 0;
+    bpf_for(each, 0, 2 * (MOST_BUDGETS + MOST_LEAVES) + 1) {
         bpf_spin_lock(&lock);
-        take_given(here, &given[WITHIN(each, MOST_LEAVES)], each);
+        pass(now);
+        take_step(here);
         bpf_spin_unlock(&lock);
         tell(here);
+        if (taking > TAKE_LEAVES)
+            break;
     }
     bpf_spin_lock(&lock);
     find_greatest(rows);
@@ -645,10 +683,18 @@ static __noinline int start(void)
     return 0;
 }
 
+/* Takes a plan. The first one is taken before the scheduler is attached: nobody waits anywhere. */
 SEC("syscall")
 int take_plan(void *context)
 {
-    return start();
+    if (begins) {
+        clear_trees();
+        /* (what was before has left its leaf, and given its number back) */
+        numbers = 1;
+        first_free = 0;
+        begins = false;
+    }
+    return take_all();
 }
 
 /* The timers of all CPUs. */
@@ -672,12 +718,7 @@ s32 BPF_PROG(plan_init)
     u32 key = 0;
     struct beat *beat;
 
-    clear_trees();
-    /* (what was before has left its leaf, and given its number back) */
-    numbers = 1;
-    first_free = 0;
     unplanned = 0;
-    start();
     beat = bpf_map_lookup_elem(&beats, &key);
     if (!beat || init_alarms() || scx_bpf_create_dsq(UNPLANNED, -1))
         return -ENOMEM;

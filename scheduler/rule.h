@@ -637,23 +637,23 @@ static __always_inline void put_aside(struct on_cpu *here, u32 row, u32 number)
     note(here, EVENT_STOP, row, 0, 0, true);
 }
 
-/* It waits no longer. What it was owed meanwhile is no fault of others. */
-static __noinline int take_back(struct on_cpu *here, u32 number)
+/* The first leaf that waits for a period of a group waits no longer. What it was owed meanwhile is no
+ * fault of others. Returns it, for the caller to play; `NOBODY` if there is none. */
+static __always_inline u32 free_first(struct on_cpu *here, u32 number)
 {
     struct budget *budget = budget_of(number);
     u32 row = budget->first_aside - 1;
     struct leaf *leaf = leaf_of(row);
 
     if (!budget->first_aside)
-        return 0;
+        return NOBODY;
     budget->first_aside = leaf->next_aside;
     leaf->is_aside = 0;
     note(here, EVENT_STOP, row, 0, 0, false);
     settle(leaf);
     cut_to_credit(leaf);
     note(here, EVENT_CUT, row, 0, 0, 0);
-    play_leaf(row);
-    return 1;
+    return row;
 }
 
 /* A new period of a group with a limit. Returns whether it has something left. */
@@ -684,8 +684,15 @@ static __noinline int find_greatest(u32 rows)
     return 0;
 }
 
+/* A new plan: the level over which leaves keep their leads. */
+static __always_inline void take_level(struct on_cpu *here)
+{
+    find_level();
+    note(here, EVENT_LEVEL, 0, 0, 0, 0);
+}
+
 /* A new plan gives a leaf an amount and a guarantee. It keeps its lead over the level, and what it
- * is owed. */
+ * is owed. The caller plays it. */
 static __always_inline void give(struct on_cpu *here, u32 row, u64 amount, u64 guarantee)
 {
     struct leaf *leaf = leaf_of(row);
@@ -702,7 +709,6 @@ static __always_inline void give(struct on_cpu *here, u32 row, u64 amount, u64 g
     leaf->amount = amount;
     leaf->guarantee = guarantee;
     note_more(here, EVENT_GIVE, row, 0, amount, 0, guarantee);
-    play_leaf(row);
 }
 
 /* Sets all clocks back by a whole number, so that charges stay small: no comparison changes. */

@@ -386,12 +386,12 @@ static void take_plan(u64 slices, u64 given, bool is_new)
     drop_old_limits();
     program->data->rows = rows;
     program->data->budget_count = limit_count;
+    if (bpf_prog_test_run_opts(bpf_program__fd(program->progs.take_plan), &options) != 0
+        || options.retval)
+        fail("the plan was not taken: %s, %d", strerror(errno), (int)options.retval);
     /* the scheduler begins with the first plan */
     if (!link_)
         attach();
-    else if (bpf_prog_test_run_opts(bpf_program__fd(program->progs.take_plan), &options) != 0
-         || options.retval)
-        fail("the plan was not taken: %s, %d", strerror(errno), (int)options.retval);
     if (is_new)
         program->data->tree++;
     printf("plan %llu\n", plans);

@@ -406,12 +406,13 @@ static __always_inline u32 took_next(struct on_cpu *on)
     return on->chosen;
 }
 
-/* A new plan: rows that have waited for a period of a limit are looked at again. */
-static __always_inline void take_given(struct on_cpu *here, struct given *given, u32 row)
+/* A new plan gives a row what the loader wrote. Returns the row, for the caller to play. */
+static __always_inline u32 take_given(struct on_cpu *here, struct given *given, u32 row)
 {
     struct leaf *leaf = leaf_of(row);
 
     leaf->budget = given->budget;
     give(here, row, given->amount ? given->amount : 1, given->guarantee);
+    return row;
 }
 #endif

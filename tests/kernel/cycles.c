@@ -11,6 +11,7 @@
 #define _GNU_SOURCE
 #include <bpf/bpf.h>
 #include <bpf/libbpf.h>
+#include <stdbool.h>
 #include <stdio.h>
 #include <stdlib.h>
 #include <string.h>
@@ -75,6 +76,10 @@ int main(int count, char **words) {
     }
     program->data->rows = groups + 1;
     for (int at = 0; at < times; at++) {
+        LIBBPF_OPTS(bpf_test_run_opts, options);
+        program->data->begins = true;
+        if (bpf_prog_test_run_opts(bpf_program__fd(program->progs.take_plan), &options) != 0)
+            return fail("no plan", at);
         struct bpf_link *link = bpf_map__attach_struct_ops(program->maps.plan_ops);
         if (!link)
             return fail("not attached", at);

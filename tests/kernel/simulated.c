@@ -325,10 +325,11 @@ static void begin_period(void) {
         if (leaf_of(row)->charged > MOST_CHARGE)
             set_back(row_count);
     for (u32 number = 1; number < budget_count; number++) {
-        bool has_some = refill(number);
-        while (has_some && take_back(here, number))
+        u32 row = refill(number) ? free_first(here, number) : NOBODY;
+        for (; row < NOBODY; row = free_first(here, number)) {
+            play_leaf(row);
             tell_steps(here);
-        tell_steps(here);
+        }
     }
     for (u32 cpu = 0; cpu < core_count; cpu++)
         if (!cores[cpu].job)
@@ -351,13 +352,12 @@ static void give_plan(void) {
     struct on_cpu *here = on_cpu(0);
 
     pass(now);
-    find_level();
-    note(here, EVENT_LEVEL, 0, 0, 0, 0);
+    take_level(here);
     for (u32 row = 0; row < row_count; row++) {
         struct seen *each = &rows_seen[row];
         struct given given = { .amount = each->amount * (100 - jitter + chance(2 * jitter + 1)) / 100,
                                .guarantee = each->guarantee * ONE_CPU, .budget = each->budget };
-        take_given(here, &given, row);
+        play_leaf(take_given(here, &given, row));
         tell_steps(here);
     }
     find_greatest(row_count);
