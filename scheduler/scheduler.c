@@ -16,7 +16,8 @@
  *                                 to a plan that has them
  *   end                           the plan is taken; answers `plan NUMBER`
  *   read                          answers `leaf GROUP USED_NS WAITED_NS SOME_NS STOPS` for each
- *                                 leaf, of the time since the last reading, and `read PASSED_NS`
+ *                                 leaf, of the time since the last reading; `counts PICKS LATE
+ *                                 STOPS UNPLANNED` since it was loaded; and `read PASSED_NS`
  *
  * GROUP is the number of a group's folder; 0 is the rest. A limit comes before what is below it.
  * WAITED_NS is what its tasks waited in sum, SOME_NS how long one or more waited. When the input
@@ -408,6 +409,19 @@ static struct leaf read_leaf(u32 row, u64 now)
     return leaf;
 }
 
+/* What was counted since the scheduler was loaded: picks, turns of tasks that waited for long, leaves
+ * that were put aside at a limit, and tasks that got no number. */
+static void tell_counts(void)
+{
+    u64 picks = 0, stops = 0;
+    for (u32 row = 0; row < rows; row++) {
+        picks += program->bss->leaves[row].picks;
+        stops += program->bss->leaves[row].stops;
+    }
+    printf("counts %llu %llu %llu %llu\n", picks, (u64)program->bss->late_turns, stops,
+           (u64)program->bss->unplanned);
+}
+
 static u64 rise(u64 now, u64 before)
 {
     return now > before ? now - before : 0;
@@ -425,6 +439,7 @@ static void tell_round(void)
                rise(leaf.some_ns, before->some_ns), rise(leaf.stops, before->stops));
         *before = leaf;
     }
+    tell_counts();
     printf("read %llu\n", read_ns ? now - read_ns : 0);
     read_ns = now;
 }

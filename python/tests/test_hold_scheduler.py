@@ -45,6 +45,7 @@ for line in sys.stdin:
             used, waited = told.split(",")
             print("leaf", group, used, waited, waited, 0)
         print("leaf 0 5 5 5 0")
+        print("counts", 10 * plans, plans, 2, 3)
         print("read", 1000000000 if plans else 0, flush=True)
 log.write("ended\\n")
 """
@@ -94,6 +95,8 @@ def test_a_plan_is_given_and_nothing_is_written(folder, begun):
             for path, each in two["groups"].items()} == {
         "a": (50, 200, 80, True), "b": (80, 200, 80, True), "c": (40, 40, 40, False)}
     assert (one["written"], two["written"]) == (3, 3)
+    assert [each["scheduler"] for each in (one, two)] == [
+        {"picks": picks, "late": late, "stops": 2, "unplanned": 3} for picks, late in ((0, 0), (10, 1))]
     told = commands(folder)
     top, a, b, c = (number(world, path) for path in (".", *"abc"))
     # b has a limit: 80 ms of 100. c may have as much as both others, and asks for less. Guarantees
@@ -232,6 +235,18 @@ def test_what_is_no_reading_is_refused(begun):
     world, loop = begun(GROUPS, "", "", "x,y;0,0;0,0")
     with pytest.raises(hold.WriteFault, match="no reading"):
         world.run(loop, *[lambda: None] * 3)
+
+
+@pytest.mark.parametrize("said", ["", "counts 1 2 3\n", "counts 1 2 3 x\n", "leaf 0 1 2 3 4\n"])
+def test_counts_that_are_none_are_refused(folder, said):
+    """A reading without them, and others in their place."""
+    program = folder / "loader"
+    program.write_text(f"#!/bin/sh\necho ready; read line; printf '{said}read 5\\n'\nread line\n")
+    program.chmod(0o755)
+    found = scheduler.Scheduler("/sys/fs/cgroup", str(program))
+    with pytest.raises(hold.WriteFault, match="no reading"):
+        found.read()
+    found.end()
 
 
 def test_without_a_loader(monkeypatch, folder):

@@ -520,6 +520,18 @@ def test_metrics_by_hand():
     assert b'\narbiter_hold_limit_cpus{group="b"} +Inf\n' in metrics.text_of(held(CALM))
 
 
+def test_metrics_of_the_scheduler():
+    """Counts are there where the kernel's scheduler holds the round, and only there."""
+    counts = {"picks": 5, "late": 1, "stops": 2, "unplanned": 3}
+    said = metrics.text_of(held({**CALM, "scheduler": counts})).decode()
+    found = dict(line.rsplit(" ", 1) for line in said.split("\n") if "scheduler" in line)
+    assert {key: value for key, value in found.items() if not key.startswith("#")} == {
+        f"arbiter_hold_scheduler_{name}_total": f"{value}.0" for name, value in (
+            ("picks", 5), ("late_turns", 1), ("stops", 2), ("unplanned_tasks", 3))}
+    assert "# TYPE arbiter_hold_scheduler_picks counter" in said
+    assert "scheduler" not in metrics.text_of(held(CALM)).decode()
+
+
 def test_dashboard_and_alerts_name_the_metrics():
     """They name metrics that there are; the dashboard draws all but three."""
     there = {name for name in re.findall(r"^# TYPE (\S+)", metrics.text_of(held()).decode(), re.M)}

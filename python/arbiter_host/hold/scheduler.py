@@ -18,7 +18,7 @@ from arbiter_host.base.faults import HostFault, strerror
 from arbiter_host.base.model import Group, Model
 from arbiter_host.base.names import shown
 from arbiter_host.hold import hold
-from arbiter_host.hold.hold import WriteFault, Written
+from arbiter_host.hold.hold import Line, WriteFault, Written
 from arbiter_host.sources import cgroup2, readings
 
 PROGRAM = "arbiter-scheduler"
@@ -80,6 +80,16 @@ class Given(NamedTuple):
         yield "end"
 
 
+class Counts(NamedTuple):
+    """What the scheduler counted since it was loaded: picks, turns of tasks that waited for long,
+    stops of leaves at a limit, and tasks that got no number."""
+
+    picks: int
+    late: int
+    stops: int
+    unplanned: int
+
+
 class Scheduler:
     """The program that runs, and what is said to it. Each answer has a deadline and a bound."""
 
@@ -91,6 +101,7 @@ class Scheduler:
             self.child = children.Child([found, top])
         except OSError as error:
             raise HostFault(f"{found}: {strerror(error)}") from error
+        self.counts = Counts(0, 0, 0, 0)
         self.answer("ready")
 
     def fault(self, about: str) -> WriteFault:
@@ -141,12 +152,16 @@ class Scheduler:
 
     def read(self) -> dict[int, LeafTimes]:
         """The times of each group of the last plan since the last reading, by the number of its
-        folder."""
+        folder. What was counted is kept."""
         self.say("read")
-        *leaves, last = self.answer("read")
+        *leaves, counts, last = [[], *self.answer("read")]
         try:
             passed = int(last[1])
-            return {int(words[1]): LeafTimes(passed, *map(int, words[2:5])) for words in leaves}
+            if counts[:1] != ["counts"]:
+                raise self.fault("it answers what is no reading")
+            self.counts = Counts(*map(int, counts[1:]))
+            return {int(words[1]): LeafTimes(passed, *map(int, words[2:5]))
+                    for words in filter(None, leaves)}
         except (ValueError, TypeError, IndexError) as error:
             raise self.fault("it answers what is no reading") from error
 
@@ -310,6 +325,10 @@ class ScheduledLoop(hold.Loop):
             return last._replace(above=above)
         burst = kept.old.burst if kept is not None else group.burst
         return limit_of(number, (group.quota, group.period, burst), above)
+
+    def round(self, missed: int = 0, is_jump: bool = False) -> Line:
+        """One round, with what the scheduler counted up to its reading."""
+        return {**super().round(missed, is_jump), "scheduler": self.scheduler.counts._asdict()}
 
     def end(self) -> None:
         """Ends the scheduler."""

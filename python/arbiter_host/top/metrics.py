@@ -16,7 +16,7 @@ from wsgiref.simple_server import WSGIRequestHandler, WSGIServer, make_server
 
 from arbiter import Host
 from prometheus_client import CollectorRegistry, make_wsgi_app
-from prometheus_client.core import GaugeMetricFamily
+from prometheus_client.core import CounterMetricFamily, GaugeMetricFamily, Metric
 from prometheus_client.openmetrics.exposition import generate_latest
 from prometheus_client.registry import Collector
 
@@ -66,6 +66,13 @@ ROUND = {
     "held": ("held_groups", "Groups that have another limit than their own."),
     "served": ("served_ratio", "Part of the plan of the last round that was served, 0 to 1."),
 }
+# Counts of the kernel's scheduler, where a round is held by it, and what the counter is.
+SCHEDULER = {
+    "picks": ("picks", "Picks of a task for a CPU since the scheduler was loaded."),
+    "late": ("late_turns", "Turns of tasks that waited for 10 seconds, since it was loaded."),
+    "stops": ("stops", "Stops of a group at a limit since it was loaded."),
+    "unplanned": ("unplanned_tasks", "Tasks that got no number since it was loaded: they go last."),
+}
 
 
 def gauge(name: str, words: str, values: Iterable[tuple[Sequence[str], Any]],
@@ -107,7 +114,7 @@ class Held(Collector):
         self.line, self.one = line, Fraction(host.slice_us, host.period_us)
         self.at = time.time()
 
-    def collect(self) -> Iterable[GaugeMetricFamily]:
+    def collect(self) -> Iterable[Metric]:
         groups: dict[str, dict[str, Any]] = self.line["groups"]
         for key, words in HELD.items():
             yield gauge(f"arbiter_hold_{key}_cpus", words, (
@@ -118,6 +125,9 @@ class Held(Collector):
                         (((path,), each[key]) for path, each in groups.items()), ("group",))
         for key, (name, words) in ROUND.items():
             yield GaugeMetricFamily(f"arbiter_hold_{name}", words, value=self.line[key])
+        for key, value in self.line.get("scheduler", {}).items():
+            name, words = SCHEDULER[key]
+            yield CounterMetricFamily(f"arbiter_hold_scheduler_{name}", words, value=value)
         yield GaugeMetricFamily("arbiter_hold_round_timestamp_seconds", "When the last round was.",
                                 value=self.at)
 
