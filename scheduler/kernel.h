@@ -33,6 +33,7 @@ typedef _Bool bool;
 #define SCX_DSQ_LOCAL_ON 0xc000000000000000ULL
 #define SCX_ENQ_WAKEUP 1ULL
 #define SCX_ENQ_PREEMPT (1ULL << 32)
+#define SCX_ENQ_REENQ (1ULL << 40)
 #define SCX_DEQ_SLEEP 1ULL
 #define SCX_KICK_IDLE 1ULL
 #define SCX_KICK_PREEMPT 2ULL
@@ -89,6 +90,10 @@ struct scx_cgroup_init_args {
     u32 weight;
 };
 
+struct scx_cpu_release_args {
+    struct task_struct *task;
+};
+
 enum scx_exit_kind { SCX_EXIT_NONE };
 
 struct scx_exit_info {
@@ -123,6 +128,7 @@ struct sched_ext_ops {
     void (*cgroup_move)(struct task_struct *, struct cgroup *, struct cgroup *);
     void (*cpu_online)(s32);
     void (*cpu_offline)(s32);
+    void (*cpu_release)(s32, struct scx_cpu_release_args *);
     s32 (*init)(void);
     void (*exit)(struct scx_exit_info *);
     u64 flags;
@@ -136,6 +142,7 @@ extern s32 scx_bpf_create_dsq(u64 queue, s32 node) __ksym;
 extern bool scx_bpf_dsq_move_to_local(u64 queue) __ksym;
 extern bool scx_bpf_task_set_slice(struct task_struct *p, u64 slice) __ksym;
 extern void scx_bpf_kick_cpu(s32 cpu, u64 flags) __ksym;
+extern u32 scx_bpf_reenqueue_local(void) __ksym;
 extern s32 scx_bpf_task_cpu(const struct task_struct *p) __ksym;
 extern struct cgroup *scx_bpf_task_cgroup(struct task_struct *p) __ksym;
 extern struct cgroup *bpf_cgroup_ancestor(struct cgroup *group, int level) __ksym;

@@ -284,7 +284,7 @@ void BPF_PROG(plan_enqueue, struct task_struct *p, u64 flags)
         wait_unplanned(p, flags);
         return;
     }
-    if (is_extended(p, number)) {
+    if (!(flags & SCX_ENQ_REENQ) && is_extended(p, number)) {
         scx_bpf_dsq_insert(p, SCX_DSQ_LOCAL, MOMENT_NS, flags);
         return;
     }
@@ -558,6 +558,15 @@ void BPF_PROG(plan_cpu_online, s32 cpu)
 {
 }
 
+/* A real-time task takes a CPU. The slice of its task ends, and those that were handed to it wait
+ * again: another CPU may take them, and their leaf pays nothing for the time of that task. Each comes
+ * by `plan_enqueue`. */
+SEC("struct_ops/plan_cpu_release")
+void BPF_PROG(plan_cpu_release, s32 cpu, struct scx_cpu_release_args *args)
+{
+    scx_bpf_reenqueue_local();
+}
+
 /* A leaf that waits for a period of a group waits no longer. Returns whether there was one. */
 static __noinline int free_one(struct on_cpu *here, u32 number)
 {
@@ -760,6 +769,7 @@ struct sched_ext_ops plan_ops = {
     .cgroup_move = (void *)plan_cgroup_move,
     .cpu_online = (void *)plan_cpu_online,
     .cpu_offline = (void *)plan_cpu_offline,
+    .cpu_release = (void *)plan_cpu_release,
     .init = (void *)plan_init,
     .exit = (void *)plan_exit,
     .flags = SCX_OPS_KEEP_BUILTIN_IDLE | SCX_OPS_ENQ_LAST | SCX_OPS_ENQ_EXITING

@@ -169,6 +169,10 @@ CASES = {
     "work of the kernel holds ends up": Case(
         2, (f"a,10000,0,2,{ALWAYS}:g=1980.2", *lights(100, 0.198)), {1: (198, 0.5)}, {1: 120},
         options=("-p", "1000", "-o", "3000")),
+    # a CPU that a real-time task has for a while: its task waits for another one
+    "a real-time task holds a CPU up": Case(
+        2, ("r,0,300000,700000", f"a,90,0,1,{ALWAYS}:g=500", f"a,50,0,2,{ALWAYS}:g=500"),
+        lacks={1: 30, 2: 30}),
     # limits of groups above leaves
     "four containers of a pod at its limit wake": Case(
         4, ("l,100000,0", *pod(4), "w,300,0,1,2000,8000,0,-1:g=3000"), {5: (20, 0.5)},

@@ -9,7 +9,8 @@
    They keep to a CPU, to the CPUs of a mask (`mHEX`), or to none if it is -1. The limit is in 100
    ms, 0 for none. Words are `g=` the guarantee in thousandths of a CPU, `nice=`, and `in=`: the
    group with a limit that it is in. Such a one is `l,LIMIT_US,IN`, the first of them number 1.
-   A GROUP that begins with `+` has more tasks of the row before.
+   A GROUP that begins with `+` has more tasks of the row before. `r,CPU,ON_US,OFF_US` is a real-time
+   task: it has a CPU for ON_US, then not for OFF_US, and so on.
 
    -q tells no steps; -p gives a plan each MS, of amounts that are up to -j PERCENT off; -o holds the
    end of each slice up by up to US, as work of the kernel does.
@@ -79,6 +80,9 @@ struct core {
     struct job *job;
     s64 slice;
     u64 since, tick, kick;
+    /* Whether a real-time task has it, and when that changes; how long it has it, and has it not.  */
+    bool is_taken;
+    u64 changes, on, off;
 };
 
 /* The greatest rise of a number from any time to a later one.  */
@@ -239,7 +243,7 @@ static u64 ends_at(struct core *core) {
     struct job *job = core->job;
     u64 place;
 
-    if (!job || job->kind == 'a')
+    if (!job || core->is_taken || job->kind == 'a')
         return NONE;
     if (job->kind != 't')
         return core->since + job->left;
@@ -289,7 +293,7 @@ static void count(void) {
         struct core *core = &cores[cpu];
         u64 passed = now - core->since;
         core->since = now;
-        if (!core->job)
+        if (!core->job || core->is_taken)
             continue;
         core->slice -= passed;
         count_use(core->job, passed);
@@ -367,8 +371,10 @@ static u64 next_event(u64 beat) {
     u64 next = beat < first_wake ? beat : first_wake;
     for (u32 cpu = 0; cpu < core_count; cpu++) {
         struct core *core = &cores[cpu];
-        u64 ends = ends_at(core), first = core->tick < core->kick ? core->tick : core->kick;
+        u64 kick = core->is_taken ? NONE : core->kick;
+        u64 ends = ends_at(core), first = core->tick < kick ? core->tick : kick;
         first = ends < first ? ends : first;
+        first = core->changes < first ? core->changes : first;
         next = first < next ? first : next;
     }
     return next > now ? next : now;
@@ -411,10 +417,32 @@ static void ticks(void) {
     }
 }
 
+/* As plan_cpu_release where a real-time task comes: the task of its CPU waits again.  */
+static void take_cores(void) {
+    for (u32 cpu = 0; cpu < core_count; cpu++) {
+        struct core *core = &cores[cpu];
+        struct job *job = core->job;
+        if (core->changes > now)
+            continue;
+        core->is_taken = !core->is_taken;
+        core->changes += core->is_taken ? core->on : core->off;
+        if (!core->is_taken) {
+            kick(cpu);
+            continue;
+        }
+        set_idle(on_cpu(cpu), false);
+        core->job = NULL;
+        if (job)
+            enqueue(job, cpu, false);
+    }
+}
+
 /* The CPUs whose task has ended, or that look for another.  */
 static void run_cores(void) {
     for (u32 cpu = 0; cpu < core_count; cpu++) {
         struct core *core = &cores[cpu];
+        if (core->is_taken)
+            continue;
         if (ends_at(core) <= now)
             end_work(cpu);
         if (core->kick > now)
@@ -446,6 +474,7 @@ static void simulate(u64 until) {
             if (is_stalled())
                 return;
         }
+        take_cores();
         run_cores();
     }
     now = until;
@@ -490,6 +519,17 @@ static bool add_limited(const char *text) {
     return true;
 }
 
+static bool add_taker(const char *text) {
+    unsigned long long on, off;
+    u32 cpu;
+
+    if (sscanf(text, "r,%u,%llu,%llu", &cpu, &on, &off) != 3 || cpu >= core_count || !on || !off)
+        return false;
+    cores[cpu].on = on * MICRO;
+    cores[cpu].changes = cores[cpu].off = off * MICRO;
+    return true;
+}
+
 static void add_jobs(struct job model, u64 count_of_jobs) {
     for (; count_of_jobs; count_of_jobs--) {
         struct job *job = &jobs[job_count++];
@@ -517,6 +557,8 @@ static bool add_group(char *text) {
 
     if (*text == 'l')
         return add_limited(text);
+    if (*text == 'r')
+        return add_taker(text);
     if (colon)
         *colon++ = 0;
     if (sscanf(text + is_more, "%c,%llu,%llu,%llu,%llu,%llu,%llu,%31s", &kind, &amount, &limit,
@@ -632,13 +674,13 @@ int main(int count_of_words, char **words) {
     cpus_there = core_count;
     clear_trees();
     rows_seen[0].amount = 1;
+    for (u32 cpu = 0; cpu < core_count; cpu++) {
+        cores[cpu] = (struct core){ .tick = TICK + cpu * MICRO, .kick = NONE, .changes = NONE };
+        set_idle(on_cpu(cpu), true);
+    }
     for (int at = first + 3; at < count_of_words; at++)
         if (!add_group(words[at]))
             return 2;
-    for (u32 cpu = 0; cpu < core_count; cpu++) {
-        cores[cpu] = (struct core){ .tick = TICK + cpu * MICRO, .kick = NONE };
-        set_idle(on_cpu(cpu), true);
-    }
     set_budgets();
     give_first();
     if (has_trace)
