@@ -147,6 +147,33 @@ def test_limits_are_of_the_whole_path(folder, begun):
     assert nearest[0] == {x: x, q: top} and nearest[-1] == {x: x, q: top, r: top}
 
 
+def test_a_group_has_no_more_than_its_cpus(folder, begun, capsys):
+    """One that keeps to one CPU of two is guaranteed no more, and the round's line has that as its
+    limit. It is told once. One that is freed has its part by weights."""
+    world, loop = begun([("c", 600, FREE), ("d", 100, FREE), ("p", 100, FREE), ("p/x", 100, FREE),
+                         ("p/y", 300, FREE)], *[""] * 5)
+    for path in ("c", "p"):
+        (world.tree / path / "cpuset.cpus").write_text("1\n" if path == "c" else "0-1\n")
+        (world.tree / path / "cpuset.cpus.effective").write_text("1\n")
+    world.lacks = "d"
+
+    def freed():
+        (world.tree / "c/cpuset.cpus").write_text("\n")
+
+    lines = world.run(loop, lambda: None, freed, lambda: None)
+    numbers = {number(world, path): path for path in ("c", "d", "p/x", "p/y")}
+    told = "\n".join(commands(folder)).split("plan 200\n")[1:]
+    plans = [{numbers[int(line.split()[1])]: int(line.split()[3]) for line in plan.split("\n")
+              if line.startswith("leaf")} for plan in told]
+    # by weights c has 150, and each other one 25
+    parts = [(each["c"], each["d"], each["p/x"] + each["p/y"]) for each in (plans[0], plans[-1])]
+    assert parts == [(100, 50, 50), (150, 25, 25)]
+    assert [each["groups"]["c"]["limit"] for each, _ in (lines[0], lines[-1])] == [100, 150]
+    said = capsys.readouterr().err
+    assert said.count("bound to CPUs: c, p: each has as many at most") == 1
+    assert said.count("bound to CPUs: p: ") == 1
+
+
 def test_a_group_that_cannot_be_read_keeps_its_limit(folder, begun, monkeypatch):
     """Another user takes the right to read its limit away: it has its row and its limit still."""
     world, loop = begun(GROUPS, *[""] * 4)

@@ -22,7 +22,7 @@ from arbiter import Columns, Host, Reading, Refused, Round, Row
 from arbiter_host.base import output, safe_files, units
 from arbiter_host.base.demands import rise
 from arbiter_host.base.faults import HostFault, NoHelp
-from arbiter_host.base.model import (MAX_DEPTH, MAX_GROUPS, Group, Model, TooMany, planned,
+from arbiter_host.base.model import (MAX_DEPTH, MAX_GROUPS, Group, Model, TooMany, bind, planned,
                                      up_to_64_cpus)
 from arbiter_host.base.names import shown
 from arbiter_host.base.plan import Engine, asking, fault_of
@@ -249,11 +249,14 @@ class HeldTree(readings.Tree):
         kept = self.loop.groups.get(group.path)
         if kept is None or kept.identity[1] != entry.inode():
             return super().read(look, group, entry)
-        group.identity = kept.identity
-        return os.fstat(self.loop.root.kept[kept.folder]).st_nlink != LINKS
+        group.identity, handle = kept.identity, self.loop.root.kept[kept.folder]
+        self.measure(look, group, handle)
+        return os.fstat(handle).st_nlink != LINKS
 
     def measure(self, look: readings.TreeReading, group: Group, handle: int) -> None:
-        """Leaves that to the loop."""
+        """Leaves what is counted to the loop."""
+        if self.loop.knows_masks:
+            self.bind(look, group, handle)
 
     def add_tasks(self, look: readings.TreeReading, leaf: Group) -> None:
         if self.loop.ways.has_weights:
@@ -265,6 +268,8 @@ class Loop:
 
     # The most leaves that can be held.
     most_leaves = MAX_GROUPS
+    # Whether the plan gives a group no more CPUs than it keeps to.
+    knows_masks = False
 
     def __init__(self, engine: Engine, root: Root, top: str, host: Host,
                  record: Record | None = None, ways: Ways = Ways(),
@@ -418,6 +423,7 @@ class Loop:
             self.check_controller()
             model.notes.append("no groups with the cpu controller are below this folder")
         self.look_outside(look)
+        bind(model, look.bound)
         if not self.is_checked:
             self.check_owner(model)
         self.tell(model.notes)

@@ -211,7 +211,10 @@ def settings_of(folder: str) -> tuple[int | None, int, int]:
 
 
 class ScheduledLoop(hold.Loop):
-    """The rounds of a tree whose plan the scheduler serves."""
+    """The rounds of a tree whose plan the scheduler serves. A guarantee that the CPUs of a group do
+    not allow would be kept for nobody, so the plan knows them."""
+
+    knows_masks = True
 
     def __init__(self, scheduler: Scheduler, *words: Any, **more: Any) -> None:
         super().__init__(*words, **more)

@@ -217,10 +217,14 @@ class Tree:
 
     def measure(self, look: TreeReading, group: Group, handle: int) -> None:
         """Reads what is counted of a group."""
-        cpus = cgroup2.cpus(handle)
-        look.bound |= {group.path: cpus_in(cpus)} if cpus else {}
+        self.bind(look, group, handle)
         look.frozen += [group.path] if cgroup2.is_frozen(handle) else []
         self.count(look, group, cgroup2.reading(handle))
+
+    def bind(self, look: TreeReading, group: Group, handle: int) -> None:
+        """Reads how many CPUs a group keeps to, if it has some of its own."""
+        cpus = cgroup2.cpus(handle)
+        look.bound |= {group.path: cpus_in(cpus)} if cpus else {}
 
     def pod_at(self, look: TreeReading, folder: str) -> PodNames:
         """The names of the pod or container that has a folder."""
