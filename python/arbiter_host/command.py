@@ -6,7 +6,7 @@ import os
 import sys
 import time
 from collections.abc import Sequence
-from typing import TYPE_CHECKING, NoReturn
+from typing import TYPE_CHECKING, Any, NoReturn
 
 from arbiter_host import helps
 from arbiter_host import options as table
@@ -27,6 +27,13 @@ class Parser(argparse.ArgumentParser):
         self.exit(2, f"{self.prog}: {names.shown(message)}; {self.prog} --help says more\n")
 
 
+class Listed(argparse.ArgumentParser):
+    """A subcommand in the list of all. Its own parser is made where it is asked for."""
+
+    def __init__(self, **_: Any) -> None:
+        """Makes nothing: it reads no word."""
+
+
 def parser_of(each: Subcommand) -> Parser:
     """The parser of one subcommand."""
     parser = Parser(prog=f"arbiterctl {each.name}", formatter_class=helps.Formatter,
@@ -42,7 +49,8 @@ def parser_of_all() -> Parser:
                     formatter_class=helps.Formatter, allow_abbrev=False)
     parser.add_argument("-V", "--version", action=helps.Version, nargs=0,
                         help="print the version and what the library is made of, and end")
-    commands = parser.add_subparsers(required=True, metavar="COMMAND", prog="arbiterctl")
+    commands = parser.add_subparsers(required=True, metavar="COMMAND", prog="arbiterctl",
+                                     parser_class=Listed)
     for name, summary in SUMMARIES.items():
         commands.add_parser(name, help=summary)
     return parser
@@ -66,7 +74,7 @@ def parsed(words: Sequence[str]) -> argparse.Namespace:
 
 
 def unavailable() -> type[Unavailable]:
-    """The error of a call whose process has ended. (No help needs the package.)"""
+    """The error of a call whose process has ended."""
     from arbiter import Unavailable
     return Unavailable
 
@@ -89,6 +97,8 @@ def run(words: Sequence[str] | None = None) -> int:
             raise
         tell(fault_)
         return fault_.status
+    except SystemExit:  # (help needs no package)
+        raise
     except unavailable() as error:
         tell(NoLibrary(str(error)))
         drop_output()

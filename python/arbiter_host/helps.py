@@ -9,7 +9,6 @@ from typing import Any
 
 from arbiter_host import __version__, options
 from arbiter_host.base.names import shown
-from arbiter_host.sources.register import READERS
 
 ABOUT = ("Plans for the groups of a real host, each accepted by the proved check before it is"
          " shown.")
@@ -28,8 +27,6 @@ ENVIRONMENT = {
     "COLUMNS": "Columns of the answers, in place of the terminal's.",
     "NO_COLOR": "If it is set, answers have no colours.",
 }
-# Description of a source, by its kind.
-KINDS = {kind: READERS[kind].about for kind in options.KINDS}
 
 
 class Formatter(argparse.HelpFormatter):
@@ -76,6 +73,12 @@ def library_made() -> list[str]:
         return []
     return ["a clone; its library is proved" if found.of_clone() else
             "a clone without a proved library; a checked build, which proves nothing, answers"]
+
+
+def kinds() -> dict[str, str]:
+    """The description of a source, by its kind."""
+    from arbiter_host.sources.register import READERS  # (man pages alone have them)
+    return {kind: READERS[kind].about for kind in options.KINDS}
 
 
 def statuses() -> str:

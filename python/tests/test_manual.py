@@ -87,8 +87,8 @@ def test_main_page(ctl):
     said = ctl.run("--help")[0]
     for each in every():
         assert each.name in said and each.summary.replace("`", "'")[1:] in page
-    assert tuple(helps.KINDS) == options.KINDS
-    for kind in helps.KINDS:
+    assert tuple(helps.kinds()) == options.KINDS
+    for kind in helps.kinds():
         assert f" {kind} " in page
 
 

@@ -6,13 +6,11 @@ from __future__ import annotations
 
 import argparse
 import importlib
-import tomllib
+import os
 from collections.abc import Callable
-from pathlib import Path
 from typing import Any, NamedTuple
 
 from arbiter_host import options as table
-
 
 # One line for the list of all.
 SUMMARIES = {
@@ -29,7 +27,7 @@ SUMMARIES = {
     "undo": "bring the settings before `apply` back",
     "hold": "hold the plan on a host by limits of each round",
 }
-TEXTS = Path(__file__).parent.parent / "templates"
+TEXTS = os.path.join(os.path.dirname(os.path.dirname(__file__)), "templates")
 
 
 class Subcommand(NamedTuple):
@@ -56,10 +54,11 @@ class Subcommand(NamedTuple):
 
 def find(name: str) -> Subcommand:
     """The subcommand of a name. `undo` stands beside `apply`."""
+    import tomllib  # (the list of all needs no texts)
     module, function = ("apply", "undo") if name == "undo" else (name, "run")
     run = getattr(importlib.import_module(f"{__name__}.{module}"), function)
-    texts = tomllib.loads((TEXTS / f"{name}.toml").read_text(encoding="utf-8"))
-    return Subcommand(name, run, **texts)
+    with open(f"{TEXTS}/{name}.toml", "rb") as file:
+        return Subcommand(name, run, **tomllib.load(file))
 
 
 def every() -> tuple[Subcommand, ...]:
