@@ -116,8 +116,8 @@ def columns(view: View) -> list[Column[Pair]]:
 def table(one: Plan, two: Plan, view: View) -> Table[Pair]:
     """The groups that differ. In a narrow table names are cut and not reasons."""
     return Table(columns(view), differing(one, two, view), style=lambda pair: pair.style,
-                 fitted=Fitted(view.width, lambda pair: pair.reasons(view), name, tail,
-                               keeps_names=view.width >= WIDE))
+                 wide=view.width, fitted=Fitted(lambda pair: pair.reasons(view), name, tail,
+                                                keeps_names=view.width >= WIDE))
 
 
 def changes(one: Plan, two: Plan, view: View) -> Styled:

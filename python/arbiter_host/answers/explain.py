@@ -323,10 +323,11 @@ def table(plan: Plan, view: View) -> Table[PlannedGroup]:
     """The groups that are shown as people read them."""
     depths = {group.row: depth for group, depth in shown_groups(plan, view)}
     return Table(columns(plan, view), [plan.groups[row] for row in depths], style=lambda each: (
-        STYLES.get("starved" if each.is_starved else plan.reason(each).name, "")), fitted=Fitted(
-            view.width, lambda each: reasons(plan, each, view),
+        STYLES.get("starved" if each.is_starved else plan.reason(each).name, "")),
+                 wide=view.width, fitted=Fitted(
+            lambda each: reasons(plan, each, view),
             lambda each: label(each, view, depths[each.row]),
-            cut if view.chosen is None and not view.only else tail, 5))
+            cut if view.chosen is None and not view.only else tail))
 
 
 def lines(plan: Plan, view: View) -> Styled:
@@ -367,7 +368,7 @@ def columns(plan: Plan, view: View, outlook: Outlook | None = None) -> list[Colu
 
     def amount(head: str, of: Callable[[PlannedGroup], int | None]) -> Column[PlannedGroup]:
         return Column(head, lambda each: text.amount(plan, of(each), view.unit), key=head,
-                      value=lambda each: amounts(plan, of(each)))
+                      value=lambda each: amounts(plan, of(each)), wide=5)
 
     def bar(each: PlannedGroup) -> str:
         return text.bar(each.gets, each.want, BAR)

@@ -1,13 +1,16 @@
 """Answers as tables: each column is declared once, and here is how each form writes it."""
 from __future__ import annotations
 
-from collections.abc import Callable, Collection, Mapping, Sequence
+from collections.abc import Callable, Collection, Iterator, Mapping, Sequence
 from dataclasses import dataclass
-from typing import Any, Generic, TypeVar
+from typing import TYPE_CHECKING, Any, Generic, TypeVar
 
 from arbiter_host.base import text
 from arbiter_host.base.names import cut, padded, shown, width
 from arbiter_host.base.output import Styled, json_text
+
+if TYPE_CHECKING:
+    from prometheus_client.core import GaugeMetricFamily
 
 R = TypeVar("R")
 Forms = Mapping[str, Callable[[], str | Styled]]
@@ -33,6 +36,11 @@ class Column(Generic[R]):
     forms: Collection[str] = READ
     # Whether it stands behind the others where people read it, as names do.
     is_last: bool = False
+    # Letters of its cells on a terminal, at least.
+    wide: int = 0
+    # The words of its metric, whose name is its key; and whether it is a label of metrics.
+    metric: str = ""
+    is_label: bool = False
 
 
 def fact(key: str, value: Callable[[R], Any]) -> Column[R]:
@@ -60,29 +68,26 @@ def are_words(cells: Sequence[str]) -> bool:
 
 @dataclass(frozen=True)
 class Fitted(Generic[R]):
-    """The width of a table, and two columns that are made to fit it: the reasons of records, each
-    in forms from long to short, and names, which `cut` cuts.
+    """Two columns that are made to fit the width of a table: the reasons of records, each in forms
+    from long to short, and names, which `cut` cuts.
 
     Names have up to half of the room beside reasons, unless `keeps_names` is false.
     """
 
-    wide: int
     reasons: Callable[[R], Sequence[str]]
     names: Callable[[R], str]
     cut: Callable[[str, int], str]
-    # Letters of each other column.
-    least: int = 0
     keeps_names: bool = True
 
-    def lines(self, cells: Sequence[str], records: Sequence[R]) -> list[str]:
+    def lines(self, wide: int, cells: Sequence[str], records: Sequence[R]) -> list[str]:
         """The lines of a table, whose other cells are laid out; the first are the heads."""
         names, start = [*map(self.names, records)], width(cells[0]) + 4
-        room = max(self.wide - start, LEAST_ROOM)
+        room = max(wide - start, LEAST_ROOM)
         longest = max([5, *map(width, names)]) if self.keeps_names else 0
         most = max(room - max(min(longest, room // 2), LEAST_NAME), LEAST_REASON)
         reasons = fitting([*map(self.reasons, records)], most)
         whys = min(max([3, *map(width, reasons)]), most)
-        end = max(self.wide - start - whys, LEAST_NAME)
+        end = max(wide - start - whys, LEAST_NAME)
         rows = zip(cells, ["why", *(cut(each, whys) for each in reasons)],
                    ["group", *(self.cut(each, end) for each in names)])
         return [f"{each}  {padded(reason, whys)}  {name}".rstrip() for each, reason, name in rows]
@@ -98,6 +103,8 @@ class Table(Generic[R]):
     # The style of a record's line on a terminal.
     style: Callable[[R], str] | None = None
     fitted: Fitted[R] | None = None
+    # The letters of a line that is fitted.
+    wide: int = 0
 
     def cells(self, columns: Sequence[Column[R]]) -> list[list[str]]:
         """The cells of each record in some columns."""
@@ -111,7 +118,8 @@ class Table(Generic[R]):
         heads, left = [each.title for each in columns], left_of(columns, rows)
         styles = [self.style(each) if self.style else "" for each in self.records[:most]]
         lines = text.table([heads, *rows[:most]], left) if fitted is None else fitted.lines(
-            text.laid_out([heads, *rows], left, fitted.least), self.records)
+            self.wide, text.laid_out([heads, *rows], left, [each.wide for each in columns]),
+            self.records)
         more = len(rows) - len(styles)
         return [*zip(lines, ["bold", *styles]), *([(f"and {more} more (--all)", "")]
                                                  if more else [])]
@@ -128,6 +136,20 @@ class Table(Generic[R]):
         """The records as data, under the keys of the columns."""
         return [{each.key: (each.value or each.cell)(record) for each in self.columns if each.key}
                 for record in self.records]
+
+    def metrics(self) -> Iterator[GaugeMetricFamily]:
+        """The columns that have metrics, with labels that have no control character. There is no
+        sample for None."""
+        from prometheus_client.core import GaugeMetricFamily  # (no other form needs it)
+        labels = [each for each in self.columns if each.is_label]
+        for each in self.columns:
+            if each.metric and each.value:
+                family = GaugeMetricFamily(each.key, each.metric, labels=[of.key for of in labels])
+                for record in self.records:
+                    value = each.value(record)
+                    if value is not None:
+                        family.add_metric([shown(of.cell(record)) for of in labels], float(value))
+                yield family
 
     def csv(self) -> str:
         """The records as CSV. None of a number is empty there, and names are escaped."""

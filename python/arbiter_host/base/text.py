@@ -97,10 +97,12 @@ def asked_words(model: Model) -> str:
     return f"demands: {model.asked or 'none'}; weights: {model.weighed or 'none'}"
 
 
-def laid_out(rows: Sequence[Sequence[str]], left: Collection[int], least: int = 0) -> list[str]:
-    """Rows of cells in columns of at least so many letters, two blanks apart. The columns of
+def laid_out(rows: Sequence[Sequence[str]], left: Collection[int],
+             least: Sequence[int] = ()) -> list[str]:
+    """Rows of cells in columns two blanks apart, each of at least so many letters. The columns of
     `left` begin at the left, the others end at the right."""
-    widths = [max(least, *map(width, column)) for column in zip(*rows)]
+    widths = [max(wide, *map(width, column))
+              for wide, column in zip(least or [0] * len(rows[0]), zip(*rows))]
     return ["  ".join(padded(cell, wide) if at in left else " " * (wide - width(cell)) + cell
                       for at, (cell, wide) in enumerate(zip(row, widths))) for row in rows]
 

@@ -7,31 +7,36 @@ import socket
 import socketserver
 import threading
 import time
-from collections.abc import Callable, Iterable, Iterator, Sequence
+from collections.abc import Callable, Iterator, Sequence
 from contextlib import closing, contextmanager, suppress
 from dataclasses import replace
 from fractions import Fraction
-from typing import Any
+from functools import partial
+from operator import itemgetter
+from typing import Any, TypeVar
 from wsgiref.simple_server import WSGIRequestHandler, WSGIServer, make_server
 
 from arbiter import Host
 from prometheus_client import CollectorRegistry, make_wsgi_app
-from prometheus_client.core import CounterMetricFamily, GaugeMetricFamily, Metric
+from prometheus_client.core import CounterMetricFamily, Metric
 from prometheus_client.openmetrics.exposition import generate_latest
 from prometheus_client.registry import Collector
 
 from arbiter_host.base.atomic_files import CHANGED, Place, collected_folder, faults, place_of
 from arbiter_host.base.faults import HostFault, UsageFault, strerror
 from arbiter_host.base.names import shown
+from arbiter_host.base.tables import Column, Table
 from arbiter_host.base.units import MAX_DEMAND
 from arbiter_host.top.top import POD_LABELS, Alert, GroupFigures
 
+R = TypeVar("R")
 # First lines of a file.
 MARK = "# HELP arbiter_"
 # Seconds in which a reader has to ask, and those in which it has to take the answer.
 SECONDS = 5
 # The key of a request's environment that has the time of its reader.
 TIME = "arbiter.time"
+
 # The names of the metrics of groups, the figures that they are, parts of one, and what they say.
 GROUPS = (
     ("arbiter_plan_gets_cpus", "plan", 1000, "CPUs that the plan gives a group."),
@@ -43,8 +48,6 @@ GROUPS = (
     ("arbiter_starved", "is_starved", 1,
      "1 if a group wants something and the plan gives it nothing."),
 )
-OTHERS = ("arbiter_alert", "arbiter_round_timestamp_seconds")
-NAMES = (*(name for name, *_ in GROUPS), *OTHERS)
 # Keys of a group in the line of a round of a loop, and what the gauge is.
 HELD = {
     "want": "CPUs that a group asked for in the last round; +Inf for all.",
@@ -65,6 +68,7 @@ ROUND = {
     "written": ("written_groups", "Groups that were written in the last round."),
     "held": ("held_groups", "Groups that have another limit than their own."),
     "served": ("served_ratio", "Part of the plan of the last round that was served, 0 to 1."),
+    "at": ("round_timestamp_seconds", "When the last round was."),
 }
 # Counts of the kernel's scheduler, where a round is held by it, and what the counter is.
 SCHEDULER = {
@@ -75,61 +79,89 @@ SCHEDULER = {
 }
 
 
-def gauge(name: str, words: str, values: Iterable[tuple[Sequence[str], Any]],
-          labels: Sequence[str] = ("group", *POD_LABELS)) -> GaugeMetricFamily:
-    """A gauge with labels, whose values have no control character; no sample for None."""
-    family = GaugeMetricFamily(name, words, labels=labels)
-    for texts, value in values:
-        if value is not None:
-            family.add_metric([shown(each) for each in texts], float(value))
-    return family
+def metric(key: str, words: str, value: Callable[[R], Any]) -> Column[R]:
+    """A column that is a metric alone."""
+    return Column("", str, key=key, value=value, forms=(), metric=words)
+
+
+def label(key: str, cell: Callable[[R], str]) -> Column[R]:
+    """A column that is a label of metrics."""
+    return Column("", cell, key=key, forms=(), is_label=True)
+
+
+def of_pod(at: int, each: GroupFigures | Alert) -> str:
+    """A name of the pod of a group or an alert."""
+    return each.pod[at]
+
+
+def figure(key: str, parts: int, each: GroupFigures) -> Any:
+    """A figure of a group; None where it was not measured."""
+    value = getattr(each, key)
+    return None if value is None else value / parts
+
+
+PODS = [label(name, partial(of_pod, at)) for at, name in enumerate(POD_LABELS)]
+FIGURES: list[Column[GroupFigures]] = [
+    label("group", lambda each: each.path), *PODS,
+    *(metric(name, words, partial(figure, key, parts)) for name, key, parts, words in GROUPS)]
+ALERTS: list[Column[Alert]] = [
+    label("alert", lambda each: each.condition), label("group", lambda each: each.group), *PODS,
+    metric("arbiter_alert", "1 for each alert that holds.", lambda _: 1)]
+TIMES: list[Column[float]] = [metric(
+    "arbiter_round_timestamp_seconds", "When the last round was.", lambda each: each)]
+NAMES = [*(name for name, *_ in GROUPS), ALERTS[-1].key, TIMES[0].key]
+# A group of the line of a round of a loop, by its path.
+HeldGroup = tuple[str, dict[str, Any]]
+
+
+def held_columns(one: Fraction) -> list[Column[HeldGroup]]:
+    """The columns of the groups of a loop, by the CPUs of a slice."""
+    def cpus(key: str, each: HeldGroup) -> Any:
+        slices = each[1][key]
+        return float("inf") if slices in (None, MAX_DEMAND) else slices * one
+
+    def flag(key: str, each: HeldGroup) -> Any:
+        return each[1][key]
+
+    return [label("group", lambda each: each[0]),
+            *(metric(f"arbiter_hold_{key}_cpus", words, partial(cpus, key))
+              for key, words in HELD.items()),
+            *(metric(f"arbiter_hold_{key}", words, partial(flag, key))
+              for key, words in FLAGS.items())]
+
+
+HELD_ROUND: list[Column[dict[str, Any]]] = [
+    metric(f"arbiter_hold_{name}", words, itemgetter(key)) for key, (name, words) in ROUND.items()]
 
 
 class Figured(Collector):
     """The figures of the last round of `top`. They are replaced as a whole."""
 
     def __init__(self) -> None:
-        self.last: tuple[Sequence[GroupFigures], Sequence[Alert], float] = ((), (), 0.0)
+        self.tables: list[Table[Any]] = [Table(FIGURES, []), Table(ALERTS, [])]
 
     def put(self, figures: Sequence[GroupFigures], alerts: Sequence[Alert]) -> None:
-        self.last = (figures, alerts, time.time())
+        self.tables = [Table(FIGURES, figures), Table(ALERTS, alerts), Table(TIMES, [time.time()])]
 
-    def collect(self) -> Iterable[GaugeMetricFamily]:
-        figures, alerts, at = self.last
-        for name, key, parts, words in GROUPS:
-            values = [((each.path, *each.pod), getattr(each, key)) for each in figures]
-            yield gauge(name, words, ((labels, None if value is None else value / parts)
-                                      for labels, value in values))
-        yield gauge(OTHERS[0], "1 for each alert that holds.",
-                    (((each.condition, each.group, *each.pod), 1) for each in alerts),
-                    ("alert", "group", *POD_LABELS))
-        if at:
-            yield GaugeMetricFamily(OTHERS[1], "When the last round was.", value=at)
+    def collect(self) -> Iterator[Metric]:
+        for each in self.tables:
+            yield from each.metrics()
 
 
-class Held(Collector):
+class Held(Figured):
     """The line of a round of `hold`, on a host."""
 
     def __init__(self, line: dict[str, Any], host: Host) -> None:
-        self.line, self.one = line, Fraction(host.slice_us, host.period_us)
-        self.at = time.time()
+        one = Fraction(host.slice_us, host.period_us)
+        self.tables = [Table(held_columns(one), [*line["groups"].items()]),
+                       Table(HELD_ROUND, [{**line, "at": time.time()}])]
+        self.counts: dict[str, int] = line.get("scheduler", {})
 
-    def collect(self) -> Iterable[Metric]:
-        groups: dict[str, dict[str, Any]] = self.line["groups"]
-        for key, words in HELD.items():
-            yield gauge(f"arbiter_hold_{key}_cpus", words, (
-                ((path,), float("inf") if each[key] in (None, MAX_DEMAND) else each[key] * self.one)
-                for path, each in groups.items()), ("group",))
-        for key, words in FLAGS.items():
-            yield gauge(f"arbiter_hold_{key}", words,
-                        (((path,), each[key]) for path, each in groups.items()), ("group",))
-        for key, (name, words) in ROUND.items():
-            yield GaugeMetricFamily(f"arbiter_hold_{name}", words, value=self.line[key])
-        for key, value in self.line.get("scheduler", {}).items():
+    def collect(self) -> Iterator[Metric]:
+        yield from super().collect()
+        for key, value in self.counts.items():
             name, words = SCHEDULER[key]
             yield CounterMetricFamily(f"arbiter_hold_scheduler_{name}", words, value=value)
-        yield GaugeMetricFamily("arbiter_hold_round_timestamp_seconds", "When the last round was.",
-                                value=self.at)
 
 
 def text_of(collector: Collector) -> bytes:

@@ -6,14 +6,16 @@ import re
 import select
 import shutil
 import time
-from collections.abc import Callable, Iterator, Mapping
+from collections.abc import Callable, Iterator, Mapping, Sequence
 from contextlib import suppress
+from dataclasses import replace
 from fractions import Fraction
 
 from arbiter_host.answers import explain
 from arbiter_host.answers.explain import View
 from arbiter_host.base import names, text
 from arbiter_host.base.plan import Plan, PlannedGroup
+from arbiter_host.base.tables import Column, Table
 from arbiter_host.top import live
 from arbiter_host.top.live import FILTERS, HISTORY, SORTS, Keys, Lines, Recent
 from arbiter_host.top.top import PlannedRound
@@ -31,7 +33,7 @@ KEYS = (("q", "quit"), ("j k, arrows", "down and up by a row"), ("space b, PgDn 
 HINT = "? keys  q quit  / search"
 # From this width on rows begin with the history.
 WIDE = 90
-USED = 8
+USED = 6
 
 
 def used(plan: Plan, got: Fraction | None, unit: str) -> str:
@@ -59,7 +61,7 @@ class Viewer:
         """The view as keys have changed it."""
         return self.keys.view(self.view(plan))._replace(folded=self.folded)
 
-    def place(self, groups: list[PlannedGroup]) -> int:
+    def place(self, groups: Sequence[PlannedGroup]) -> int:
         """The row of the cursor; the first one where its group is not shown."""
         return next((at for at, each in enumerate(groups) if each.path == self.path), 0)
 
@@ -151,33 +153,31 @@ class Viewer:
                + (f", {used(plan, got, view.unit)} used" if got is not None else ""))
         yield list(explain.head(plan, view))[4]
 
-    def table(self, plan: Plan, view: View) -> tuple[str, list[tuple[str, str, str]]]:
-        """The heads of the columns; and each row with its path and its style."""
-        has_history = view.width >= WIDE
-        room = USED + (HISTORY + 1) * has_history
-        narrow = view._replace(width=max(view.width - room, 40))
-        found = explain.table(plan, narrow)
-        (head, _), *lines = found.lines()
+    def columns(self, plan: Plan, view: View) -> list[Column[PlannedGroup]]:
+        """The columns before those of the plan."""
+        history = [Column[PlannedGroup]("history", lambda each: self.history.line(each.path), True,
+                                        wide=HISTORY)]
+        return [*(history if view.width >= WIDE else []), Column("used", lambda each: used(
+            plan, self.got.get(each.path), view.unit), False, wide=USED)]
 
-        def begin(history: str, amount: str) -> str:
-            return f"{history:{HISTORY}} {amount:>{USED - 2}}  "[(HISTORY + 1) * (not has_history):]
-
-        if not lines:
-            return f"no group is {' or '.join(view.only)}", []
-        return begin("history", "used") + head, [
-            (group.path, style, begin(self.history.line(group.path), used(
-                plan, self.got.get(group.path), view.unit)) + line)
-            for group, (line, style) in zip(found.records, lines)]
+    def table(self, plan: Plan, view: View) -> Table[PlannedGroup]:
+        """The rows, behind what is measured."""
+        columns = self.columns(plan, view)
+        room = sum(each.wide + 2 for each in columns)
+        found = explain.table(plan, view._replace(width=max(view.width - room, 40)))
+        return replace(found, columns=[*columns, *found.columns], wide=found.wide + room)
 
     def lines(self, plan: Plan, height: int) -> Lines:
         """The lines of the screen: the head, the rows around the cursor, and what keys do."""
         view = self.now(plan)
         top = list(self.head(plan, view))
-        heads, rows = self.table(plan, view)
+        table = self.table(plan, view)
+        heads, *rows = table.lines() if table.records else [
+            (f"no group is {' or '.join(view.only)}", "bold")]
         self.page = max(height - len(top) - 3, 1)
-        at = next((at for at, (path, _, _) in enumerate(rows) if path == self.path), 0)
+        at = self.place(table.records)
         self.first = max(min(self.first, at, len(rows) - self.page), at - self.page + 1, 0)
-        body = [(line, "reverse" if place == at else style) for place, (_, style, line)
+        body = [(line, "reverse" if place == at else style) for place, (line, style)
                 in enumerate(rows[self.first:self.first + self.page], self.first)]
         if self.has_help:
             body = [(f"  {keys:20}{words}", "") for keys, words in KEYS][:self.page]
@@ -185,7 +185,7 @@ class Viewer:
         told = [f"row {min(at + 1, len(rows))} of {len(rows)}", HINT,
                 *(f"{name}: {value}" for name, value in chosen if value)]
         ground = f"/{names.shown(self.word)}" if self.is_typing else "  ".join(told)
-        return [*((line, "") for line in top), (heads, "bold"), *body,
+        return [*((line, "") for line in top), heads, *body,
                 *[("", "")] * (self.page - len(body)), (ground, "reverse")]
 
 
