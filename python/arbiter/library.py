@@ -5,13 +5,16 @@ import ctypes
 import os
 from array import array
 from collections.abc import Sequence
-from typing import Any, TypeAlias
+from typing import TYPE_CHECKING, Any, TypeAlias
 
-from arbiter import c, found, pipe
+from arbiter import c, found
 from arbiter.columns import (U8, U32, U64, Certificate, Columns, Counters, Figures, Host, Kind,
                              LeafTimes, QuotaColumns, Reading, Reason, Round, RoundTimes, Row,
                              Samples, Script, column, flag_column, given, in_range,
                              limits, number_or_none, zeros)
+
+if TYPE_CHECKING:
+    from arbiter.pipe import Calls
 
 # The rows of a tree, or their columns, which are made once for several calls.
 Rows: TypeAlias = Sequence[Row] | Columns
@@ -53,19 +56,20 @@ class Library:
 
     def __init__(self, path: str | os.PathLike[str] | None = None) -> None:
         self.path = os.fspath(path) if path else found.path()
-        self.calls: ctypes.CDLL | pipe.Calls
+        self.calls: ctypes.CDLL | Calls
         try:
             self.calls = c.load(self.path)
         except found.Unavailable:
             command = found.checked() if self.path == found.SONAME else []
             if not command:
                 raise
+            from arbiter import pipe  # (a library needs none)
             self.path, self.calls = command[-1], pipe.Calls(command)
 
     @property
     def is_proved(self) -> bool:
         """Whether the calls are those of a library. A checked build proves nothing."""
-        return not isinstance(self.calls, pipe.Calls)
+        return isinstance(self.calls, ctypes.CDLL)
 
     def name(self, number: int) -> str | None:
         """The name of a fault's number, None where the number is no fault's."""

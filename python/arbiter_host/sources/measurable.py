@@ -13,7 +13,6 @@ from arbiter_host.base.faults import HostFault
 from arbiter_host.base.model import Group, Model, bind
 from arbiter_host.base.names import parent_path
 from arbiter_host.base.owned import Owned
-from arbiter_host.sources import prometheus
 from arbiter_host.sources.source_options import DRIVERS, SourceOptions
 from arbiter_host.sources.usage import Used, some
 
@@ -132,6 +131,7 @@ def measured(sources: Sequence[S], entries: Sequence[Used],
              name: str) -> tuple[list[S], list[str]]:
     """Sources with what others measured of them, also of replicas that are gone or elsewhere, and
     what is told of these and of all other entries."""
+    from arbiter_host.sources import prometheus  # (a source alone needs none)
     known: list[dict[Place, Measured]] = [{} for _ in sources]
     replicas, here = list[tuple[str, Use]](), list[Mapping[str, str]]()
     away = list[Used]()
