@@ -110,27 +110,23 @@ ALERTS: list[Column[Alert]] = [
 TIMES: list[Column[float]] = [metric(
     "arbiter_round_timestamp_seconds", "When the last round was.", lambda each: each)]
 NAMES = [*(name for name, *_ in GROUPS), ALERTS[-1].key, TIMES[0].key]
-# A group of the line of a round of a loop, by its path.
-HeldGroup = tuple[str, dict[str, Any]]
+# The line of a round of a loop, or that of one of its groups.
+Line = dict[str, Any]
 
 
-def held_columns(one: Fraction) -> list[Column[HeldGroup]]:
+def held_columns(one: Fraction) -> list[Column[Line]]:
     """The columns of the groups of a loop, by the CPUs of a slice."""
-    def cpus(key: str, each: HeldGroup) -> Any:
-        slices = each[1][key]
-        return float("inf") if slices in (None, MAX_DEMAND) else slices * one
+    def cpus(key: str, each: Line) -> Any:
+        return float("inf") if each[key] in (None, MAX_DEMAND) else each[key] * one
 
-    def flag(key: str, each: HeldGroup) -> Any:
-        return each[1][key]
-
-    return [label("group", lambda each: each[0]),
+    flags: list[Column[Line]] = [metric(f"arbiter_hold_{key}", words, itemgetter(key))
+                                 for key, words in FLAGS.items()]
+    return [label("group", itemgetter("group")),
             *(metric(f"arbiter_hold_{key}_cpus", words, partial(cpus, key))
-              for key, words in HELD.items()),
-            *(metric(f"arbiter_hold_{key}", words, partial(flag, key))
-              for key, words in FLAGS.items())]
+              for key, words in HELD.items()), *flags]
 
 
-HELD_ROUND: list[Column[dict[str, Any]]] = [
+HELD_ROUND: list[Column[Line]] = [
     metric(f"arbiter_hold_{name}", words, itemgetter(key)) for key, (name, words) in ROUND.items()]
 
 
@@ -151,9 +147,10 @@ class Figured(Collector):
 class Held(Figured):
     """The line of a round of `hold`, on a host."""
 
-    def __init__(self, line: dict[str, Any], host: Host) -> None:
+    def __init__(self, line: Line, host: Host) -> None:
         one = Fraction(host.slice_us, host.period_us)
-        self.tables = [Table(held_columns(one), [*line["groups"].items()]),
+        self.tables = [Table(held_columns(one), [
+            {"group": path, **each} for path, each in line["groups"].items()]),
                        Table(HELD_ROUND, [{**line, "at": time.time()}])]
         self.counts: dict[str, int] = line.get("scheduler", {})
 
