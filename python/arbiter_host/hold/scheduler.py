@@ -81,7 +81,7 @@ class Given(NamedTuple):
 
 
 class Counts(NamedTuple):
-    """What the scheduler counted since it was loaded: picks, turns of tasks that waited for long,
+    """Counts of the scheduler since it was loaded: picks, turns of tasks that waited for long,
     stops of leaves at a limit, and tasks that got no number."""
 
     picks: int
