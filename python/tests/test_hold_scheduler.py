@@ -96,7 +96,8 @@ def test_a_plan_is_given_and_nothing_is_written(folder, begun):
         "a": (50, 200, 80, True), "b": (80, 200, 80, True), "c": (40, 40, 40, False)}
     assert (one["written"], two["written"]) == (3, 3)
     assert [each["scheduler"] for each in (one, two)] == [
-        {"picks": picks, "late": late, "stops": 2, "unplanned": 3} for picks, late in ((0, 0), (10, 1))]
+        {"picks": picks, "late": late, "stops": 2, "unplanned": 3}
+        for picks, late in ((0, 0), (10, 1))]
     told = commands(folder)
     top, a, b, c = (number(world, path) for path in (".", *"abc"))
     # b has a limit: 80 ms of 100. c may have as much as both others, and asks for less. Guarantees

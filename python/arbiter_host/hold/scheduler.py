@@ -154,7 +154,8 @@ class Scheduler:
         """The times of each group of the last plan since the last reading, by the number of its
         folder. What was counted is kept."""
         self.say("read")
-        *leaves, counts, last = [[], *self.answer("read")]
+        lines: list[list[str]] = [[], *self.answer("read")]
+        *leaves, counts, last = lines
         try:
             passed = int(last[1])
             if counts[:1] != ["counts"]:
