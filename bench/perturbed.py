@@ -51,7 +51,7 @@ class Tree(NamedTuple):
 
 def tree(chosen: random.Random) -> Tree:
     """A random tree of one or two levels, and the plan that tests/plan_model.py has for it."""
-    processors = chosen.choice([2, 3, 4, 8, 16, 64])
+    processors = chosen.choice([1, 2, 3, 4, 8, 16, 64])
     capacity = processors * PERIOD_US // SLICE_US
     rows, paths, lines = [MODEL.Row(None)], ["."], []
 
