@@ -52,6 +52,14 @@ def ended(*words):
     return found.returncode, found.stdout, found.stderr
 
 
+def test_no_folder_of_the_machine(loader):
+    """Neither the loader nor what it gives the kernel says where it was made. A release refuses
+    one that does."""
+    for path in loader.parent.iterdir():
+        found = [each for each in (ROOT, loader.parent) if os.fsencode(each) in path.read_bytes()]
+        assert not found, path.name
+
+
 def test_wrong_words(loader):
     """Another number of words, and an unknown option."""
     for words in ([], ["a", "b"], ["--trace", "a"], ["--help"]):
