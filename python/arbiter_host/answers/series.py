@@ -6,6 +6,9 @@ that the proved check has not accepted.
 """
 from __future__ import annotations
 
+import csv
+import functools
+import io
 import itertools
 import json
 from array import array
@@ -21,7 +24,7 @@ from arbiter_host.base.faults import HostFault, UsageFault
 from arbiter_host.base.model import Model, checked
 from arbiter_host.base.names import cut, parent_path, short, shown
 from arbiter_host.base.plan import Engine
-from arbiter_host.base.tables import Column, Forms, Table, TableAnswer
+from arbiter_host.base.tables import Column, Forms, Table, TableAnswer, shown_in
 from arbiter_host.sources.samples import History
 
 FLAGS = (("T", "throttled", "#b4231f"), ("t", "throttled, not by its limit", "#d97706"),
@@ -38,7 +41,7 @@ MOST_CELLS = 1 << 20
 EDGE, LEFT, WIDE, TALL, STRIP, GAP, TOP = 16, 64, 760, 84, 5, 44, 64
 
 
-@dataclass
+@dataclass(slots=True)
 class SampleCell:
     """One group in one sample: sums over its periods, in slices, and counts of periods."""
 
@@ -209,11 +212,11 @@ def set_demands(model: Model, path_of: Mapping[str, str], asked: Mapping[str, Fr
             model.groups[path_of[name]].demand = demand
 
 
-def written(series: Series, slices: Fraction, unit: str) -> str:
-    """A mean of slices in a unit."""
-    host = series.host
+@functools.lru_cache(1 << 16)
+def written(host: Host, slices: int, periods: int, unit: str) -> str:
+    """A mean of slices over periods in a unit."""
     one = units.thousandths_of_slices(1, host.period_us, host.slice_us)
-    value = text.in_unit(host, slices * one, unit)
+    value = text.in_unit(host, Fraction(slices, max(periods, 1)) * one, unit)
     return units.decimal(value, 3 if unit == "cpu" else 1)
 
 
@@ -231,8 +234,8 @@ def counted(title: str, key: str) -> Column[Sums]:
 def table(series: Series, unit: str) -> Table[Sums]:
     """The sums of each group as a table. `wanted` and `got` are means."""
     def mean(key: str) -> Column[Sums]:
-        return Column(key, lambda each: written(
-            series, Fraction(each[1][key], max(each[1]["periods"], 1)), unit))
+        return Column(key, lambda each: written(series.host, each[1][key], each[1]["periods"],
+                                                unit))
 
     return Table([
         Column("group", lambda each: short(shown(each[0])), True), mean("wanted"), mean("got"),
@@ -249,7 +252,7 @@ def records(series: Series, unit: str) -> Table[Sampled]:
     def amount(title: str, key: str) -> Column[Sampled]:
         def value(each: Sampled) -> str | None:
             slices = getattr(each[2], key)
-            return None if slices is None else written(series, each[2].mean(slices), unit)
+            return None if slices is None else written(series.host, slices, each[2].periods, unit)
 
         return column(title, value)
 
@@ -265,14 +268,26 @@ def records(series: Series, unit: str) -> Table[Sampled]:
 
 def column(key: str, value: Callable[[Sampled], Any]) -> Column[Sampled]:
     """A column of numbers, whose title is its key."""
-    return Column(key, lambda each: "-" if value(each) is None else str(value(each)), key=key,
+    return Column(key, lambda each: "-" if (found := value(each)) is None else str(found), key=key,
                   value=value)
+
+
+def csv_of(table_: Table[Sampled]) -> str:
+    """A table as CSV, as its own form has it, a row at a time: samples are many."""
+    written_, columns = io.StringIO(), shown_in(table_.columns, "csv")
+    writer = csv.writer(written_, lineterminator="\n")
+    writer.writerow([each.title for each in columns])
+    for record in table_.records:
+        cells = ((each, each.cell(record)) for each in columns)
+        writer.writerow([shown(cell) if each.is_left else "" if cell == "-" else cell
+                         for each, cell in cells])
+    return written_.getvalue()
 
 
 def forms(series: Series, unit: str) -> Forms:
     """The forms of samples."""
-    return {**TableAnswer(lambda: [table(series, unit)], dict,
-                          files=lambda: [records(series, unit)]).forms(),
+    return {**TableAnswer(lambda: [table(series, unit)], dict).forms(),
+            "csv": lambda: csv_of(records(series, unit)),
             "json": lambda: json.dumps({"unit": unit, "records": records(series, unit).data()},
                                        indent=1) + "\n",
             "svg": lambda: picture(series)}
