@@ -156,6 +156,11 @@ class Owned:
         """This with what another source of its kind has; None where they cannot be one."""
         return None
 
+    @functools.cached_property
+    def weighs(self) -> Sequence[object]:
+        """All that tells the weights of groups, and where they stand."""
+        return [(path, each.weight) for path, each in self.plain.groups.items()]
+
     def weighing(self, path: str) -> Range:
         """Values that can be asked for of the setting that weighs a group."""
         return self.ranges(path)[0]

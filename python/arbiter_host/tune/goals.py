@@ -1,6 +1,7 @@
 """Goals of groups of a plan: what each is to get at least, and settings that meet all of them."""
 from __future__ import annotations
 
+import functools
 from collections import Counter
 from collections.abc import Callable, Sequence
 from dataclasses import dataclass
@@ -12,6 +13,7 @@ from arbiter_host.base import demands, search, units
 from arbiter_host.base.faults import HostFault, UsageFault, naming
 from arbiter_host.base.model import Model
 from arbiter_host.base.names import shown
+from arbiter_host.base.owned import Setting
 from arbiter_host.base.plan import Plan, PlannedGroup, plan, walk
 
 NO_CHANGE = "all goals are met as it stands: nothing changes"
@@ -125,6 +127,19 @@ class Goals:
             needs[group.row] = max(needs[group.row], below[group.row])
             below[group.parent or 0] += needs[group.row]
         return needs
+
+    @functools.cached_property
+    def beyond(self) -> frozenset[int]:
+        """The rows of goals above all that their groups ask for. No setting meets these."""
+        asked = list(self.columns.demands)
+        for group in reversed(self.before.groups[1:]):
+            asked[group.parent or 0] += asked[group.row]
+        return frozenset(goal.group.row for goal in self.goals if asked[goal.group.row] < goal.amount)
+
+    @functools.cached_property
+    def tried(self) -> dict[tuple[int, frozenset[Setting]], int]:
+        """What the group of a row gets under settings of the source that were tried."""
+        return {}
 
     def amount(self, after: Plan, row: int) -> int:
         """The measure of a group's goal in a plan."""

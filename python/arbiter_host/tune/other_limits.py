@@ -91,17 +91,16 @@ def owned_cap_of(before: Plan, source: Owned, group: PlannedGroup) -> Cap | None
 
     least = max(-(-amount(first) // before.thousandths(1)), 1)
     cap = Cap(group.path, of.key, of.now, int(least), written)
-    return cap if is_lone(before.model, source, cap) else None
+    return cap if is_lone(source, cap) else None
 
 
-def is_lone(model: Model, source: Owned, cap: Cap) -> bool:
+def is_lone(source: Owned, cap: Cap) -> bool:
     """Whether a limit changes no group's weight or class."""
     try:
-        after = source.changed([Setting(cap.path, cap.key, cap.written(cap.least))]).plain
+        after = source.changed([Setting(cap.path, cap.key, cap.written(cap.least))])
     except HostFault:
         return False
-    return [(path, each.weight) for path, each in after.groups.items()] == [
-        (path, each.weight) for path, each in model.groups.items()]
+    return after.weighs == source.weighs
 
 
 def caps_of(goals: Goals) -> dict[int, Cap]:
@@ -116,9 +115,11 @@ def caps_of(goals: Goals) -> dict[int, Cap]:
         return by_weight if goals.is_guaranteed else by_weight[::-1]
 
     for group in sorted(limitable(goals, can_be), key=order, reverse=True):
+        if len(caps) == MOST_LOWERED:
+            break
         cap = owned_cap_of(before, source, group) if source else cap_of(before, group)
         most = before.capacity if group.limit is None else min(group.limit, before.capacity)
-        if cap is not None and cap.least < most and len(caps) < MOST_LOWERED:
+        if cap is not None and cap.least < most:
             caps[group.row] = cap
     return caps
 

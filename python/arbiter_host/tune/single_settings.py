@@ -57,9 +57,10 @@ def of_call(goals: Goals, name: str, now: int | None, host: Host,
          call: Callable[[Host, Columns, int, int], int | None]) -> SingleSetting:
     """A setting with its least value by a call of the library, whose accepted plan has to reach the
     amount."""
-    (goal,), before = goals.goals, goals.before
-    with asking(call.__name__):
-        value = call(host, before.columns, goal.group.row, goal.amount)
+    (goal,), before, value = goals.goals, goals.before, None
+    if not goals.beyond:
+        with asking(call.__name__):
+            value = call(host, before.columns, goal.group.row, goal.amount)
     if value is None:
         return SingleSetting(name, now, None, None)
     after = goals.plan_of(with_value(before.model, goal.group.path, name, value))

@@ -60,5 +60,5 @@ def tune(before: Plan, words: Sequence[str], is_guaranteed: bool = False,
     is_met = isinstance(weights, Way) or isinstance(settings, Way)
     is_alone = len(goals) == 1 and not is_guaranteed and chosen is None
     return Tuned(asked, asked.amounts(before), weights, settings,
-                 None if is_met else by_limits(asked),
+                 None if is_met or asked.beyond else by_limits(asked),
                  tuple(single_settings.each_of(asked)) if is_alone else ())

@@ -54,13 +54,22 @@ class Raised:
 
     def ranges(self, row: int) -> list[Range]:
         """The values of the settings of a row, beside the others."""
-        changed = self.source.changed(self.every)
+        changed = self.source.changed(self.every) if self.every else self.source
         return changed.ranges(list(changed.plain.groups)[row - 1])
 
     def least(self, goal: Goal, row: int, of: Range) -> int | None:
         """The least value of a setting of a row that meets one goal."""
-        return search.least_of(of.parts, lambda each: self.goals.amount(
-            self.with_value(row, of, each).plan(), goal.group.row) >= goal.amount)
+        if goal.group.row in self.goals.beyond:
+            return None
+        return search.least_of(of.parts, lambda each: self.with_value(row, of, each).amount(
+            goal.group.row) >= goal.amount)
+
+    def amount(self, row: int) -> int:
+        """What the group of a row gets. Each plan for it is made once."""
+        key, tried = (row, frozenset(self.every)), self.goals.tried
+        if key not in tried:
+            tried[key] = self.goals.amount(self.plan(), row)
+        return tried[key]
 
     def row_of(self, goal: Goal) -> int | str:
         """The row of the setting that a goal can be met by, or why there is none."""
@@ -88,10 +97,10 @@ class Raised:
         """Settings with the least value that meets one goal under the greatest limit, and then the
         least limit beside it; None where the row has no limit, or none helps."""
         limit = self.ranges(row)[1]
-        if limit.now == "-" or not limit.parts:
+        if limit.now == "-" or not limit.parts or goal.group.row in self.goals.beyond:
             return None
         wide = self.with_value(row, limit, limit.parts[-1][1])
-        if self.goals.amount(wide.plan(), goal.group.row) < goal.amount:
+        if wide.amount(goal.group.row) < goal.amount:
             of = wide.ranges(row)[0]
             value = wide.least(goal, row, of)
             if value is None:
