@@ -89,7 +89,7 @@ class Proposal:
 
     @property
     def most(self) -> Fraction:
-        return max(self.use.values)
+        return self.use.values.most
 
     @property
     def is_throttled(self) -> bool:

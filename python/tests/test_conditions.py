@@ -320,6 +320,23 @@ def test_a_greater_priority_goes_first(ctl):
         ("x/high", "a"), ("x/low", None)]
 
 
+@pytest.mark.parametrize("asked, here, is_told", [
+    ({"priority": 9}, {}, True), ({"priority": 9}, {"priority": 8}, True),
+    ({"priority": 9}, {"priority": 9}, False), ({}, {}, False), ({}, {"priority": -5}, True),
+    ({"priority": 9, "preemptionPolicy": "Never"}, {}, False)])
+def test_whom_the_scheduler_would_evict_is_told(calls, asked, here, is_told):
+    """A pod of 2 CPUs has no room beside one of 7, and a greater priority."""
+    low, high = pod("low", here, cpu="7"), pod("high", asked, cpu="2")
+    low["spec"]["nodeName"], low["status"]["phase"] = "a", "Running"
+    source, wanted = (reading.pods([("p", listed(*each))], Host(8, 1000000, 1000), calls).owned
+                      for each in ((node("a"), low), (high,)))
+    with pytest.raises(HostFault) as fault:
+        source.joined(wanted)
+    words = "it requests 2000m, and 8000m less the 7000m of others are there"
+    assert fault.value.message == words + (
+        ", some of less priority, which may be evicted for it" if is_told else "")
+
+
 def test_a_quantity_that_is_none(ctl):
     """A malformed amount of any resource is refused, and names where it is."""
     given = listed(node("a", memory="much"), node("b"), pod("p"))

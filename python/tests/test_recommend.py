@@ -5,8 +5,13 @@ from pathlib import Path
 
 import pytest
 import trees
+from arbiter import Host
 from arbiter_host import recommend
-from arbiter_host.base.faults import UsageFault
+from arbiter_host.base import demands
+from arbiter_host.base.faults import HostFault, UsageFault
+from arbiter_host.sources import samples
+from hypothesis import given
+from hypothesis import strategies as st
 
 FIXTURES = Path(__file__).parent / "fixtures"
 PODS, NODE = FIXTURES / "pods.json", FIXTURES / "node.json"
@@ -45,6 +50,33 @@ def top_of(folder, **used):
     lines = [f"x {name} c {amount} 1Mi\n" for name, amount in used.items()]
     (folder / "top").write_text("NAMESPACE POD NAME CPU(cores) MEMORY(bytes)\n" + "".join(lines))
     return folder / "top"
+
+
+SAMPLES = st.lists(st.sampled_from([
+    "0", "1", "0.1", "0.10", ".5", "00.25", "1e-9", "2.5E-07", "12345678901234.5", "1e-29", "7.",
+    "0.000012345678901234567890123456", "1e3", "3m", "40%", "0,5", "1.0cpu"]) | st.floats(
+        1e-20, 64, allow_nan=False).map(repr), min_size=1, max_size=30)
+
+
+@given(cells=SAMPLES, unit=st.sampled_from(["cpu", "m", "%", "us", "slices"]),
+       percent=st.integers(1, 100))
+def test_numbers_that_are_read_at_once(cells, unit, percent):
+    """They are those that are read one by one, in order and as a sum, in exact fractions."""
+    host = Host(3, 70000, 7000)
+    values = samples.values_of(cells, unit, host, ["F"] * len(cells))
+    wanted = [samples.demand_of(each, unit, host, "F") for each in cells]
+    assert list(values) == wanted and list(values[1:]) == wanted[1:]
+    assert values.mean == sum(wanted) / len(wanted) and values.most == max(wanted)
+    place = -(-len(wanted) * percent // 100)
+    assert demands.percentile(values, percent) == sorted(wanted)[place - 1]
+    other = demands.Values.of([Fraction(1, 3), Fraction(2)])
+    assert list(demands.joined([values, other])) == [*wanted, Fraction(1, 3), Fraction(2)]
+
+
+@pytest.mark.parametrize("cell", ["x", "1\n2", "-1", "1_000", "inf", "\uff11", "1e40", "", "1 2"])
+def test_a_number_that_is_none_is_told_with_its_place(cell):
+    with pytest.raises(HostFault, match="G: "):
+        samples.values_of(["0.5", cell], "cpu", Host(), ["F", "G"])
 
 
 def test_who_is_short_and_what_is_guaranteed(ctl, folder):

@@ -81,6 +81,21 @@ def test_repeated_periods_are_periods(engine, quota, burst, before, after, perio
             assert cell.limit == sum(each.limit for each in part)
 
 
+def test_a_row_at_a_time_is_the_form_of_tables(engine):
+    """A limit and none, names that are escaped and quoted, amounts of several periods."""
+    cells = [series.SampleCell(at, 2 * at, None if at % 2 else 9, 3, at, 0, 1, 0, 5)
+             for at in range(4)]
+    found = series.Series(["a,b", "x\x1b", "1", "-"], {"g/\u202e": cells, ".": cells[::-1]},
+                          Host(2, 100000, 7000))
+    for unit in ("cpu", "m", "%", "us", "slices"):
+        table = series.records(found, unit)
+        assert series.csv_of(table) == table.csv()
+    rows = rows_of(series.csv_of(series.records(found, "us")))
+    # (a mean of three periods of 7000 microseconds)
+    assert [(each["gets"], each["limit"]) for each in rows[:4:2]] == [("0", "21000"),
+                                                                      ("2333.3", "")]
+
+
 def demands_of(data, path="f.csv"):
     """The demands of each sample of a file."""
     return [each for _, each in samples.read(data, path).demands("cpu", Host())]
@@ -174,6 +189,27 @@ def test_a_pod_stands_for_its_one_container(ctl, folder):
     (folder / "d.csv").write_text("time,prod/web-7c9f\n1,0.7\n")
     assert ("column prod/web-7c9f: 2 groups: --map prod/web-7c9f=GROUP"
             in ctl.run(*words, "--node", "n1", status=1)[1])
+
+
+def test_groups_of_a_namespace_and_of_labels(ctl, folder):
+    """-n and -l choose pods and their containers as kubectl does, without pause containers."""
+    items = [{"metadata": {"namespace": namespace, "name": name, "uid": name, "labels": labels},
+              "spec": {"containers": [{"name": "c"}]}}
+             for namespace, name, labels in (("n", "a", {"app": "web"}), ("n", "b", {}),
+                                             ("m", "d", {"app": "web"}))]
+    (folder / "p.json").write_text(json.dumps({"kind": "PodList", "items": items}))
+    (folder / "h.csv").write_text("time,n/a/c,n/b/c,m/d/c\n1,0.5,0.25,0.125\n")
+    words = ("replay", folder / "p.json", "--cpus", "4", "--used", folder / "h.csv", "-o", "csv")
+    tree = "kubepods/besteffort"
+    for more, wanted in ((("-n", "n"), {f"{tree}/n:a": "0.5", f"{tree}/n:a/c": "0.5",
+                                        f"{tree}/n:b": "0.25", f"{tree}/n:b/c": "0.25"}),
+                         (("-l", "app=web", "-n", "m"), {f"{tree}/m:d": "0.125",
+                                                         f"{tree}/m:d/c": "0.125"}),
+                         (("-g", "n:b", "-g", "."), {".": "0.875", f"{tree}/n:b": "0.25",
+                                                     f"{tree}/n:b/c": "0.25"})):
+        rows = rows_of(ctl.run(*words, *more)[0])
+        assert {row["group"]: row["gets"] for row in rows} == wanted
+    assert "no pod of -n z" in ctl.run(*words, "-n", "z", status=6)[1]
 
 
 def test_columns_and_groups(ctl, folder):

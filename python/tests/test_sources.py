@@ -745,6 +745,20 @@ def test_pods_of_several_nodes(engine):
     assert sum("/pause" in each.title for each in model.groups.values()) == 1
 
 
+@pytest.mark.parametrize("many, left_out", [(4095, 0), (4096, 4096)])
+def test_pause_containers_of_many_pods(calls, many, left_out):
+    """Two containers, the pod and its pause container: 4 groups a pod, beside kubepods and its two
+    classes, and 16383 below the root at most. Without pause containers there are 3 a pod."""
+    spec = {"containers": [{"name": "c", "resources": {"requests": {"cpu": "1m"}}}, {"name": "d"}]}
+    items = [{"metadata": {"name": f"p{at}", "uid": f"u{at}"}, "spec": spec} for at in range(many)]
+    model = reading.pods([("p", json.dumps(items).encode())], EIGHT, calls)
+    assert len(model.groups) == 3 + 4 * many - left_out <= 16383
+    assert sum(each.is_pause for each in model.groups.values()) == many - left_out
+    assert sum(each.demand for each in model.groups.values()) == many
+    note = f"pause containers, left out of {3 + 4 * many} groups: they ask for nothing"
+    assert (note in model.notes) == (left_out > 0)
+
+
 # systemd, docker, podman
 
 def test_units():

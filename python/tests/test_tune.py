@@ -13,13 +13,15 @@ import time
 from fractions import Fraction
 
 import pytest
+import reading
 from arbiter import Host
 from arbiter_host.base import demands, progress
 from arbiter_host.base.faults import HostFault
 from arbiter_host.base.model import Group, Model
 from arbiter_host.base.plan import Engine, plan
-from arbiter_host.sources import change, selection
-from arbiter_host.tune import goals as goals_, other_limits, tune, tune_settings, tune_weights
+from arbiter_host.sources import change, kubernetes, selection
+from arbiter_host.tune import (goals as goals_, other_limits, single_settings, tune, tune_settings,
+                               tune_weights)
 from arbiter_host.tune.goals import Clash
 from hypothesis import HealthCheck, given, settings
 from hypothesis import strategies as st
@@ -153,6 +155,68 @@ def test_more_than_is_asked(ctl, folder):
     assert "no raise of weights that may change meets this goal by today's demands, in CPUs" in out
     assert "asked for in all: 0.40; a can be given 0.30 at most" in out
     assert "a asks for less: no setting gives it more than it asks for" in out
+
+
+class Counted(Engine):
+    """Counts its plans."""
+
+    plans = 0
+
+    def plan(self, host, rows):
+        self.plans += 1
+        return super().plan(host, rows)
+
+
+def pods_of(calls, many, **words):
+    """A node of one CPU whose pods request a thousandth each."""
+    items = [{"metadata": {"name": f"p{at}", "uid": f"u{at}"}, "spec": {"containers": [
+        {"name": "c", "resources": {"requests": {"cpu": "1m"}}}]}} for at in range(many)]
+    return reading.pods([("p", json.dumps(items).encode())], Host(1, 1000000, 1000), calls,
+                        **words)
+
+
+@pytest.mark.parametrize("words, plans", [(["*p3/c=2m"], 4), (["*p3/c=2m", "*p4/c=1m"], 4)])
+def test_a_goal_above_all_that_is_asked_is_refused_at_once(calls, words, plans):
+    """No setting is searched, of that group or of others."""
+    engine = Counted(calls)
+    before = plan(engine, pods_of(calls, 30))
+    found = tune.tune(before, words)
+    assert found.best is None and isinstance(found.weights, Clash) and engine.plans <= plans
+    assert all(each.least is None for each in found.alone)
+    assert ("p3/c: no request reaches its goal" in found.owned) and found.limits is None
+
+
+def test_what_children_ask_is_asked_by_a_group(engine):
+    """A limit of a child holds its group back, and another one reaches the goal."""
+    model = Model(Host(1, 100000, 1000))
+    for path, quota, demand in (("a", None, 0), ("a/x", 10000, 500), ("a/y", None, 100)):
+        model.add(Group(path, quota=quota, demand=Fraction(demand)))
+    before = plan(engine, model)
+    (goal,) = goals_.goals_of(before, ["a=600m"])
+    assert goal.group.want == 20 and not goals_.Goals(before, (goal,), False).beyond
+    (goal,) = goals_.goals_of(before, ["a=601m"])
+    assert goals_.Goals(before, (goal,), False).beyond == {goal.group.row}
+    assert goals_.Goals(before, (goal,), True).beyond == {goal.group.row}
+
+
+def test_settings_are_tried_once(calls):
+    """A request alone is searched where all settings are. Limits of 64 others are looked at, and
+    these are looked through without a model of all pods."""
+    engine = Counted(calls)
+    before = plan(engine, pods_of(calls, 80, want="busy"))
+    tune.tune(before, ["*p3/c=40m"])
+    first, engine.plans = engine.plans, 0
+    asked_ = goals_.Goals(before, goals_.goals_of(before, ["*p3/c=40m"]), False)
+    tune_settings.by_settings(asked_, Clash(before.root, asked_.goals))
+    again, engine.plans = engine.plans, 0
+    single_settings.each_of(asked_)
+    assert engine.plans < again < first and engine.plans <= 14
+    built = []
+    with pytest.MonkeyPatch.context() as patch:
+        patch.setattr(kubernetes.PodBuilder, "classes", lambda _: built.append(1))
+        caps = [other_limits.owned_cap_of(before, before.model.owned, each)
+                for each in before.groups[4:40] if before.model.owned.has(each.path)]
+    assert not built and all(caps)
 
 
 def test_less_weight(ctl, folder):

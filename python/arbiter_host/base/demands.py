@@ -1,11 +1,12 @@
 """Demands from what was measured: usage, peak, 95th percentile, pressure, limit, request, busy."""
 from __future__ import annotations
 
+import functools
 import math
-from collections.abc import Callable, Sequence
+from collections.abc import Callable, Iterable, Sequence
 from dataclasses import dataclass, field, replace
 from fractions import Fraction
-from typing import NamedTuple
+from typing import NamedTuple, overload
 
 from arbiter import Host
 from arbiter_host.base import names, units
@@ -24,6 +25,64 @@ MOST_PRESSURE = Fraction(19, 20)
 Place = tuple[int, int]
 # The seconds at which the first and the last sample was.
 Times = tuple[Fraction, Fraction]
+
+
+@dataclass(frozen=True)
+class Values(Sequence[Fraction]):
+    """Values of CPU, as whole numbers of one part of a thousandth of a CPU: these are put in order
+    and added up in a hundredth of the time of fractions."""
+
+    numbers: Sequence[int] = ()
+    part: Fraction = Fraction(1)
+
+    @classmethod
+    def of(cls, amounts: Iterable[Fraction]) -> Values:
+        """The amounts of fractions."""
+        ratios = [each.as_integer_ratio() for each in amounts]
+        whole = math.lcm(*{below for _, below in ratios})
+        return cls([above * (whole // below) for above, below in ratios], Fraction(1, whole))
+
+    @overload
+    def __getitem__(self, at: int) -> Fraction: ...
+
+    @overload
+    def __getitem__(self, at: slice) -> Values: ...
+
+    def __getitem__(self, at: int | slice) -> Fraction | Values:
+        if isinstance(at, slice):
+            return replace(self, numbers=self.numbers[at])
+        return self.numbers[at] * self.part
+
+    def __len__(self) -> int:
+        return len(self.numbers)
+
+    @functools.cached_property
+    def ordered(self) -> Sequence[int]:
+        """The numbers from the least to the greatest."""
+        return sorted(self.numbers)
+
+    @property
+    def most(self) -> Fraction:
+        """The greatest amount; 0 of none."""
+        return percentile(self, 100)
+
+    @property
+    def mean(self) -> Fraction:
+        """The mean; 0 of none."""
+        return sum(self.numbers) * self.part / max(len(self.numbers), 1)
+
+
+NONE = Values()
+
+
+def joined(every: Sequence[Values]) -> Values:
+    """Values one after another."""
+    whole = math.lcm(*(each.part.denominator for each in every))
+    numbers = list[int]()
+    for each in every:
+        times = each.part.numerator * (whole // each.part.denominator)
+        numbers += each.numbers if times == 1 else [times * number for number in each.numbers]
+    return Values(numbers, Fraction(1, whole))
 
 
 class CounterReading(NamedTuple):
@@ -45,7 +104,7 @@ class Measured:
     # Number of its tasks where it was read.
     tasks: int | None = None
     # Thousandths of a CPU that it used at one time or more, as others have measured it, and when.
-    told: tuple[Fraction, ...] = ()
+    told: Values = NONE
     times: Times | None = None
 
 
@@ -54,7 +113,7 @@ class Use:
     """The use that was seen of a group: thousandths in each sample, what it wanted at least where
     its limit has throttled it, and when; None where that is not told."""
 
-    values: tuple[Fraction, ...]
+    values: Values
     wanted: Fraction = Fraction(0)
     times: Times | None = None
     # The groups of which it is, such as replicas of one container.
@@ -71,7 +130,7 @@ class Use:
 def together(uses: Sequence[Use]) -> Use:
     """The use that was seen of several groups that have the same settings."""
     times = [each.times for each in uses if each.times is not None]
-    return Use(tuple(value for each in uses for value in each.values),
+    return Use(joined([each.values for each in uses]),
                max(each.wanted for each in uses),
                (min(times)[0], max(last for _, last in times)) if times else None, len(uses))
 
@@ -90,12 +149,11 @@ def rises(readings: Sequence[CounterReading], key: str) -> list[int]:
     return [] if None in steps else [each for each in steps if each is not None]
 
 
-def used(measured: Measured, seconds: Fraction) -> list[Fraction]:
+def used(measured: Measured, seconds: Fraction) -> Values:
     """Thousandths of a CPU that a group used from each reading to the next."""
     if measured.told:
-        return list(measured.told)
-    return [units.thousandths_of_usage(usec, seconds)
-            for usec in rises(measured.readings, "usage")]
+        return measured.told
+    return Values(rises(measured.readings, "usage"), units.thousandths_of_usage(1, seconds))
 
 
 def mean(values: Sequence[Fraction]) -> Fraction:
@@ -103,11 +161,11 @@ def mean(values: Sequence[Fraction]) -> Fraction:
     return sum(values, Fraction(0)) / len(values) if values else Fraction(0)
 
 
-def percentile(values: Sequence[Fraction], percent: int) -> Fraction:
+def percentile(values: Values, percent: int) -> Fraction:
     """The least value that so many percent of the values do not exceed; 0 of none."""
     if not values:
         return Fraction(0)
-    return sorted(values)[max(math.ceil(len(values) * percent / 100) - 1, 0)]
+    return values.ordered[max(math.ceil(len(values) * percent / 100) - 1, 0)] * values.part
 
 
 def limit_of(group: Group, host: Host) -> Fraction:
@@ -122,7 +180,7 @@ def pressed(group: Group, measured: Measured, host: Host, seconds: Fraction) -> 
     Usage is divided by the part of the time without pressure. A throttled group wants at least
     its limit, raised by its periods over those that were not throttled.
     """
-    usage = mean(used(measured, seconds))
+    usage = used(measured, seconds).mean
     waited = sum(rises(measured.readings, "pressure"))
     span = seconds * 10**6 * max(len(measured.readings) - 1, 1)
     demand = usage / (1 - min(Fraction(waited) / span, MOST_PRESSURE))
@@ -143,9 +201,9 @@ def use_of(group: Group, measured: Measured, host: Host, seconds: Fraction) -> U
     periods, throttled = (sum(rises(measured.readings, key)) for key in ("periods", "throttled"))
     part = Fraction(min(throttled, periods), periods) if periods else None
     if not throttled:
-        return Use(tuple(values), times=times, throttled=part)
+        return Use(values, times=times, throttled=part)
     counted = replace(measured, readings=[each._replace(pressure=0) for each in measured.readings])
-    return Use(tuple(values), pressed(group, counted, host, seconds), times, throttled=part)
+    return Use(values, pressed(group, counted, host, seconds), times, throttled=part)
 
 
 def wanted(want: str, group: Group, measured: Measured, host: Host,
@@ -162,7 +220,7 @@ def wanted(want: str, group: Group, measured: Measured, host: Host,
         return None
     if want == "psi":
         return pressed(group, measured, host, seconds)
-    return {"usage": mean(values), "peak": max(values), "p95": percentile(values, 95)}[want]
+    return {"usage": values.mean, "peak": values.most, "p95": percentile(values, 95)}[want]
 
 
 def asked_words(want: str, measured: Sequence[Measured], seconds: Fraction) -> str:
@@ -207,7 +265,7 @@ def set_demands(model: Model, measured: dict[str, Measured], want: str, seconds:
             model.notes.append(f"{path}: {units.decimal(demand, 0)}m used: more than the host has")
         group.demand = demand
         if counters.tasks:
-            needed = math.ceil(percentile(used(counters, seconds), 100) / 1000)
+            needed = math.ceil(used(counters, seconds).most / 1000)
             group.tasks = max(counters.tasks, needed)
 
 

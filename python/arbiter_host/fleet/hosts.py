@@ -160,7 +160,7 @@ def metrics_of(used: Sequence[Used], want: str) -> dict[str, dict[str, Any]]:
         entry = metrics.setdefault(f"{each.namespace}/{each.pod}", {
             "kind": "PodMetrics", "metadata": {"namespace": each.namespace, "name": each.pod},
             "containers": []})
-        amount = demands.mean(each.amounts) if want == "usage" else demands.percentile(
+        amount = each.amounts.mean if want == "usage" else demands.percentile(
             each.amounts, 100 if want == "peak" else 95)
         entry["containers"].append({"name": each.container, "usage": {
             "cpu": f"{math.ceil(amount * 10**6)}n"}})

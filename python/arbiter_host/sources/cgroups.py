@@ -18,7 +18,7 @@ def own_notes(model: Model, series: OverTime) -> list[str]:
     for path, below in model.children().items():
         if not below:
             continue
-        whole, *parts = (demands.mean(demands.used(series.measured(each), series.seconds))
+        whole, *parts = (demands.used(series.measured(each), series.seconds).mean
                          for each in (path, *below))
         use = max(whole - sum(parts, Fraction(0)), Fraction(0))
         if 2 * use * host.period_us >= 1000 * host.slice_us:

@@ -2,6 +2,7 @@
 from __future__ import annotations
 
 import functools
+from collections import Counter
 from collections.abc import Mapping, Sequence
 from dataclasses import dataclass, replace
 from fractions import Fraction
@@ -242,7 +243,14 @@ def read(files: Sequence[File], library: Library, options: SourceOptions) -> Mod
             raise HostFault(f"{name}: no containers as `docker inspect` prints them")
         raw += entries
     running, options = tuple(filter(is_running, raw)), options.for_containers("limit", "docker")
-    left = len(raw) - len(running)
+    many = Counter(text_field(each, "Id") or text_field(each, "Name") for each in running)
+    for word, count in many.items():
+        if word and count > 1:
+            raise HostFault(f"{names.shown(word)}: {count} containers of this identifier: is a file"
+                            " given twice?")
+    left, in_pods = len(raw) - len(running), sum(bool(text_field(each, "Pod")) for each in running)
     source = ContainerSource(library, options, options.machine(library), running, notes=(
-        f"containers that do not run, left out: {left}",) if left else ())
+        *([f"containers that do not run, left out: {left}"] if left else []),
+        *([f"containers of pods of podman: {in_pods}: limits and weights of the pods themselves are"
+           " not told here"] if in_pods else [])))
     return (options.measured(source) if options.measured else source).model()

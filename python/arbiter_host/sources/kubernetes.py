@@ -17,9 +17,10 @@ from typing import Any
 
 from arbiter import Library
 from arbiter_host.base import demands, names, search, units
-from arbiter_host.base.demands import Measured, Place
+from arbiter_host.base.demands import Measured, Place, Values
 from arbiter_host.base.faults import HostFault, NoHost, naming
-from arbiter_host.base.model import NO_POD, Group, Model, PodNames, check_count, checked
+from arbiter_host.base.model import (MAX_GROUPS, NO_POD, Group, Model, PodNames, check_count,
+                                     checked)
 from arbiter_host.base.names import NOWHERE, shown
 from arbiter_host.base.owned import Amounts, Owned, Range, Setting, Workload
 from arbiter_host.sources.conditions import ANTI_AFFINITY, NodeFacts, node_facts
@@ -143,8 +144,12 @@ def pods_on(items: Sequence[dict[str, Any]], node: str, notes: list[str]) -> lis
     lasting = [each for each in pods if not has_ended(each)]
     if len(lasting) < len(pods):
         notes.append(f"pods that have ended, left out: {len(pods) - len(lasting)}")
-    # A pod has a group of its own and one of its pause container.
+    # A pod has a group of its own and one of a container.
     check_count(2 * len(lasting), f"{len(lasting)} pods")
+    titles = Counter("/".join(names_of(each)) for each in lasting)
+    for title, many in titles.items():
+        if many > 1:
+            raise HostFault(f"{shown(title)}: {many} pods of this name: is a file given twice?")
     return [pod_of(each, notes) for each in lasting]
 
 
@@ -178,6 +183,13 @@ class PodBuilder:
         self.taken: dict[str, set[str]] = {}
         # The places of a pod and of its container, by the path of the group.
         self.places: dict[str, Place] = {}
+        # Pause containers ask for nothing. So they have groups where the planner takes as many.
+        many = len(CLASSES) + sum(2 + sum(each.has_group for each in pod.parts)
+                                  for pod in source.pods)
+        self.has_pauses = many < MAX_GROUPS
+        if not self.has_pauses:
+            self.model.notes.append(f"pause containers, left out of {many} groups: they ask for"
+                                    " nothing")
 
     def weight(self, request: int | None, conversion: str) -> int:
         """The weight that a request gets by a conversion."""
@@ -211,8 +223,9 @@ class PodBuilder:
         path = self.add(CLASSES[pod.quality], f"{pod.namespace}:{pod.name}",
                         self.weight(amounts.request, options.kubelet), folder, pod.title,
                         amounts.limit, (pod.namespace, pod.name, ""))
-        pause = self.add(path, "pause", 1, NOWHERE, f"{pod.title}/pause")
-        self.measured[pause] = Measured(request=Fraction(0), tasks=0)
+        if self.has_pauses:
+            pause = self.add(path, "pause", 1, NOWHERE, f"{pod.title}/pause")
+            self.measured[pause] = Measured(request=Fraction(0), tasks=0)
         for number, each in enumerate(pod.parts):
             if each.has_group:
                 given = pod.given(each)
@@ -231,7 +244,7 @@ class PodBuilder:
                 raise HostFault(f"--want {want}: what these pods used is not told (--used);"
                                 " they have request, limit and busy", 2)
             for path in idle:
-                self.measured[path].told = (Fraction(0),)
+                self.measured[path].told = Values.of([Fraction(0)])
         demands.set_demands(self.model, self.measured, want, self.source.seconds)
         for path in idle:
             self.model.groups[path].demand = Fraction(0)
@@ -439,6 +452,11 @@ class PodSource(Measurable):
                          " for them: the scheduler puts no such pods there")
         return replace(self, pods=tuple(pods), notes=(*self.notes, *notes))
 
+    @functools.cached_property
+    def weighs(self) -> Sequence[object]:
+        return [(pod.quality, pod.amounts.request, *(pod.given(each).request for each in pod.parts))
+                for pod in self.pods]
+
     def ranges(self, path: str) -> list[Range]:
         amounts = self.now(path)
         now, least = amounts.request or 0, max(amounts.request or 0, 1)
@@ -493,17 +511,21 @@ class PodSource(Measurable):
             *(f"{ANTI_AFFINITY} of others" for pod in self.pods
               if ANTI_AFFINITY in pod.conditions.unjudged)]))
 
-    def check_room(self, asks: Mapping[str, int]) -> None:
-        """A fault where the node has not the room for requests."""
+    def check_room(self, other: PodSource) -> None:
+        """A fault where the node has not the room for the requests of another source's pods. It
+        says where the scheduler would evict others for them."""
         taken, has = self.asks, self.offers
-        for name, amount in asks.items():
+        evicts = any(one.evicts and any(pod.priority < one.priority for pod in self.pods)
+                     for one in other.pods)
+        for name, amount in other.asks.items():
             most = has.get(name, None if name in ("cpu", "pods", *COMMON) or not has else 0)
             if most is not None and amount > max(most - taken.get(name, 0), 0):
                 of = "" if name == "cpu" else f" of {shown(name)}"
                 one, all_, others = (resource_text(name, each)
                                      for each in (amount, most, taken.get(name, 0)))
                 raise HostFault(f"it requests {one}{of}, and {all_} less the {others} of others are"
-                                " there")
+                                " there" + (", some of less priority, which may be evicted for it"
+                                            if evicts else ""))
 
     def joined(self, other: Owned) -> PodSource | None:
         """This node with the pods of another source. A fault where it takes none such."""
@@ -514,12 +536,12 @@ class PodSource(Measurable):
             if pod.title in here:
                 raise HostFault(f"{shown(pod.title)}: the host has this group already")
             self.node.check(pod.conditions)
-        self.check_room(other.asks)
+        self.check_room(other)
         known = dict(self.known)
         if self.options.want in demands.OF_USE:
             # What is new has used nothing yet: it asks for its requests.
             known |= {(len(self.pods) + place, number): Measured(
-                told=(Fraction(each.amounts.request or 0),))
+                told=Values([each.amounts.request or 0]))
                 for (place, number), _, each in other.every}
         return replace(self, pods=(*self.pods, *other.pods), known=known)
 
@@ -586,6 +608,10 @@ def read(files: Sequence[File], library: Library, options: SourceOptions) -> Mod
                      " this node too, these are given what is theirs (kubectl get pods -A)")
     if node is None:
         notes.append("no node's JSON: kubepods has weight 100")
+    facts = node_facts(node)
+    if facts.system not in ("", "linux"):
+        notes.append(f"the node runs {shown(facts.system)}, which has no cgroups: weights and limits"
+                     " here are those of Linux")
     with naming("node, allocatable"):
         has = {name: math.floor(number_of(value, shown(name)))
                for name, value in table(node, "status", "allocatable").items() if name != "cpu"}

@@ -17,7 +17,7 @@ from arbiter_host.base.faults import HostFault, naming
 from arbiter_host.base.names import NOWHERE, shown, slice_folder
 from arbiter_host.base.owned import Amounts
 from arbiter_host.sources.conditions import Conditions, conditions_of, pairs_of
-from arbiter_host.sources.data import field, table, tables, text_field
+from arbiter_host.sources.data import field, number, table, tables, text_field
 
 TOP = "kubepods"
 KEYS = ("requests", "limits")
@@ -85,6 +85,9 @@ class Pod:
     labels: tuple[tuple[str, str], ...] = ()
     # What makes it of a template: kind, namespace and name; empty for nothing.
     owner: str = ""
+    # Its priority, and whether pods of less are evicted where it has no room.
+    priority: int = 0
+    evicts: bool = True
     # Whether a file on its node says it, and the API server has a copy alone.
     is_static: bool = False
 
@@ -181,21 +184,27 @@ def asked_amounts(container: dict[str, Any], status: dict[str, Any], where: str,
 
 def containers_of(pod: dict[str, Any], where: str, notes: list[str]) -> tuple[Container, ...]:
     """All containers of a pod: init containers first, in order. One that has ended is not begun
-    again by the policy `Never`, nor by `OnFailure` after a success."""
-    containers, policy = [], text_field(pod, "spec", "restartPolicy")
+    again by the policy `Never`, nor by `OnFailure` after a success. None waits beside an init
+    container that runs, but sidecars."""
+    containers, is_begun = list[Container](), True
     for key, statuses in (("initContainers", "initContainerStatuses"),
                           ("containers", "containerStatuses")):
         status = {text_field(each, "name"): each for each in tables(pod, "status", statuses)}
         for each in tables(pod, "spec", key):
             name, is_init = text_field(each, "name") or "unnamed", key == "initContainers"
+            policy = text_field(each, "restartPolicy") or text_field(pod, "spec", "restartPolicy")
             is_sidecar = is_init and text_field(each, "restartPolicy") == "Always"
             known = status.get(name, {})
             state = table(known, "state")
+            is_begun = is_begun and not (is_init and not is_sidecar and "running" in state)
             runtime, _, identifier = text_field(known, "containerID").partition("://")
             has_failed = bool(field(state, "terminated", "exitCode"))
             is_over = "terminated" in state and (
                 policy == "Never" or policy == "OnFailure" and not has_failed)
-            has_group = is_sidecar or not is_over and (not is_init or "running" in state)
+            has_group = is_sidecar or "running" in state or not (is_over or is_init) and is_begun
+            if has_group and "waiting" in state:
+                reason = text_field(state, "waiting", "reason") or "no reason told"
+                notes.append(f"{where}/{name}: it waits ({reason}), and counts as if it ran")
             containers.append(Container(
                 name, asked_amounts(each, known, f"{where}/{name}", notes),
                 identifier and SCOPES.get(runtime, "") + identifier, is_init, is_sidecar,
@@ -329,6 +338,8 @@ def pod_of(pod: dict[str, Any], notes: list[str]) -> Pod:
         others=tuple((key, amount) for key, (amount, _) in others.items() if amount),
         conditions=conditions_of(spec, text_field(metadata, "uid")),
         labels=pairs_of(table(metadata, "labels")), owner=owner_of(pod),
+        priority=number(spec, "priority"),
+        evicts=text_field(spec, "preemptionPolicy") != "Never",
         is_static=bool(text_field(metadata, "annotations", MIRROR)))
 
 

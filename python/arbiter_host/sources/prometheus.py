@@ -12,11 +12,12 @@ from datetime import datetime
 from fractions import Fraction
 from typing import Any, NamedTuple, TypeVar
 
-from arbiter_host.base import units
+from arbiter_host.base import output, units
+from arbiter_host.base.demands import Values
 from arbiter_host.base.faults import HostFault, UsageFault
 from arbiter_host.base.names import cut, shown
 from arbiter_host.sources.data import SCHEMES
-from arbiter_host.sources.samples import EMPTY, TABLE, History, Sample, time_name
+from arbiter_host.sources.samples import TABLE, History, Sample, time_name, told
 
 Parsed = TypeVar("Parsed")
 
@@ -47,13 +48,6 @@ ANEW = frozenset({"id", "instance", "node", "host"})
 def is_address(word: str) -> bool:
     """Whether a word of the command line is the address of a server."""
     return word.startswith(SCHEMES)
-
-
-def instant(at: Any) -> float:
-    """The time of a value, in seconds. A ValueError or OverflowError for one that is none."""
-    if not math.isfinite(float(at)):
-        raise ValueError(at)
-    return float(at)
 
 
 class QueryRange(NamedTuple):
@@ -97,14 +91,18 @@ def range_of(word: str | None, step: str | None, default: str = "1d") -> QueryRa
 
 
 def of_range(url: str, query: str, asked: QueryRange, parsed: Callable[[Any], Parsed]) -> Parsed:
-    """Parses the answer to a range query."""
+    """Parses the answer to a range query. What the server warns of is told: its answer may then be
+    of some of its data."""
     if not is_address(url):
         raise UsageFault(f"{shown(url)}: not http:// or https://")
     words = urllib.parse.urlencode({"query": query, "start": asked.start, "end": asked.end,
                                     "step": f"{asked.step:g}s"})
     from arbiter_host.sources import web  # (few calls ask a server)
     try:
-        return parsed(web.fetched(f"{url.rstrip('/')}/api/v1/query_range?{words}"))
+        answer = web.fetched(f"{url.rstrip('/')}/api/v1/query_range?{words}")
+        for each in answer.get("warnings") or ():
+            output.warn(f"{shown(url)}: {shown(cut(str(each), 200))}")
+        return parsed(answer)
     except (KeyError, TypeError, ValueError, AttributeError, OverflowError) as error:
         raise HostFault(f"{shown(url)}: no answer to a range query") from error
 
@@ -190,9 +188,9 @@ def check_homes(here: Sequence[Mapping[str, str]], title: str, labels: Mapping[s
                 f"{{{shown(key)}={shown(json.dumps(value))}}}[{LEAST_RATE}s])'")
 
 
-def check_use(title: str, amounts: Sequence[Fraction], cpus: int, where: str) -> None:
+def check_use(title: str, amounts: Values, cpus: int, where: str) -> None:
     """A fault where what a server tells is no use of a node: more than all of its CPUs."""
-    most = max(amounts, default=Fraction(0))
+    most = amounts.most
     if most <= MOST_USE * 1000 * cpus:
         return
     # (a rate that stays the same differs in its last digits)
@@ -214,23 +212,32 @@ def window_of(query: str | None, step: float) -> float:
 def series_of(answer: Any) -> list[Metric]:
     """The series of a range query. A value that is no number is left out: there is no sample."""
     return [Metric({str(key): str(value) for key, value in each["metric"].items()
-                    if key != "__name__"},
-                   {instant(at): str(value) for at, value in each["values"]
-                    if str(value).lower() not in EMPTY})
+                    if key != "__name__"}, values_of(each["values"]))
             for each in answer["data"]["result"]]
 
 
+def values_of(pairs: Sequence[Sequence[Any]]) -> dict[float, str]:
+    """The values of a series by their times. A ValueError for a time that is none."""
+    times, words = [float(at) for at, _ in pairs], [str(value) for _, value in pairs]
+    if not all(map(math.isfinite, times)):
+        raise ValueError(times)
+    return told(dict(zip(times, words)))
+
+
 def total(words: Sequence[str]) -> str:
-    """The sum of numbers as they are written, exactly."""
+    """The sum of numbers as they are written, exactly; one that is no amount stands for all."""
     if len(words) == 1:
         return words[0]
     parsed = [units.number_and_unit(each) for each in words]
-    return units.decimal(sum((each[0] for each in parsed if each), Fraction(0)), 12)
+    odd = next((word for word, each in zip(words, parsed) if each is None), None)
+    return odd or units.decimal(sum((each[0] for each in parsed if each), Fraction(0)), 12)
 
 
 def summed(name: str, parts: Sequence[Metric], url: str, window: float) -> dict[float, str]:
     """The values of a column. Series that are parts of one are added up; else a fault."""
     check_parts(name, parts, url, window, f"rate({USAGE}{{}}[{LEAST_RATE}s])")
+    if len(parts) == 1:
+        return dict(parts[0].values)
     return {at: total([each.values[at] for each in parts if at in each.values])
             for at in dict.fromkeys(at for each in parts for at in each.values)}
 

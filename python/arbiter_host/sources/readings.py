@@ -202,6 +202,9 @@ class Tree:
         look.model.add(group)
         if not has_more or not self.add_below(look, group, depth):
             self.add_tasks(look, group)
+        elif cgroup2.file_text(group.place, "cgroup.threads"):
+            notes.append(f"{group.path}: tasks of its own, as a threaded group may have them beside"
+                         " the groups below it: left out")
         return True
 
     def read(self, look: TreeReading, group: Group, entry: os.DirEntry[str]) -> bool:

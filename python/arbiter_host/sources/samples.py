@@ -6,20 +6,26 @@ from __future__ import annotations
 
 import csv
 import io
+import itertools
 import re
 from collections.abc import Callable, Iterable, Iterator, Mapping, Sequence
+from contextlib import suppress
 from datetime import datetime, timezone
+from decimal import Context, Decimal, InvalidOperation
 from fractions import Fraction
-from typing import NamedTuple
+from typing import NamedTuple, TypeVar
 
 from arbiter import Host
 from arbiter_host.base import units
+from arbiter_host.base.demands import Values
 from arbiter_host.base.faults import HostFault
 from arbiter_host.base.names import cut, shown
 from arbiter_host.base.plain_files import MAX_FILE
 from arbiter_host.sources.data import cells_of, decoded
 
+Key = TypeVar("Key")
 TIMES = ("time", "period", "timestamp", "date", "datetime", "_time", "ts")
+DATED = re.compile(r"[0-9]{4}-[0-9]{2}-[0-9]{2}[ T][0-9]{2}:[0-9]{2}:[0-9]{2}")
 EMPTY = ("", "nan", "null", "none", "undefined", "-")
 # The columns of one table of many hosts, each under one of its names.
 TABLE = {"time": TIMES, "host": ("host", "node", "instance"),
@@ -27,6 +33,10 @@ TABLE = {"time": TIMES, "host": ("host", "node", "instance"),
 # Epochs above this are milliseconds.
 MILLISECONDS = 10**11
 NUMBER = re.compile(r"[+-]?[0-9.]")
+# Numbers without a unit as nearly all samples have them, one in each line, and what reads them
+# exactly: these have at most so many digits behind the point, and so many more by an exponent.
+PLAIN = re.compile(r"(?:(?>[0-9]{1,15})(?:\.(?>[0-9]{0,30}))?(?:[eE]-[0-2]?[0-9])?\n)*+")
+EXPONENT, EXACT = 30, Context(prec=100)
 # A number in which a comma may be of thousands or of decimals.
 GROUPED = re.compile(r"[+-]?[0-9]+,[0-9]+\s*\w*")
 
@@ -90,12 +100,27 @@ def demand_of(text: str, unit: str, host: Host, where: str) -> Fraction:
     value = parsed[0]
     if parsed[1]:
         return value * units.CPU_UNITS[parsed[1]]
-    one = {"cpu": Fraction(1000), "m": Fraction(1), "%": Fraction(10),
-           "us": Fraction(1000, host.period_us),
-           "slices": units.thousandths_of_slices(1, host.period_us, host.slice_us)}[unit]
     if value > 10**15:
         raise HostFault(f"{where}: {shown(cut(text, 40))!r} is above 10^15")
-    return value * one
+    return value * one_of(unit, host)
+
+
+def one_of(unit: str, host: Host) -> Fraction:
+    """The thousandths of a CPU that one of a unit is."""
+    return {"cpu": Fraction(1000), "m": Fraction(1), "%": Fraction(10),
+            "us": Fraction(1000, host.period_us),
+            "slices": units.thousandths_of_slices(1, host.period_us, host.slice_us)}[unit]
+
+
+def values_of(cells: Sequence[str], unit: str, host: Host, wheres: Iterable[str]) -> Values:
+    """The numbers of some cells, as `demand_of` has each. Those without a unit are read at once."""
+    text = "\n".join(cells)
+    places = max(map(len, cells)) + (EXPONENT if "e" in text or "E" in text else 0)
+    with suppress(InvalidOperation):
+        if PLAIN.fullmatch(f"{text}\n"):
+            scaled = map(EXACT.scaleb, map(Decimal, cells), itertools.repeat(places))
+            return Values(list(map(int, scaled)), one_of(unit, host) / 10**places)
+    return Values.of([demand_of(cell, unit, host, where) for cell, where in zip(cells, wheres)])
 
 
 def time_name(text: str) -> str:
@@ -120,6 +145,8 @@ def rows_of(data: bytes, name: str) -> tuple[list[str], list[tuple[str, list[str
     begin = int(lines[0].strip().lower().startswith("sep="))
     head = lines[begin] if len(lines) > begin else ""
     delimiter = max(";\t,", key=lambda each: (head.count(each), each == ","))
+    # (such a cell stands in quotes)
+    has_commas = delimiter == "," and any('"' in line for line in lines)
     reader = csv.reader(io.StringIO("\n".join(lines[begin:]), newline=""), delimiter=delimiter)
     rows = []
     try:
@@ -130,8 +157,9 @@ def rows_of(data: bytes, name: str) -> tuple[list[str], list[tuple[str, list[str
     except csv.Error as error:
         raise HostFault(f"{name}:{reader.line_num + begin}: {error}") from error
     for where, row in rows[1:]:
-        cells_of(row, rows[0][1], where)
-        grouped = next(filter(GROUPED.fullmatch, row if delimiter == "," else ()), None)
+        if len(row) != len(rows[0][1]):
+            cells_of(row, rows[0][1], where)
+        grouped = next(filter(GROUPED.fullmatch, row if has_commas else ()), None)
         if grouped:
             raise HostFault(f"{where}: {shown(cut(grouped, 40))!r}: a comma in a number of a file"
                             " whose cells a comma separates")
@@ -150,9 +178,30 @@ def is_csv(path: str, data: bytes) -> bool:
 
 def check_names(groups: Sequence[str], where: str) -> None:
     """A fault where one group is named twice."""
-    twice = [each for at, each in enumerate(groups) if each in groups[:at]]
-    if twice:
-        raise HostFault(f"{where}: two numbers of {shown(cut(twice[0], 60))}")
+    if len(set(groups)) < len(groups):
+        twice = next(each for at, each in enumerate(groups) if each in groups[:at])
+        raise HostFault(f"{where}: two numbers of {shown(cut(twice, 60))}")
+
+
+def check_times(rows: Sequence[tuple[str, str]]) -> None:
+    """A fault where times with a date and seconds come twice, or go back from row to row."""
+    if not all(DATED.match(time) for _, time in rows):
+        return
+    seen = set[str]()
+    for where, time in rows:
+        if time in seen:
+            raise HostFault(f"{where}: two rows of {shown(time)}")
+        seen.add(time)
+    if len(rows) > 1 and all(one > two for (_, one), (_, two) in zip(rows, rows[1:])):
+        raise HostFault(f"{rows[1][0]}: {shown(rows[1][1])} is before {shown(rows[0][1])}, and so"
+                        " on: the oldest row comes first")
+
+
+def told(cells: dict[Key, str]) -> dict[Key, str]:
+    """The cells that have something in them."""
+    if set(EMPTY).isdisjoint(map(str.lower, cells.values())):
+        return cells
+    return {key: cell for key, cell in cells.items() if cell.lower() not in EMPTY}
 
 
 def read_csv(data: bytes, name: str, first: int = 0) -> History:
@@ -161,10 +210,10 @@ def read_csv(data: bytes, name: str, first: int = 0) -> History:
     head, rows = rows_of(data, name)
     is_timed = bool(head) and (head[0].lower() in ("", *TIMES) or head[0].lower().endswith("time"))
     check_names(head[is_timed:], f"{name}:1")
+    check_times([(where, time_name(row[0])) for where, row in rows] if is_timed else [])
     return History(head[is_timed:], [
         Sample(time_name(row[0]) if is_timed else str(number),
-               {column: cell for column, cell in zip(head[is_timed:], row[is_timed:])
-                if cell.lower() not in EMPTY}, where)
+               told(dict(zip(head[is_timed:], row[is_timed:]))), where)
         for number, (where, row) in enumerate(rows, first + 1)])
 
 

@@ -26,6 +26,8 @@ NOT_SET = ("", "[not set]", "infinity", "18446744073709551615")
 QUOTA = re.compile(r"([0-9]{1,9})(?:\.([0-9]{1,2}))?%")
 # CPUShares that are the default weight.
 DEFAULT_SHARES = 1024
+# The properties that tell a group's settings.
+SET = ("CPUWeight", "CPUShares", "CPUQuotaPerSecUSec", "CPUQuotaPeriodUSec", "AllowedCPUs")
 # Greatest quota that systemd can write, in hundredths of a percent.
 MOST_QUOTA = 10**9
 # The properties of a unit by their names.
@@ -47,9 +49,12 @@ def unit_of(folder: str) -> str:
 def blocks(data: bytes) -> Iterator[dict[str, str]]:
     """The properties of each unit. Units are separated by an empty line."""
     unit: dict[str, str] = {}
-    for line in [*data.decode(errors="replace").split("\n"), ""]:
+    for line in [*data.decode("utf-8-sig", errors="replace").split("\n"), ""]:
         key, equals, value = line.rstrip("\r").partition("=")
         if equals and re.fullmatch(r"[A-Za-z]{1,60}", key):
+            if key in ("Id", "ControlGroup") and key in unit:
+                raise HostFault(f"units {shown(unit[key])} and {shown(value)}: no empty line is"
+                                " between them, as `systemctl show` prints it")
             unit[key] = value
         elif not line.strip() and unit:
             yield unit
@@ -292,9 +297,23 @@ class TreeSource(Units):
         return replace(self, settings_since=(*self.settings_since, *settings))
 
 
+def units_in(data: bytes) -> dict[str, dict[str, str]]:
+    """The units of a file by the paths of their groups. A fault where two of one differ in what is
+    set."""
+    found: dict[str, dict[str, str]] = {}
+    for unit in blocks(data):
+        other = found.setdefault(path_of(unit), unit)
+        unlike = [key for key in SET if unit.get(key) != other.get(key)]
+        if unlike and unit.get("ControlGroup"):
+            raise HostFault(f"{shown(unit['ControlGroup'])}: two units of this group differ in"
+                            f" {unlike[0]}")
+        found[path_of(unit)] = unit
+    return found
+
+
 def read(files: Sequence[File], library: Library, options: SourceOptions) -> Model:
     """The model of one file, or of several that were printed some seconds apart."""
-    readings = [{path_of(unit): unit for unit in blocks(data)} for _, data in files]
+    readings = [units_in(data) for _, data in files]
     if not any("Id" in unit for unit in readings[0].values()):
         raise HostFault(f"{files[0][0]}: no units as `systemctl show '*.slice' '*.service'"
                         " '*.scope'` prints them")

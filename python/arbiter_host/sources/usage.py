@@ -17,7 +17,7 @@ from fractions import Fraction
 from typing import Any, NamedTuple
 
 from arbiter_host.base import units
-from arbiter_host.base.demands import Times
+from arbiter_host.base.demands import Times, Values
 from arbiter_host.base.faults import HostFault, naming
 from arbiter_host.base.names import cut, few, shown
 from arbiter_host.sources.data import (MAX_TEXT, field, cells_of, check_memory, check_size, loads,
@@ -43,7 +43,7 @@ class Used(NamedTuple):
     """The use of one container, in thousandths of a CPU, at one time or at several. Names that a
     file lacks are empty."""
 
-    amounts: tuple[Fraction, ...]
+    amounts: Values
     namespace: str = ""
     pod: str = ""
     container: str = ""
@@ -111,7 +111,7 @@ def of_stats(row: Any, where: str) -> Iterator[Used]:
                         " it")
     cpu, processes, container, *identifiers = (text_field(row, key) for key in keys)
     if cpu not in ("", "--") and processes != "0":
-        yield Used((amount_of(cpu, where),), container=container.lstrip("/"),
+        yield Used(Values.of([amount_of(cpu, where)]), container=container.lstrip("/"),
                    identifier=next(filter(None, identifiers), ""))
 
 
@@ -131,8 +131,9 @@ def of_text(data: bytes, name: str) -> Iterator[Used]:
         if is_stats:
             yield from of_stats(row, where)
         else:
-            yield Used((amount_of(row["cpu"][:MAX_TEXT], where),), text_field(row, "namespace"),
-                       text_field(row, "pod"), text_field(row, "container"))
+            amount = amount_of(row["cpu"][:MAX_TEXT], where)
+            yield Used(Values.of([amount]), text_field(row, "namespace"), text_field(row, "pod"),
+                       text_field(row, "container"))
 
 
 def of_metrics(items: Sequence[dict[str, Any]], name: str) -> Iterator[Used]:
@@ -143,7 +144,7 @@ def of_metrics(items: Sequence[dict[str, Any]], name: str) -> Iterator[Used]:
             container = text_field(each, "name")
             where = f"{name}: {shown(f'{namespace}/{pod}/{container}')}"
             amount = amount_of(str(field(each, "usage", "cpu"))[:60], where)
-            yield Used((amount,), namespace, pod, container)
+            yield Used(Values.of([amount]), namespace, pod, container)
 
 
 def of_lines(data: bytes, name: str) -> Iterator[Any]:

@@ -143,19 +143,24 @@ def entries(uses: UseOptions) -> list[Used]:
                 raise UsageFault(f"--want {uses.want}: {name(uses)} tells of one time alone:"
                                  " it belongs to --want usage")
             return used
-    host, mapping = uses.host, mapped(uses.columns)
-    values: dict[str, list[tuple[str, Fraction]]] = {}
-    told = history(uses)
+    mapping, told = mapped(uses.columns), history(uses)
+    meant: dict[str, tuple[list[str], list[Sample]]] = {}
+    columns: dict[str, tuple[list[str], list[Sample]]] = {}
     for sample in told.samples:
-        for column, demand in sample.demands(uses.unit, host).items():
-            values.setdefault(mapping.get(column, column), []).append((sample.name, demand))
+        for head, cell in sample.cells.items():
+            if head not in columns:
+                columns[head] = meant.setdefault(mapping.get(head, head), ([], []))
+            cells, seen = columns[head]
+            cells.append(cell)
+            seen.append(sample)
     used = []
-    for column, each in values.items():
+    for column, (cells, seen) in meant.items():
         namespace, pod, container = (column.split("/") if column.count("/") == 2
                                      else ("", "", column))
-        used.append(Used(tuple(demand for _, demand in each), namespace, pod, container,
-                          times=times_of([name for name, _ in each]),
-                          labels=told.labels.get(column, {})))
+        used.append(Used(
+            samples.values_of(cells, uses.unit, uses.host, (each.where for each in seen)),
+            namespace, pod, container, times=times_of([seen[0].name, seen[-1].name]),
+            labels=told.labels.get(column, {})))
     return used
 
 

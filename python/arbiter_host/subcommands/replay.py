@@ -3,7 +3,6 @@ from __future__ import annotations
 
 import argparse
 from collections.abc import Collection, Sequence
-from fractions import Fraction
 from functools import partial
 
 from arbiter_host import options as table
@@ -17,7 +16,7 @@ from arbiter_host.base.tables import Forms
 from arbiter_host.records import source_options, time_option, use_options
 from arbiter_host.sources import load, prometheus, selection, used
 from arbiter_host.sources.load import Opened
-from arbiter_host.sources.samples import History
+from arbiter_host.sources.samples import History, values_of
 from arbiter_host.sources.selection import Selection
 from arbiter_host.sources.source_options import UseOptions
 from arbiter_host.sources.usage import some
@@ -32,22 +31,24 @@ def sample_of(uses: UseOptions) -> int:
 
 
 def shown_groups(options: argparse.Namespace, model: Model) -> list[str]:
-    """The groups that are chosen, in order; `.` is the host itself. Empty for those of columns."""
+    """The groups that are chosen, in order, but pause containers; `.` is the host itself. Empty for
+    those of columns."""
     rest = [each for each in options.group if each != "."]
     host = ["."] if len(rest) < len(options.group) else []
     paths = selection.chosen(model, Selection(rest, options.namespace, options.selector))
-    return host + [path for path in model.groups if path in (paths or ())]
+    return host + [path for path, group in model.groups.items()
+                   if path in (paths or ()) and not group.is_pause]
 
 
 def check_use(unit: str, model: Model, history: History, columns: Collection[str],
               where: str) -> None:
     """A fault where a server tells of more use than the host has CPUs."""
-    amounts: dict[str, list[Fraction]] = {}
-    for _, sample in history.demands(unit, model.host):
-        for column, amount in sample.items():
-            amounts.setdefault(column, []).append(amount)
     for column in columns:
-        prometheus.check_use(shown(column), amounts.get(column, []), model.host.processors, where)
+        seen = [each for each in history.samples if column in each.cells]
+        if seen:
+            prometheus.check_use(shown(column), values_of(
+                [each.cells[column] for each in seen], unit, model.host,
+                (each.where for each in seen)), model.host.processors, where)
 
 
 def forms(options: argparse.Namespace, files: Sequence[Opened], uses: UseOptions) -> Forms:

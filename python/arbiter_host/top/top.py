@@ -162,7 +162,7 @@ def with_use(plan_: Plan) -> PlannedRound:
     """A plan with what its source tells that groups used."""
     model = plan_.model
     seen = model.owned.seen() if model.owned else {}
-    return PlannedRound(plan_, {path: demands.mean(use.values) for path, use in seen.items()}, {
+    return PlannedRound(plan_, {path: use.values.mean for path, use in seen.items()}, {
         path: use.throttled for path, use in seen.items() if use.throttled is not None})
 
 
