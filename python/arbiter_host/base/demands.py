@@ -27,7 +27,7 @@ Place = tuple[int, int]
 Times = tuple[Fraction, Fraction]
 
 
-@dataclass(frozen=True)
+@dataclass(frozen=True, eq=False)
 class Values(Sequence[Fraction]):
     """Values of CPU, as whole numbers of one part of a thousandth of a CPU: these are put in order
     and added up in a hundredth of the time of fractions."""
@@ -55,6 +55,12 @@ class Values(Sequence[Fraction]):
 
     def __len__(self) -> int:
         return len(self.numbers)
+
+    def __eq__(self, other: object) -> bool:
+        return isinstance(other, Sequence) and tuple(self) == tuple(other)
+
+    def __hash__(self) -> int:
+        return hash(tuple(self))
 
     @functools.cached_property
     def ordered(self) -> Sequence[int]:
