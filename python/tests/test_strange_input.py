@@ -81,7 +81,7 @@ def test_a_node_of_windows_is_told(calls):
 
 
 def test_pods_of_podman_are_told(calls):
-    """What is set of a pod itself stands in no container."""
+    """Settings of a pod itself stand in no container."""
     raw = [{"Id": letter * 64, "Name": letter, "Pod": of, "HostConfig": {}, "OCIRuntime": "crun"}
            for letter, of in (("1", "f" * 64), ("2", "f" * 64), ("3", ""))]
     notes = reading.docker([("d", json.dumps(raw).encode())], FOUR, calls).notes
@@ -130,7 +130,7 @@ def test_tasks_beside_the_groups_below_are_told(ctl, folder):
     (["2026-01-05T10:00:00Z", "2026-01-05T10:01:00Z", "2026-01-05T10:00:00Z"],
      "F:4: two rows of 2026-01-05T10:00:00Z"),
     (["1767607260", "1767607200"], "F:3: 2026-01-05 10:00:00 is before 2026-01-05 10:01:00, and"),
-    # What says no seconds may come twice, and times that go back once are those of a clock.
+    # Times without seconds may come twice. Those that go back once are of a clock that was set.
     (["10:00", "10:00"], ""), (["2026-01-05 10:00", "2026-01-05 10:00"], ""),
     (["2026-10-25 02:59:00", "2026-10-25 02:00:00", "2026-10-25 02:01:00"], ""),
 ])

@@ -610,8 +610,8 @@ def read(files: Sequence[File], library: Library, options: SourceOptions) -> Mod
         notes.append("no node's JSON: kubepods has weight 100")
     facts = node_facts(node)
     if facts.system not in ("", "linux"):
-        notes.append(f"the node runs {shown(facts.system)}, which has no cgroups: weights and limits"
-                     " here are those of Linux")
+        notes.append(f"the node runs {shown(facts.system)}, which has no cgroups: weights and"
+                     " limits here are those of Linux")
     with naming("node, allocatable"):
         has = {name: math.floor(number_of(value, shown(name)))
                for name, value in table(node, "status", "allocatable").items() if name != "cpu"}

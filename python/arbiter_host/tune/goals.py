@@ -134,11 +134,12 @@ class Goals:
         asked = list(self.columns.demands)
         for group in reversed(self.before.groups[1:]):
             asked[group.parent or 0] += asked[group.row]
-        return frozenset(goal.group.row for goal in self.goals if asked[goal.group.row] < goal.amount)
+        return frozenset(goal.group.row for goal in self.goals
+                         if asked[goal.group.row] < goal.amount)
 
     @functools.cached_property
     def tried(self) -> dict[tuple[int, frozenset[Setting]], int]:
-        """What the group of a row gets under settings of the source that were tried."""
+        """The amounts of groups under settings of the source that were tried, by their rows."""
         return {}
 
     def amount(self, after: Plan, row: int) -> int:

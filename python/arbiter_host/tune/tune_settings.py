@@ -65,7 +65,7 @@ class Raised:
             goal.group.row) >= goal.amount)
 
     def amount(self, row: int) -> int:
-        """What the group of a row gets. Each plan for it is made once."""
+        """The amount that the group of a row gets. Each plan for it is made once."""
         key, tried = (row, frozenset(self.every)), self.goals.tried
         if key not in tried:
             tried[key] = self.goals.amount(self.plan(), row)
