@@ -20,6 +20,8 @@ from arbiter import Host
 from arbiter_host.base.faults import HostFault, UsageFault
 from arbiter_host.base.names import shown
 from arbiter_host.sources import prometheus, web
+from hypothesis import given
+from hypothesis import strategies as st
 
 from places import PACKAGE
 
@@ -267,6 +269,32 @@ def test_series_that_may_be_one_use_twice(labels, told):
 def over(labels, begin, end, each=0.2):
     """A series of use in each minute from one to another."""
     return prometheus.Metric({**POD, **labels}, {60.0 * at: str(each) for at in range(begin, end)})
+
+
+SERIES = st.lists(st.tuples(
+    st.sampled_from(["cpu0", "cpu1", "cpu2"]), st.sampled_from(["", "a", "b"]),
+    st.sampled_from(["", "us", "eu"]), st.dictionaries(st.integers(1, 5), st.integers(0, 10**6),
+                                                       min_size=1)), min_size=1, max_size=4)
+
+
+@given(series=SERIES)
+def test_random_series_of_one_container(series):
+    """They are one use where they differ in their CPUs alone, and then it is their exact sum."""
+    metrics = [prometheus.Metric(
+        {**POD, "cpu": cpu, **({"job": job} if job else {}), **({"cluster": home} if home else {})},
+        {float(at): f"{value / 10**6:.6f}" for at, value in values.items()})
+        for cpu, job, home, values in series]
+    is_one_use = (len({each[:3] for each in series}) == len(series)
+                  and len({each[1:3] for each in series}) == 1)
+    if not is_one_use:
+        with pytest.raises(HostFault, match="may be one use twice"):
+            prometheus.history_of(metrics, "u")
+        return
+    history = prometheus.history_of(metrics, "u")
+    wanted = {at: sum(values.get(at, 0) for _, _, _, values in series)
+              for at in sorted({at for each in series for at in each[3]})}
+    assert [demands for _, demands in history.demands("cpu", Host())] == [
+        {"n/p/c": Fraction(each, 1000)} for each in wanted.values()]
 
 
 @pytest.mark.parametrize("one, two, told", [

@@ -148,10 +148,10 @@ def test_a_server_that_answers_in_part_is_told(monkeypatch):
     """Thanos leaves out stores that do not answer, and warns of it."""
     told = []
     monkeypatch.setattr(web, "fetched", lambda _: {
-        "status": "success", "warnings": ["store s1 is down\x1b[2J"], "data": {"result": []}})
+        "status": "success", "warnings": ["store s1 is down\x1b[2J"] * 9, "data": {"result": []}})
     monkeypatch.setattr(output, "warn", told.append)
     prometheus.of_range("http://h", "q", prometheus.QueryRange("1", "2", 60), prometheus.series_of)
-    assert told == ["http://h: store s1 is down\\x1b[2J"]
+    assert told == ["http://h: store s1 is down\\x1b[2J"] * 5
 
 
 def test_a_part_that_is_no_amount_is_no_part_of_a_sum():

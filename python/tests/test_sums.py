@@ -185,3 +185,39 @@ def test_random_frozen_and_pinned_groups(ctl, folder, seed):
     own = sum(gets[name] for name in groups if "/" in name)
     assert own == gets["."] == 1000 * float(re.search("([0-9.]+) of 4.000 CPUs served", text)[1])
     assert ("frozen:" in err) == bool(frozen) and ("bound to CPUs:" in err) == bool(cpus)
+
+
+@pytest.mark.parametrize("seed", range(3))
+def test_the_groups_of_samples(ctl, folder, seed):
+    """In each sample the groups get what the host gives out, in every form; and so do their sums.
+    """
+    chance = random.Random(seed)
+    groups = [f"g{at}" for at in range(chance.randint(2, 5))]
+    (folder / "h.script").write_text("# arbiter run --processors 2 --period 100000 --slice 1000\n"
+                                     + "".join(f"mkdir {each}\nwrite {each} cpu.weight"
+                                               f" {chance.randint(1, 400)}\n" for each in groups)
+                                     + "write g0 cpu.max 30000 100000\n")
+    rows = [[chance.randint(0, 150) for _ in groups] for _ in range(6)]
+    (folder / "h.csv").write_text(f"time,{','.join(groups)}\n" + "".join(
+        f"{at},{','.join(map(str, row))}\n" for at, row in enumerate(rows)))
+    text, _ = ctl.run("replay", folder / "h.script", "--used", folder / "h.csv", "--unit", "slices",
+                      "-g", ".", "-g", "g*", "-o", "text", *(
+                          word for form in ("json", "csv") for word in (
+                              "-o", f"{form}={folder / form}")))
+    data = json.loads((folder / "json").read_text())["records"]
+    by_csv = list(csv.DictReader(io.StringIO((folder / "csv").read_text())))
+    assert [tuple(str(row[key]) for key in ("sample", "group", "gets", "wants", "throttled"))
+            for row in data] == [tuple(row[key] for key in (
+                "sample", "group", "gets", "wants", "throttled")) for row in by_csv]
+    gets = {(row["sample"], row["group"]): int(row["gets"]) for row in by_csv}
+    for at, row in enumerate(rows):
+        whole = gets[str(at), "."]
+        assert whole == sum(gets[str(at), each] for each in groups) <= 200
+        # (what g0 may have is 30 of 100 ms)
+        assert whole == min(200, sum(row) - max(row[0] - 30, 0))
+    means = {line.split()[0]: Fraction(line.split()[2]) for line in text.split("\n")
+             if line.split()[:1] and line.split()[0] in (".", *groups)}
+    for each, mean in means.items():
+        exact = Fraction(sum(gets[str(at), each] for at in range(len(rows))), len(rows))
+        assert abs(mean - exact) <= Fraction(1, 20)
+    assert set(means) == {".", *groups}

@@ -39,6 +39,8 @@ MOST_USE = Fraction(5, 4)
 LOOKBACK = 300
 # Samples of a series where no step is said. A server gives 11,000 at most.
 MOST_SAMPLES = 5000
+# Warnings of a server that are told.
+MOST_WARNINGS = 5
 # Labels that tell the parts of one container's use apart.
 PARTS = frozenset({"cpu", "image", "name", "uid", "container_id"})
 # Labels that change where a container is made anew, maybe on another node: then its series ends.
@@ -100,7 +102,8 @@ def of_range(url: str, query: str, asked: QueryRange, parsed: Callable[[Any], Pa
     from arbiter_host.sources import web  # (few calls ask a server)
     try:
         answer = web.fetched(f"{url.rstrip('/')}/api/v1/query_range?{words}")
-        for each in answer.get("warnings") or ():
+        warned = answer.get("warnings")
+        for each in warned[:MOST_WARNINGS] if isinstance(warned, list) else ():
             output.warn(f"{shown(url)}: {shown(cut(str(each), 200))}")
         return parsed(answer)
     except (KeyError, TypeError, ValueError, AttributeError, OverflowError) as error:
