@@ -328,8 +328,8 @@ uint32_t arbiter_serve(uint64_t processors, uint64_t period_us, uint64_t slice_u
  * longer than that and than a twentieth of the round. Where `ran` adds up to less than half of what was used, or nothing was
  * used, it is hungry where tasks waited for half of the round. That is a guess. The tasks of a stopped group could have used
  * the whole round each. Of another, so could one that is starved or new; each other used all that it wanted. A hungry group
- * asks for everything where that is the whole host, or `ran` adds up to less than 19 twentieths of what was used. Of
- * arbiter_hold, `asked` stands in `used`, and `hungry` is 1 where it is 1000000.
+ * asks for everything where that is the whole host, where nothing was used, or where `ran` adds up to less than 19 twentieths
+ * of what was used. Of arbiter_hold, `asked` stands in `used`, and `hungry` is 1 where it is 1000000.
  * Reads:
  *   passed_ns   nanoseconds of the round, above 0
  *   used_us     microseconds that it used
@@ -340,7 +340,7 @@ uint32_t arbiter_serve(uint64_t processors, uint64_t period_us, uint64_t slice_u
  *   ran         nanoseconds that each task ran that was there at both readings
  *   waited      nanoseconds that each of these waited
  * Writes:
- *   used    slices of one period of the host that it used, rounded up
+ *   used    slices of one period of the host that it used, rounded up, at most 1000000
  *   asked   what it asks for, never less than `used`: the same where it is not hungry, else the most that its tasks could have
  *           used, or 1000000 for everything
  *   hungry  1 where it would have used more, else 0
@@ -374,7 +374,7 @@ uint32_t arbiter_leaf_reading(uint64_t processors, uint64_t period_us, uint64_t 
  *   limit      the limit of arbiter_hold in slices; ARBITER_NO_LIMIT where there is none
  *   own        its own limit in slices; ARBITER_NO_LIMIT where it has none
  *   stands_us  the quota that stands in it, in microseconds of the host's period; 0 where another one stands
- *   tasks      its tasks
+ *   tasks      its tasks; 0 counts as 1
  * Writes:
  *   quota   the quota in microseconds of the host's period; ARBITER_NO_LIMIT where its own limit is to be written, since that
  *           allows no more

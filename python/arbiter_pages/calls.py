@@ -339,9 +339,9 @@ ROUNDS = (
          " less than half of what was used, or nothing was used, it is hungry where tasks waited"
          " for half of the round. That is a guess. The tasks of a stopped group could have used the"
          " whole round each. Of another, so could one that is starved or new; each other used all"
-         " that it wanted. A hungry group asks for everything where that is the whole host, or"
-         " `ran` adds up to less than 19 twentieths of what was used. Of arbiter_hold, `asked`"
-         " stands in `used`, and `hungry` is 1 where it is 1000000.",
+         " that it wanted. A hungry group asks for everything where that is the whole host, where"
+         " nothing was used, or where `ran` adds up to less than 19 twentieths of what was used. Of"
+         " arbiter_hold, `asked` stands in `used`, and `hungry` is 1 where it is 1000000.",
          (HOST, PASSED, CallWord("used_us", U64, "microseconds that it used"),
           CallWord("waited_us",
                    U64, "microseconds in which some task of it waited for a processor"),
@@ -351,7 +351,8 @@ ROUNDS = (
                when="it has none"),
           column("ran", U64, "nanoseconds that each task ran that was there at both readings"),
           column("waited", U64, "nanoseconds that each of these waited"),
-          result("used", U64, "slices of one period of the host that it used, rounded up"),
+          result("used", U64, "slices of one period of the host that it used, rounded up, at most"
+                 " 1000000"),
           result("asked", U64, "what it asks for, never less than `used`: the same where it is not"
                                " hungry, else the most that its tasks could have used, or 1000000"
                                " for everything"),
@@ -382,7 +383,7 @@ ROUNDS = (
           CallWord("stands_us",
                U64, "the quota that stands in it, in microseconds of the host's period; 0"
                " where another one stands"),
-          CallWord("tasks", U32, "its tasks"),
+          CallWord("tasks", U32, "its tasks; 0 counts as 1"),
           result("quota", U64, "the quota in microseconds of the host's period", NO_LIMIT,
                  "its own limit is to be written, since that allows no more"),
           result("weight",
