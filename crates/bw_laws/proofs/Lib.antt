@@ -5,8 +5,13 @@ mod ConditionTests
 mod CounterLemmas
 mod GroupLists
 mod IdLemmas
+mod LeafLemmas
 mod NeededLemmas
 mod OneAnswer
 mod OneTranscript
+mod PartLemmas
+mod Quotients
+mod SliceLemmas
 mod TreesKept
+mod WeightLemmas
 mod WholeLines

@@ -1,4 +1,5 @@
-//! Laws that join several layers: contracts of functions with an empty body.
+//! Laws that join several layers, and laws of rules in an owner's words: contracts of functions
+//! with an empty body.
 #![tactic(auto)]
 
 mod bursts;
@@ -6,7 +7,10 @@ mod cert;
 mod counters;
 mod ids;
 mod needed;
+mod parts;
+mod readings;
 mod transcripts;
+mod weights;
 
 pub use bursts::scripts_keep_bursts_within;
 pub use cert::cert_is_accepted;
@@ -17,4 +21,7 @@ pub use needed::{
     levels_are_needed, limits_are_needed, limits_at_flags_are_not_needed, next_marks_are_needed,
     sums_are_needed,
 };
+pub use parts::{amounts_keep_shares, parts_are_within, parts_fill_the_limit};
+pub use readings::{leaf_asks_for_its_waiting, slices_cover_time};
 pub use transcripts::{reading_follows_the_transcript, there_is_one_transcript};
+pub use weights::weights_give_limits;
