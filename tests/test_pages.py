@@ -479,7 +479,8 @@ def test_another_call_of_the_planner_is_found(call):
         assert misplaced(CALLS_OF_THE_PLANNER, {**sources, name: sources[name] + call})
 
 
-# Where the checker goes over the rows, each turn a visit, and where questions make plans.
+# Where the checker goes over the rows, each turn a visit, where questions make plans, and where a
+# plan takes a count: a call with a new one inside another would not be counted.
 CALLS_OF_COUNTS = {
     "bw_check": {
         r"\bfor \w+ in \(?0\.\.\w+.*{\n +\*visits = visits\.one_more\(\);":
@@ -493,6 +494,10 @@ CALLS_OF_COUNTS = {
             {"guaranteed.rt": 1, "held.rt": 2, "held/served.rt": 1, "least.rt": 1},
         r"\bCount::none\(": {},
     },
+    "bw_plan": {
+        r"\bWork::new\(": {"by_rows.rt": 2, "by_depth.rt": 2, "share.rt": 1},
+        r"(?<!fn )\b\w+_counted\(": {"by_rows.rt": 3, "by_depth.rt": 4, "share.rt": 1},
+    },
 }
 
 
@@ -505,7 +510,9 @@ def test_calls_of_counts(crate):
 @pytest.mark.parametrize("crate, file, call", [
     ("bw_check", "checking.rt", "for g in 0..count {"), ("bw_check", "marks.rt", "Count::none()"),
     ("bw_questions", "from_root/planned.rt", "plan(alloc, &light)?"),
-    ("bw_questions", "from_root.rt", "&mut Count::none()")])
+    ("bw_questions", "from_root.rt", "&mut Count::none()"),
+    ("bw_plan", "by_rows.rt", "plan_rows_counted(alloc, instance, &gathered, work)"),
+    ("bw_plan", "by_rows.rt", "&mut Work::new()")])
 def test_another_call_of_a_count_is_found(crate, file, call):
     sources = sources_of(crate)
     assert misplaced(CALLS_OF_COUNTS[crate], {**sources, file: sources[file] + call})
