@@ -4,6 +4,7 @@ mod CertLemmas
 mod ConditionTests
 mod CounterLemmas
 mod GroupLists
+mod HungerLemmas
 mod IdLemmas
 mod LeafLemmas
 mod NeededLemmas

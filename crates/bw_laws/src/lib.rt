@@ -22,6 +22,9 @@ pub use needed::{
     sums_are_needed,
 };
 pub use parts::{amounts_keep_shares, parts_are_within, parts_fill_the_limit};
-pub use readings::{leaf_asks_for_its_waiting, slices_cover_time};
+pub use readings::{
+    asked_covers_use, everything_has_a_reason, hunger_is_lack, leaf_asks_for_its_waiting,
+    slices_cover_time, tasks_bound_use,
+};
 pub use transcripts::{reading_follows_the_transcript, there_is_one_transcript};
 pub use weights::weights_give_limits;
