@@ -111,7 +111,7 @@ pub record TasksBoundUse : Type 0 where
       → sum ran ≤ 1000 * times.used_us → AreRested times ran waited
       → could_use times (sums_of times.passed_ns ran waited) ≡ 1000 * times.used_us
 
--- What a group asks for, in slices.
+-- The slices that a group asks for.
 pub record AskedCoversUse : Type 0 where
   -- it asks for no less than it used
   pub no_less : (shape : Shape) (times : RoundTimes) (ran waited : List ℕ) → IsHost shape
