@@ -185,13 +185,22 @@ def said() -> dict[str, str]:
 def counted(texts: Iterable[str]) -> dict[str, dict[str, int]]:
     """The crates with their numbers of proved functions, of axioms and of functions that may wait,
     as the kit counted them."""
-    found = {}
+    found: dict[str, dict[str, int]] = {}
     for text in texts:
-        for name, line in re.findall(
-                r"^== (\w+)\n(?:(?!== ).*\n)*?(logic=proved .*)$", text, re.M):
+        name = ""
+        # (a log of one crate has no heading, so its items name it)
+        for head, item, line in re.findall(
+                r"^(?:== (\w+)(?:: its tests)?|\w+ (\w+)::.*: proved|(logic=proved .*))$", text,
+                re.M):
+            name = head or item or name
+            if not (name and line):
+                continue
             words = dict(each.split("=", 1) for each in line.split() if "=" in each)
-            found[name] = {key: int(words.get(word, 0)) for key, word in (
-                ("functions", "functions"), ("axioms", "axioms"), ("may_wait", "may-wait"))}
+            its = found.setdefault(name, {})
+            # a crate of tests has none of its own, and those of its tests in a second line
+            for key, word in (("functions", "functions"), ("axioms", "axioms"),
+                              ("may_wait", "may-wait")):
+                its[key] = max(its.get(key, 0), int(words.get(word, 0)))
     return found
 
 

@@ -281,7 +281,22 @@ logic=proved functions=9 may-wait=4 sum=d axioms=20
 rt: must-fail bw_text/other.edit: refused, as it must be: fn bw_text::a
 rt: must-fail bw_text/missed.edit: NOT REFUSED: the crate is still proved with this edit
 rt: must-fail arbiter/one.edit: refused, as it must be (only by a limit of the prover)
+== bw_tests
+logic=proved functions=0 sum=d
+== bw_tests: its tests
+fn bw_tests::a: proved
+logic=proved tests=3 functions=5 axioms=1 sum=d
 """
+
+
+def test_log_of_one_crate(release):
+    """The log of a library that ./test makes has no heading: its items name the crate."""
+    alone = ("rt: chose --jobs 1 for bw_exports\nso far: 0 of 2 functions checked\n"
+             "impl bw_exports::fault::Debug: proved\nfn bw_exports::fit: proved\n\n"
+             "logic=proved functions=59 axioms=3 sum=d\n")
+    wanted = {"bw_exports": {"functions": 59, "axioms": 3, "may_wait": 0}}
+    same(release.counted([alone]), wanted, "alone")
+    same(release.counted([f"{alone}== arbiter\nrt: no crate is proved\n"]), wanted, "and another")
 
 
 def test_what_was_proved(release, installed, tmp_path, monkeypatch):
@@ -290,14 +305,15 @@ def test_what_was_proved(release, installed, tmp_path, monkeypatch):
     monkeypatch.setattr(release, "TOP", tmp_path)
     source = tmp_path / "crates/bw_text/src/lib.rt"
     for path, text in ((source, ""), (tmp_path / "out/gate.log", LOG), (
-            tmp_path / "crates.txt", "bw_text:\nbw_low: bw_text\narbiter: bw_low # x\n")):
+            tmp_path / "crates.txt", "bw_text:\nbw_low: bw_text\narbiter: bw_low # x\nbw_tests:\n")):
         path.parent.mkdir(parents=True, exist_ok=True)
         path.write_text(text)
     os.utime(source, (10**9, 10**9))
     its = release.Release(VERSION, COMMIT, SECONDS, KIT)
     found = release.proved(release.below(installed), its)
     same(found["crates"], {"arbiter": {"functions": 9, "axioms": 20, "may_wait": 4},
-                           "bw_text": {"functions": 27, "axioms": 2, "may_wait": 0}}, "crates")
+                           "bw_text": {"functions": 27, "axioms": 2, "may_wait": 0},
+                           "bw_tests": {"functions": 5, "axioms": 1, "may_wait": 0}}, "crates")
     same((found["not_counted"], found["refused_edits"]),
          (["bw_low"], {"arbiter": ["one"], "bw_text": ["other"]}), "the rest")
     same((found["kit"], found["logic"], found["commit"], found["coq_theorems_without_axioms"]),
@@ -309,7 +325,7 @@ def test_what_was_proved(release, installed, tmp_path, monkeypatch):
     os.utime(source)
     os.utime(tmp_path / "out/gate.log", (10**9, 10**9))
     found = release.proved(release.below(installed), its)
-    same((found["crates"], found["refused_edits"], len(found["not_counted"])), ({}, {}, 3), "old")
+    same((found["crates"], found["refused_edits"], len(found["not_counted"])), ({}, {}, 4), "old")
 
 
 def test_theorems_of_coq(release, tmp_path, monkeypatch):
