@@ -243,9 +243,10 @@ def read(files: Sequence[File], library: Library, options: SourceOptions) -> Mod
             raise HostFault(f"{name}: no containers as `docker inspect` prints them")
         raw += entries
     running, options = tuple(filter(is_running, raw)), options.for_containers("limit", "docker")
-    many = Counter(text_field(each, "Id") or text_field(each, "Name") for each in running)
+    # several may have one name, but no two have one identifier
+    many = Counter(filter(None, (text_field(each, "Id") for each in running)))
     for word, count in many.items():
-        if word and count > 1:
+        if count > 1:
             raise HostFault(f"{names.shown(word)}: {count} containers of this identifier: is a file"
                             " given twice?")
     left, in_pods = len(raw) - len(running), sum(bool(text_field(each, "Pod")) for each in running)
