@@ -186,6 +186,13 @@ def test_one_version(path):
     same(symbols, soname, "debian/libarbiter1.symbols")
 
 
+def test_descriptions_of_packages_are_narrow():
+    """lintian takes no line of more than 80 bytes, and runs on a release alone."""
+    lines = share("debian/control").splitlines()
+    assert len(lines) > 50
+    same([line for line in lines if line.startswith(" ") and len(line.encode()) > 80], [], "wide")
+
+
 def test_newest_changes_are_of_the_version():
     """The first number of CHANGELOG.md is the version, with its day, which is that of the packages,
     and its tag. What is not released is above it."""
