@@ -7,6 +7,7 @@ says what it refuses.
 """
 import collections
 import functools
+import shutil
 import subprocess
 
 import pytest
@@ -300,7 +301,7 @@ int main(void) {
 def test_sleep_of_all_is_told(record, scratch):
     """The recorder ends a run in which each thread that is left sleeps."""
     (scratch / "sleeps.c").write_text(SLEEPS)
-    subprocess.run(["cc", "-O1", "-pthread", "-o", scratch / "sleeps", scratch / "sleeps.c"],
-                   check=True)
+    words = [shutil.which("cc"), "-O1", "-pthread", "-o", scratch / "sleeps", scratch / "sleeps.c"]
+    subprocess.run(words, check=True)
     run = recorder.recorded(record, [str(scratch / "sleeps")], "", 1, "even", 1)
     same(run.text, "block 0 528\n0 add 0 0 0 1 0 0\n0 sleep 0 0 1 1 1 1\nstuck\n")

@@ -118,6 +118,7 @@ def test_tasks_beside_the_groups_below_are_told(ctl, folder):
     trees.root2(folder / "t")
     for name in ("a", "a/x", "b", "b/x"):
         trees.group2(folder / "t" / name)
+        (folder / "t" / name / "cgroup.type").write_text("domain threaded\n")
     (folder / "t/a/cgroup.threads").write_text("7\n8\n")
     (folder / "t/b/cgroup.threads").write_text("")
     _, err = ctl.run("explain", folder / "t", "--cpus", "4", "--want", "busy")

@@ -202,7 +202,8 @@ class Tree:
         look.model.add(group)
         if not has_more or not self.add_below(look, group, depth):
             self.add_tasks(look, group)
-        elif cgroup2.file_text(group.place, "cgroup.threads"):
+        elif ("threaded" in (cgroup2.file_text(group.place, "cgroup.type") or "")
+              and cgroup2.file_text(group.place, "cgroup.threads")):
             notes.append(f"{group.path}: tasks of its own, as a threaded group may have them beside"
                          " the groups below it: left out")
         return True
