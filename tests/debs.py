@@ -269,9 +269,10 @@ def test_program_runs(installed):
     same(said, "accepted\n", "the check")
 
 
-def test_arbiterctl_runs(installed):
+def test_arbiterctl_runs(installed, request):
     """A tree of cgroups is imported and explained, by the library that is installed."""
     group = installed / "srv/cgroup/web.service"
+    request.addfinalizer(lambda: shutil.rmtree(group.parent))
     group.mkdir(parents=True)
     (group.parent / "cgroup.controllers").write_text("cpu\n")
     (group.parent / "cgroup.subtree_control").write_text("cpu\n")
@@ -285,7 +286,7 @@ def test_arbiterctl_runs(installed):
                               given=script.encode(), user=NOBODY))
     assert found["engine"].endswith("libarbiter.so.1"), found["engine"]
     same(found["check"], "accepted", "the check")
-    same([each["gets"]["slices"] for each in found["groups"]], [50, 50], "the plan")
+    same([each["gets"]["millicpu"] for each in found["groups"]], [500, 500], "the plan")
     examples = "/usr/share/doc/arbiter/examples"
     said = within(installed, "arbiterctl", "explain", f"{examples}/pods.json",
                   f"{examples}/node.json", "--want", "busy", "-o", "json", user=NOBODY)
@@ -295,7 +296,6 @@ def test_arbiterctl_runs(installed):
     assert "library proved by rattle-kit" in said[1], said
     same(within(installed, "python3", "-c", "import arbiter_host as a; print(a.__version__)"),
          f"{version()}\n", "the package")
-    shutil.rmtree(group.parent)
 
 
 def test_scheduler_runs(installed):
