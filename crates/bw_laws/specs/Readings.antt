@@ -129,7 +129,7 @@ pub record AskedCoversUse : Type 0 where
       ⊎ (asked_slices shape times (sums_of times.passed_ns ran waited)
       ≤ max (used_slices shape times) (times.tasks * slices_per_processor shape))
 
--- A group asks for everything if and only if it is hungry for one of three reasons. It used nothing,
+-- A group asks for everything just where it is hungry for one of three reasons. It used nothing,
 -- or its tasks that were there at both readings ran for less than 19 twentieths of what it used, or
 -- it could have used the whole host.
 abbrev pub EverythingHasAReason : Type 0
