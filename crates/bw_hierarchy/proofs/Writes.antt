@@ -95,6 +95,14 @@ sets_IsSetting Max text f s =
 sets_IsSetting MaxBurst text f s = subst (λ k. IsSetting MaxBurst k) (sym s.2) (burst_IsSetting s.0)
 sets_IsSetting Stat text f s = absurd s
 
+-- the root has no file that sets a value
+pub sets_no_root : (file : GroupFile) (text : List ℕ) (f : GroupFields → GroupFields)
+    → Sets file text f → is_of_root file ≡ false
+sets_no_root Weight text f s = refl
+sets_no_root Max text f s = refl
+sets_no_root MaxBurst text f s = refl
+sets_no_root Stat text f s = absurd s
+
 module _ (f : GroupFields → GroupFields) (rest : (g : GroupFields) → unwritten (f g) ≡ unwritten g)
     (gs : List (ℕ × GroupFields)) (id : ℕ)
     (g : GroupFields) (at : group_at gs id ≡ Some g) where

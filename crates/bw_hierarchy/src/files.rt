@@ -7,6 +7,7 @@ ghost use Rattle.bw_model.specs.Host.{IsHost};
 ghost use Rattle.bw_tree.specs.Groups.{group_at};
 ghost use Rattle.bw_tree.specs.Tree.{setting_refusal};
 ghost use Rattle.bw_hierarchy.specs.Faults.{IsRefusal, IsMemoryLast};
+ghost use Rattle.bw_hierarchy.specs.Calls.{found_at};
 ghost use Rattle.bw_hierarchy.specs.GroupFiles.{file_named, is_of_root};
 ghost use Rattle.bw_hierarchy.specs.Files.{file_of, text_of, read_of, weight_write, max_write};
 ghost use Rattle.bw_hierarchy.specs.Files.{burst_write, write_at, write_of};
@@ -134,12 +135,14 @@ fn write_at(tree: &mut Tree, id: GroupId, name: &str, text: &[u8]) -> Result<(),
     }
 }
 
-// Writes a text into a file of the group at a path.
-pub(crate) fn write(tree: &mut Tree, path: &str, file: &str, text: &[u8]) -> Result<(), Fault>
+// Writes a text into a file of the group at a path, and returns the group's id.
+pub(crate) fn write(tree: &mut Tree, path: &str, file: &str, text: &[u8]) -> Result<GroupId, Fault>
     ensures set { OnOk result (write_of tree.old path.now file.now text.now ≡ Ok tree.new) }
+    ensures found { IfOk result (λ id. found_at tree.old path.now ≡ Ok id) }
     ensures refused { IfErr result (λ e. write_of tree.old path.now file.now text.now ≡ Err e) }
     ensures err { OnErr result (tree.new ≡ tree.old) }
 {
     let id = by_path::find(tree, path)?;
-    write_at(tree, id, file, text)
+    write_at(tree, id, file, text)?;
+    Ok(id)
 }

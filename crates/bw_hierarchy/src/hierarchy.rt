@@ -308,11 +308,9 @@ impl Hierarchy {
             (λ e. write_of self.old.tree path.now file.now text.now ≡ Err e) }
         ensures err { OnErr result (self.new ≡ self.old) }
     {
-        // most lines find none, and an assignment drops it all the same
-        if self.kept.is_some() {
-            self.kept = None;
-        }
-        files::write(&mut self.tree, path, file, text)
+        let id = files::write(&mut self.tree, path, file, text)?;
+        self.tree.renew_row(id, self.shape, &mut self.kept);
+        Ok(())
     }
 
     // Does all of a builder's calls, or none. Copies the tree before any test, so `OutOfMemory` can

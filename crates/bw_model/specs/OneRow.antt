@@ -17,3 +17,12 @@ with_limit groups g limit =
       shape = groups.shape;
       rows = slice_set groups.rows g (record (row_of groups.rows g) { limit = limit });
     }
+
+-- the groups, one with another weight and another limit
+abbrev pub with_row : Groups → ℕ → ℕ → Option ℕ → Groups
+with_row groups g weight limit =
+    record {
+      shape = groups.shape;
+      rows = slice_set groups.rows g
+          (record (row_of groups.rows g) { weight = weight; limit = limit });
+    }

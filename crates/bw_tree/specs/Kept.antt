@@ -9,6 +9,7 @@ use Rattle.bw_model.specs.declared.limits.TheConstants.{MAX_DEMAND}
 use Rattle.bw_model.specs.OneRow.{with_demand, with_limit}
 use Rattle.bw_tree.specs.Groups.{GroupFields, TreeState, IsSound}
 use Rattle.bw_tree.specs.Snapshot.{instance_of, rows_of, base_of}
+use Rattle.bw_tree.specs.Tree.{setting_refusal, with_setting}
 use Rattle.bw_tree.specs.declared.snapshot.Snapshot.{Snapshot}
 
 -- the rows, the ids and the quotas are those of a tree's groups on a host
@@ -42,6 +43,18 @@ demand_set place demand snapshot =
 abbrev pub limit_set : ℕ → Option ℕ → Snapshot → Snapshot
 limit_set place limit snapshot =
     record snapshot { instance = with_limit snapshot.instance place limit }
+
+-- a snapshot that is kept is one of the tree before settings of the group with this id changed; a
+-- setting leaves the parent and the demand
+pub record IsBehind (kept : Option Snapshot) (tree : TreeState) (shape : Shape) (id : ℕ) : Type 0
+  where
+    pub settable : setting_refusal tree id ≡ None
+    pub before : TreeState
+    pub was_kept : IsKept kept before shape
+    pub change : GroupFields → GroupFields
+    pub parent_stays : (g : GroupFields) → (change g).parent ≡ g.parent
+    pub demand_stays : (g : GroupFields) → (change g).demand ≡ g.demand
+    pub step : tree ≡ with_setting change before id
 
 -- the rows of some groups on a host
 abbrev pub on_host : List (ℕ × GroupFields) → Shape → Groups

@@ -1,20 +1,23 @@
 //! The groups of a tree as an instance on a host.
 ghost use Rattle.std.specs.Prelude.{◌≡◌, ◌<◌, length, nat_eq, slice_index_or, IfOk, IfErr};
-ghost use Rattle.std.specs.Prelude.{ℕ, None, IfSome};
+ghost use Rattle.std.specs.Prelude.{◌≤◌, ℕ, None, IfSome, is_some, slice_set};
 ghost use Rattle.std.specs.Option.{option_map};
 ghost use Rattle.std.specs.List.{IsDistinct};
 ghost use Rattle.std.specs.Vec.{vec_capacity};
 ghost use Rattle.bw_model.specs.Groups.{IsInstance, row_of};
-ghost use Rattle.bw_tree.specs.Groups.{GroupFields};
+ghost use Rattle.bw_model.specs.OneRow.{with_row};
+ghost use Rattle.bw_tree.specs.Groups.{GroupFields, IsSound};
 ghost use Rattle.std.specs.Map.{keys_of};
 ghost use Rattle.bw_tree.specs.Snapshot.{instance_of, rows_of, base_of, row_above};
-ghost use Rattle.bw_tree.specs.Kept.{demand_set, CanSetRow};
+ghost use Rattle.bw_tree.specs.Snapshot.{quota_slices as slices_of, period_limit as limit_of};
+ghost use Rattle.bw_tree.specs.Kept.{demand_set, CanSetRow, IsKept, IsBehind};
 
 use crate::carry::{period_limit, quota_slices};
 use crate::fault::TreeFault;
-use crate::group::GroupId;
-use crate::group_map::entry_at;
+use crate::group::{Group, GroupId};
+use crate::group_map::{entry_at, place_of};
 use crate::tree::Tree;
+use bw_model::limits::MAX_GROUPS;
 use bw_model::{HostShape, Instance, Row};
 use std::alloc::AllocError;
 
@@ -36,6 +39,25 @@ impl Snapshot {
         ensures { self.new ≡ demand_set place demand self.old }
     {
         self.instance.set_demand(place as u32, demand);
+    }
+
+    // Gives the row at a place below the root its group's weight and limit, and its quota.
+    fn renew(&mut self, place: usize, group: &Group, shape: HostShape)
+        requires below_root { 0 < place }
+        requires within { place < length self.old.instance.rows }
+        requires few { length self.old.instance.rows ≤ MAX_GROUPS }
+        requires quotas { length self.old.quotas.items ≡ length self.old.instance.rows }
+        requires sound { IsSound group.now }
+        ensures row { self.new.instance
+            ≡ with_row self.old.instance place group.now.weight (limit_of shape group.now) }
+        ensures quota { self.new.quotas.items
+            ≡ slice_set self.old.quotas.items place (slices_of shape group.now) }
+        ensures ids { self.new.ids ≡ self.old.ids }
+    {
+        let quota = quota_slices(group, shape);
+        let limit = period_limit(shape, quota, group.period, group.burst, group.carry);
+        self.quotas[place] = quota;
+        self.instance.set_row(place as u32, group.weight, limit);
     }
 }
 
@@ -59,6 +81,24 @@ struct Columns {
 }
 
 impl Tree {
+    /// Gives the row of a group in a snapshot on `shape`, if one is kept, the group's settings.
+    ///
+    /// All other rows are in step already. Allocates nothing.
+    pub fn renew_row(&self, id: GroupId, shape: HostShape, kept: &mut Option<Snapshot>)
+        requires { IsBehind kept.old self.now shape id }
+        ensures kept { IsKept kept.new self.now shape }
+        ensures stays { is_some kept.new ≡ is_some kept.old }
+    {
+        match kept {
+            None => {}
+            Some(snapshot) => {
+                let place = place_of(&self.groups, id).unwrap();
+                let (_, group) = entry_at(&self.groups, place);
+                snapshot.renew(place, group, shape);
+            }
+        }
+    }
+
     /// Takes a snapshot of the groups on a host: rows, ids and quotas, in order of creation.
     ///
     /// The limit of a row is the quota plus the carry of the last period, at most quota plus burst.

@@ -9,12 +9,16 @@ use Rattle.std.specs.Option.{option_map_or}
 use Rattle.std.proofs.lemmas.Bool.{cases_eq, cases_lt}
 use Rattle.std.proofs.lemmas.List.{get_or-set_same, get_or-set_other, length-set, get_or_default}
 use Rattle.bw_model.specs.declared.row.Row.{Row}
-use Rattle.bw_model.specs.declared.limits.TheConstants.{MAX_DEMAND}
+use Rattle.bw_model.specs.declared.limits.TheConstants.{MAX_DEMAND, MIN_WEIGHT, MAX_WEIGHT}
 use Rattle.bw_model.specs.Host.{Shape}
 use Rattle.bw_model.specs.Groups.{no_row, row_of, parent_of, weight_of, demand_of, is_child}
 use Rattle.bw_model.specs.Groups.{children_of, is_leaf, path_up_within, path_up, depth_of}
 use Rattle.bw_model.specs.Groups.{AreTreeRows, IsInstance}
 use Rattle.bw_model.specs.Children.{AreListed, IsIndexed}
+
+-- a weight in its range
+abbrev IsWeight : ℕ → Type 0
+IsWeight weight = (MIN_WEIGHT ≤ weight) × (weight ≤ MAX_WEIGHT)
 
 module _ (rows : List Row) (g : ℕ) (r : Row) (within : g < length rows)
     (up : r.parent ≡ parent_of rows g) where
@@ -81,13 +85,18 @@ module _ (rows : List Row) (g : ℕ) (r : Row) (within : g < length rows)
   this_row : (k : ℕ) → k ≡ g → row_of (set rows g r) k ≡ r
   this_row k same = ap (row_of (set rows g r)) same ∙ get_or-set_same rows g r no_row within
 
-  module _ (weight : r.weight ≡ weight_of rows g) (small : r.demand ≤ MAX_DEMAND)
+  module _ (weight : IsWeight r.weight) (small : r.demand ≤ MAX_DEMAND)
       (leaf : 0 < r.demand → is_leaf rows g ≡ true) (free : g ≡ 0 → r.limit ≡ None) where
-    weight_same : (k : ℕ) → weight_of (set rows g r) k ≡ weight_of rows k
-    weight_same k = elim (cases_eq k g) [
+    weight_fits : (k : ℕ) → IsWeight (weight_of rows k) → IsWeight (weight_of (set rows g r) k)
+    weight_fits k old = elim (cases_eq k g) [
       | inl same ↦
-          ap (λ (x : Row). x.weight) (this_row k same) ∙ weight ∙ ap (weight_of rows) (sym same)
-      | inr other ↦ ap (λ (x : Row). x.weight) (other_row k other)
+          let is : weight_of (set rows g r) k ≡ r.weight =
+          ap (λ (x : Row). x.weight) (this_row k same) in
+          (omega (arith, weight.0, is), omega (arith, weight.1, is))
+      | inr other ↦
+          let is : weight_of (set rows g r) k ≡ weight_of rows k =
+          ap (λ (x : Row). x.weight) (other_row k other) in
+          (omega (arith, old.0, is), omega (arith, old.1, is))
     ]
 
     demand_small : (k : ℕ) → demand_of rows k ≤ MAX_DEMAND
@@ -125,9 +134,7 @@ module _ (rows : List Row) (g : ℕ) (r : Row) (within : g < length rows)
       host = ok.host;
       tree = tree_same ok.tree;
       few = omega (arith, ok.few, length-set rows g r);
-      weights = λ k lt.
-          let old = ok.weights k (omega (arith, lt, length-set rows g r)) in
-          (omega (arith, old.0, weight_same k), omega (arith, old.1, weight_same k));
+      weights = λ k lt. weight_fits k (ok.weights k (omega (arith, lt, length-set rows g r)));
       shallow = λ k lt.
           let old = ok.shallow k (omega (arith, lt, length-set rows g r)) in
           omega (arith, old, depth_same k);
@@ -150,6 +157,11 @@ pub row_read : (rows : List Row) (g : ℕ) (x : Row) → g < length rows → x �
     → x ≡ row_of rows g
 row_read rows g x within read = read ∙ sym (get_or_default rows g no_row x within)
 
+-- its weight is in its range
+weight_read : (rows : List Row) (g weight : ℕ) → weight ≡ weight_of rows g
+    → IsWeight (weight_of rows g) → IsWeight weight
+weight_read rows g weight is old = (omega (arith, old.0, is), omega (arith, old.1, is))
+
 -- another demand in a row that was read
 pub demand_IsIndexed : (shape : Shape) (rows : List Row) (starts groups : List ℕ) (g : ℕ) (x : Row)
     (demand : ℕ) → IsIndexed (record { shape = shape; rows = rows }) starts groups
@@ -160,21 +172,24 @@ pub demand_IsIndexed : (shape : Shape) (rows : List Row) (starts groups : List �
 demand_IsIndexed shape rows starts groups g x demand is within read small leaf =
     let same : x ≡ row_of rows g = row_read rows g x within read in
     indexed_same rows g (record x { demand = demand }) within (ap (λ (y : Row). y.parent) same)
-    (ap (λ (y : Row). y.weight) same) small leaf
+    (weight_read rows g x.weight (ap (λ (y : Row). y.weight) same) (is.valid.weights g within))
+    small leaf
     (λ top. ap (λ (y : Row). y.limit) same ∙ ap (λ k. (row_of rows k).limit) top
     ∙ is.valid.root_unlimited) shape starts groups is
 
--- another limit in a row below the root that was read
-pub limit_IsIndexed : (shape : Shape) (rows : List Row) (starts groups : List ℕ) (g : ℕ) (x : Row)
-    (limit : Option ℕ) → IsIndexed (record { shape = shape; rows = rows }) starts groups
-    → g < length rows → x ≡ get_or rows g x → 0 < g
-    → IsIndexed (record { shape = shape; rows = set rows g (record x { limit = limit }) }) starts
-    groups
-limit_IsIndexed shape rows starts groups g x limit is within read below =
+-- another weight and another limit in a row below the root that was read
+pub row_IsIndexed : (shape : Shape) (rows : List Row) (starts groups : List ℕ) (g : ℕ) (x : Row)
+    (weight : ℕ) (limit : Option ℕ) → IsIndexed (record { shape = shape; rows = rows }) starts groups
+    → g < length rows → x ≡ get_or rows g x → 0 < g → IsWeight weight
+    → IsIndexed (record {
+      shape = shape;
+      rows = set rows g (record x { weight = weight; limit = limit });
+    }) starts groups
+row_IsIndexed shape rows starts groups g x weight limit is within read below fits =
     let same : x ≡ row_of rows g = row_read rows g x within read in
     let demand : x.demand ≡ demand_of rows g = ap (λ (y : Row). y.demand) same in
-    indexed_same rows g (record x { limit = limit }) within (ap (λ (y : Row). y.parent) same)
-    (ap (λ (y : Row). y.weight) same) (omega (arith, demand, is.valid.demands g within))
+    indexed_same rows g (record x { weight = weight; limit = limit }) within
+    (ap (λ (y : Row). y.parent) same) fits (omega (arith, demand, is.valid.demands g within))
     (λ some. demanding (is_leaf rows g) (λ inner. is.valid.inner_idle g within inner) demand some)
     (λ top. absurd (omega (arith, top, below))) shape starts groups is
   where
@@ -182,3 +197,14 @@ limit_IsIndexed shape rows starts groups g x limit is within read below =
         → 0 < x.demand → b ≡ true
     demanding true idle same some = refl
     demanding false idle same some = absurd (omega (arith, same, some, idle refl))
+
+-- another limit alone
+pub limit_IsIndexed : (shape : Shape) (rows : List Row) (starts groups : List ℕ) (g : ℕ) (x : Row)
+    (limit : Option ℕ) → IsIndexed (record { shape = shape; rows = rows }) starts groups
+    → g < length rows → x ≡ get_or rows g x → 0 < g
+    → IsIndexed (record { shape = shape; rows = set rows g (record x { limit = limit }) }) starts
+    groups
+limit_IsIndexed shape rows starts groups g x limit is within read below =
+    row_IsIndexed shape rows starts groups g x x.weight limit is within read below
+    (weight_read rows g x.weight (ap (λ (y : Row). y.weight) (row_read rows g x within read))
+    (is.valid.weights g within))
