@@ -8,7 +8,7 @@ use Rattle.std.proofs.Common.{if◌then◌else◌, Bool}
 use Rattle.bw_lend.specs.Crowd.{are_in}
 use Rattle.bw_lend.specs.Crowd.{Stage, Drawn, Hinting, Reading, Looking, Retracting, Parking}
 use Rattle.bw_lend.specs.Crowd.{ParkingHeld, Asleep, Fetching, Entering, Inside}
-use Rattle.bw_lend.specs.Crowd.{EnteringFor, Helping, Giving, Returning}
+use Rattle.bw_lend.specs.Crowd.{EnteringFor, Helping, Giving, GivingLast, Returning}
 use Rattle.bw_lend.specs.Crowd.{Phase, Has, Leaves, Wakes, Away, Posted, Claimed, Back}
 use Rattle.bw_lend.specs.Crowd.{Crowd, Event}
 use Rattle.bw_lend.specs.Crowd.{SpuriousWake}
@@ -196,6 +196,7 @@ held_by s h i t (Leaves x js (Helping j)) g at v k = more 1 7 s (omega arith)
 held_by s h i t (Leaves x js (Returning j)) g at v k =
     from_returning s h t js j g (at ∙ ap (λ (n : ℕ). Leaves n js (Returning j)) k.0, v)
 held_by s h i t (Leaves x js (Giving j n)) g at v k = absurd (let lt = k.2 in omega arith)
+held_by s h i t (Leaves x js (GivingLast j)) g at v k = absurd (let lt = k.2 in omega arith)
 held_by s h i t _ g at v k = absurd k
 
 pub from_claimed : (s : Crowd) (i t u h : ℕ) (w : Stage) → Sound s → s.phase i ≡ Has t w

@@ -7,7 +7,8 @@ use native.Mathlib.Decide.{ℕ_discrete}
 use Rattle.bw_lend.specs.Crowd.{are_in}
 use Rattle.bw_lend.specs.Crowd.{Drawn, Hinting, Reading, Looking, Retracting, Parking}
 use Rattle.bw_lend.specs.Crowd.{ParkingHeld, Asleep, Fetching, Entering, Inside}
-use Rattle.bw_lend.specs.Crowd.{Errand, Peeking, Claiming, EnteringFor, Helping, Giving, Returning}
+use Rattle.bw_lend.specs.Crowd.{Errand, Peeking, Claiming, EnteringFor, Helping, Giving}
+use Rattle.bw_lend.specs.Crowd.{GivingLast, Returning, LookBehind, look_behind_by}
 use Rattle.bw_lend.specs.Crowd.{Phase, Has, Leaves, Wakes, Place, Away, Posted, Claimed, Done, Back}
 use Rattle.bw_lend.specs.Crowd.{Crowd, Event, Take, Look, Lend, StoreHint, Read, Retract, Park}
 use Rattle.bw_lend.specs.Crowd.{SpuriousWake, Fetch, Leave, Glance, Peek, ClaimToHelp}
@@ -36,6 +37,7 @@ after_at s (SpuriousWake i) p = spurious_wake_by s i p
 after_at s (Fetch i) p = fetch_by s i p
 after_at s (Leave i) p = leave_by s i p
 after_at s (Glance i) p = glance_by s i p
+after_at s (LookBehind i) p = look_behind_by s i p
 after_at s (Peek i) p = peek_by s i p
 after_at s (ClaimToHelp i) p = claim_by EnteringFor s i p
 after_at s (ClaimToReturn i) p = claim_by Returning s i p
@@ -54,6 +56,7 @@ after_is s (SpuriousWake i) = refl
 after_is s (Fetch i) = refl
 after_is s (Leave i) = refl
 after_is s (Glance i) = refl
+after_is s (LookBehind i) = refl
 after_is s (Peek i) = refl
 after_is s (ClaimToHelp i) = refl
 after_is s (ClaimToReturn i) = refl
@@ -173,6 +176,13 @@ module _ (s : Crowd) (a b : ℕ) where
   by_glance (Leaves x js (Giving j (suc k))) = moved_beside (Leaves x js (Giving j k))
   by_glance _ = same_beside
 
+  by_behind : (p : Phase) → Beside s a b (or_same s (look_behind_by s a p))
+  by_behind (Leaves x js (Peeking (suc k))) =
+      moved_beside (if nat_lt x s.next then Leaves x js (Peeking k) else Wakes js)
+  by_behind (Leaves x js (Giving j (suc k))) =
+      moved_beside (Leaves x js (if nat_lt (x + 1) s.next then Giving j k else GivingLast j))
+  by_behind _ = same_beside
+
   by_peek : (p : Phase) → Beside s a b (or_same s (peek_by s a p))
   by_peek (Leaves x js (Peeking k)) = moved_beside (hinted x js (s.hint (x % s.words)))
   by_peek _ = same_beside
@@ -210,6 +220,16 @@ module _ (s : Crowd) (a b : ℕ) where
         a,
         ap s.place e
             ∙ (subst (λ k. Ok s a k (s.place a)) at (y.each a)).1.0,
+      )))) (λ n. same_beside)
+  by_give ks y (Leaves x js (GivingLast j)) at =
+      by_test (λ o. Beside s a b (or_same s o)) (are_in (j ∷ js) ks)
+      (Some (placed s a (Wakes ks) j (Done x a))) None
+      (λ all. hand_beside (Wakes ks) j (Done x a)
+      (λ e. inr (inr (
+        x,
+        a,
+        ap s.place e
+            ∙ (subst (λ k. Ok s a k (s.place a)) at (y.each a)).1,
       )))) (λ n. same_beside)
   by_give ks y (Leaves x js (Returning j)) at =
       by_test (λ o. Beside s a b (or_same s o)) (are_in js ks)
@@ -256,6 +276,7 @@ beside s (SpuriousWake i) b y = by_spurious s i b (s.phase i)
 beside s (Fetch i) b y = by_fetch s i b (s.phase i)
 beside s (Leave i) b y = by_leave s i b (s.phase i)
 beside s (Glance i) b y = by_glance s i b (s.phase i)
+beside s (LookBehind i) b y = by_behind s i b (s.phase i)
 beside s (Peek i) b y = by_peek s i b (s.phase i)
 beside s (ClaimToHelp i) b y = by_claim s i b EnteringFor (s.phase i)
 beside s (ClaimToReturn i) b y = by_claim s i b Returning (s.phase i)

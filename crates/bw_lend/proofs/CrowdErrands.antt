@@ -1,10 +1,12 @@
 -- The invariant is kept by the events of a seat that has left.
-use Rattle.std.proofs.Common.{◌≡◌, ℕ, suc, ◌%◌, ◌==◌, List, ◌∷◌}
+use Rattle.std.proofs.Common.{◌≡◌, ℕ, suc, ◌+◌, ◌%◌, ◌==◌, ◌≤◌, List, ◌∷◌, nat_lt}
+use Rattle.std.proofs.lemmas.Bool.{le-leb}
 use Rattle.std.proofs.Common.{Option, Some, None, true, false, if◌then◌else◌, refl, sym, ap}
 use Rattle.std.proofs.Common.{◌∙◌, subst, arith, eq-eqb, eqb-true, ⊎_elim}
 use Rattle.bw_lend.specs.Crowd.{Stage}
 use Rattle.bw_lend.specs.Crowd.{Asleep}
 use Rattle.bw_lend.specs.Crowd.{Errand, Peeking, Claiming, EnteringFor, Helping, Giving}
+use Rattle.bw_lend.specs.Crowd.{GivingLast}
 use Rattle.bw_lend.specs.Crowd.{Phase, Has, Leaves, Wakes, Away, Posted}
 use Rattle.bw_lend.specs.Crowd.{Hint, Crowd, put, moved, hinted, is_posted_with}
 use Rattle.bw_lend.specs.CrowdLaws.{Notes, WakesFirst, Holds, Comes}
@@ -96,6 +98,29 @@ module _ (s : Crowd) (a : ℕ) (y : Sound s) where
       goes_sound s a (Leaves x js (Giving j (suc k))) (Leaves x js (Giving j k)) y was tt tt
       (λ t i h. h) (λ t i q st h. h) (λ t i z h. h) (λ t i z h. h)
       (old.0, (old.1.0, (omega arith)))
+
+  -- no hint stands of a ticket that was not drawn
+  none_stands : (x t i : ℕ) → nat_lt x s.next ≡ false → x ≡ t → Stands s t i → ⊥
+  none_stands x t i late same st = let drawn = (y.hints (t % s.words) t i st).0 in
+      let lt : suc x ≤ s.next = omega arith in cc (sym late ∙ le-leb (suc x) s.next lt)
+
+  pub behind_peeking : (x : ℕ) (js : List ℕ) (k : ℕ) → s.phase a ≡ Leaves x js (Peeking (suc k))
+      → Sound (moved s a (if nat_lt x s.next then Leaves x js (Peeking k) else Wakes js))
+  behind_peeking x js k was = by_test (λ p. Sound (moved s a p)) (nat_lt x s.next)
+      (Leaves x js (Peeking k)) (Wakes js) (λ is. glance_peeking x js k was)
+      (λ late. goes_sound s a (Leaves x js (Peeking (suc k))) (Wakes js) y was tt tt
+      (λ t i h. h) (λ t i q st h. absurd (none_stands x t i late h st)) (λ t i z h. h)
+      (λ t i z h. absurd h) (at_errand x js (Peeking (suc k)) was).0)
+
+  pub behind_giving : (x : ℕ) (js : List ℕ) (j k : ℕ)
+      → s.phase a ≡ Leaves x js (Giving j (suc k))
+      → Sound (moved s a (Leaves x js (if nat_lt (x + 1) s.next then Giving j k else GivingLast j)))
+  behind_giving x js j k was = by_test (λ e. Sound (moved s a (Leaves x js e)))
+      (nat_lt (x + 1) s.next) (Giving j k) (GivingLast j) (λ is. glance_giving x js j k was)
+      (λ late. let old = at_errand x js (Giving j (suc k)) was in
+      goes_sound s a (Leaves x js (Giving j (suc k))) (Leaves x js (GivingLast j)) y was tt tt
+      (λ t i h. h) (λ t i q st h. absurd (none_stands (x + 1) t i late h st)) (λ t i z h. h)
+      (λ t i z h. h) (old.0, old.1.0))
 
   pub look_for : (x : ℕ) (js : List ℕ) (j : ℕ) → s.phase a ≡ Leaves x js (EnteringFor j)
       → Sound (moved s a (Leaves x js (if x == s.serving then Helping j else EnteringFor j)))

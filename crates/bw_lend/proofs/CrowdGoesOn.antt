@@ -7,7 +7,8 @@ use Rattle.bw_lend.proofs.CrowdHands.{are_all}
 use Rattle.bw_lend.specs.Crowd.{placed}
 use Rattle.bw_lend.specs.Crowd.{Stage, Drawn, Hinting, Reading, Looking, Retracting, Parking}
 use Rattle.bw_lend.specs.Crowd.{ParkingHeld, Asleep, Fetching, Entering, Inside}
-use Rattle.bw_lend.specs.Crowd.{Peeking, Claiming, EnteringFor, Helping, Giving, Returning}
+use Rattle.bw_lend.specs.Crowd.{Peeking, Claiming, EnteringFor, Helping, Giving, GivingLast}
+use Rattle.bw_lend.specs.Crowd.{Returning}
 use Rattle.bw_lend.specs.Crowd.{Phase, Has, Leaves, Wakes, Place, Away, Posted, Claimed, Done, Back}
 use Rattle.bw_lend.specs.Crowd.{Crowd, Look, StoreHint, Read, Retract, Park}
 use Rattle.bw_lend.specs.Crowd.{Fetch, Leave, Glance, Peek, ClaimToHelp}
@@ -128,6 +129,13 @@ can_step s i (Leaves x js (Giving j zero)) at e = (
 )
 can_step s i (Leaves x js (Giving j (suc k))) at e =
     (Glance i, refl, subst (λ o. is_some (glance_by s i o) ≡ true) (sym at) refl)
+can_step s i (Leaves x js (GivingLast j)) at e = (
+  Give i (j ∷ js),
+  refl,
+  subst (λ o. is_some (give_by s i (j ∷ js) o) ≡ true) (sym at)
+      (ap (λ b. is_some (if b then Some (placed s i (Wakes (j ∷ js)) j (Done x i)) else None))
+      (are_all (j ∷ js) (j ∷ js) (λ k h. h))),
+)
 can_step s i (Leaves x js (Returning j)) at e = (
   Give i js,
   refl,

@@ -7,7 +7,7 @@ use Rattle.std.proofs.Common.{◌&&◌, ◌||◌, Bool, ⊎_elim, [], ◌==◌, 
 use Rattle.bw_lend.specs.Crowd.{is_in, are_in}
 use Rattle.bw_lend.specs.Crowd.{Stage, Drawn, Hinting, Reading, Looking, Retracting, Parking}
 use Rattle.bw_lend.specs.Crowd.{ParkingHeld, Asleep, Fetching, Entering, Inside}
-use Rattle.bw_lend.specs.Crowd.{Errand, Peeking, Claiming, Giving, Returning}
+use Rattle.bw_lend.specs.Crowd.{Errand, Peeking, Claiming, Giving, GivingLast, Returning}
 use Rattle.bw_lend.specs.Crowd.{Phase, Has, Leaves, Wakes, Place, Away, Posted, Claimed, Done, Back}
 use Rattle.bw_lend.specs.Crowd.{Crowd, put, placed, is_posted_with}
 use Rattle.bw_lend.specs.CrowdLaws.{IsIn, Notes, WakesFirst, Holds, Comes}
@@ -212,6 +212,38 @@ module _ (s : Crowd) (a : ℕ) (y : Sound s) where
       (λ t i h. all_in (j ∷ js) ks all i (inr h)) (λ t i h. absurd h)
       (old.0, (served_below x js j n (s.phase j) was word, omega arith))
       (given x js ks j n (s.phase j) was (all_in (j ∷ js) ks all j (inl refl)) word)
+
+  given_last : (x : ℕ) (js ks : List ℕ) (j : ℕ) (p : Phase)
+      → s.phase a ≡ Leaves x js (GivingLast j) → IsIn j ks → Ok s j p (Claimed x a)
+      → Ok (placed s a (Wakes ks) j (Done x a)) j p (Done x a)
+  given_last x js ks j (Has t w) was has ok =
+      let held = subst (λ k. Holds s.serving k t j) was ok.3.2 in (
+        ok.0,
+        ok.1,
+        ok.2,
+        (
+          ok.3.0,
+          held.2,
+          lent_awaited w ok.3.1,
+          if_asleep w (Notes (put s.phase a (Wakes ks) a) j)
+              (subst (λ k. Notes k j) (sym (put_here s.phase a (Wakes ks))) has),
+        ),
+      )
+  given_last x js ks j (Leaves u ls k) was has ok = absurd (cc ok.0)
+  given_last x js ks j (Wakes ls) was has ok = absurd (cc ok)
+
+  pub give_last : (x : ℕ) (js ks : List ℕ) (j : ℕ) → s.phase a ≡ Leaves x js (GivingLast j)
+      → are_in (j ∷ js) ks ≡ true → Sound (placed s a (Wakes ks) j (Done x a))
+  give_last x js ks j was all = let old = at_errand s a y x js (GivingLast j) was in
+      hand_sound s a j (Leaves x js (GivingLast j)) (Wakes ks)
+      (Claimed x a) (Done x a) y was old.1
+      (other_place j (Claimed x a) old.0 old.1 (λ m. cc m)) tt tt
+      (λ u i ne m. ne (let k : a ≡ i = cc m in sym k))
+      (λ t i ne h. absurd (ne (sym h.1))) (λ t i ne h. absurd h)
+      (λ t i h. all_in (j ∷ js) ks all i (inr h)) (λ t i h. absurd h)
+      old.0
+      (given_last x js ks j (s.phase j) was (all_in (j ∷ js) ks all j (inl refl))
+      (at_word j (Claimed x a) old.1))
 
   returned : (x : ℕ) (js ks : List ℕ) (j : ℕ) (p : Phase) → s.phase a ≡ Leaves x js (Returning j)
       → Ok s j p (Claimed x a)

@@ -3,7 +3,8 @@ use Rattle.std.proofs.Common.{◌≡◌, ◌≢◌, ℕ, ◌%◌, ◌<◌, ◌�
 use Rattle.std.proofs.Common.{Some}
 use Rattle.bw_lend.specs.Crowd.{Stage, Drawn, Hinting, Reading, Looking, Retracting, Parking}
 use Rattle.bw_lend.specs.Crowd.{Asleep, Fetching, Entering, Inside}
-use Rattle.bw_lend.specs.Crowd.{Errand, Peeking, Claiming, EnteringFor, Helping, Giving, Returning}
+use Rattle.bw_lend.specs.Crowd.{Errand, Peeking, Claiming, EnteringFor, Helping, Giving}
+use Rattle.bw_lend.specs.Crowd.{GivingLast, Returning}
 use Rattle.bw_lend.specs.Crowd.{Phase, Has, Leaves, Wakes, Place, Away, Posted, Claimed, Done, Back}
 use Rattle.bw_lend.specs.Crowd.{Crowd, own_loads}
 use Rattle.bw_lend.specs.CrowdLaws.{Notes, WakesFirst, Holds, SomeoneComes}
@@ -78,6 +79,7 @@ OkErrand s i x (Claiming j) = (x ≤ s.serving) × Hinted s x j
 OkErrand s i x (EnteringFor j) = s.place j ≡ Claimed x i
 OkErrand s i x (Helping j) = s.place j ≡ Claimed x i
 OkErrand s i x (Giving j k) = (s.place j ≡ Claimed x i) × (k ≤ own_loads)
+OkErrand s i x (GivingLast j) = s.place j ≡ Claimed x i
 OkErrand s i x (Returning j) = s.place j ≡ Claimed x i
 
 -- the phase of the seat i and the word of its place

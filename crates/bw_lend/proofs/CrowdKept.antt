@@ -6,7 +6,8 @@ use mathlib.Core.Logic.{dite}
 use native.Mathlib.Decide.{ℕ_discrete}
 use Rattle.bw_lend.specs.Crowd.{Stage, Drawn, Hinting, Reading, Looking, Retracting, Parking}
 use Rattle.bw_lend.specs.Crowd.{ParkingHeld, Asleep, Fetching, Entering, Inside}
-use Rattle.bw_lend.specs.Crowd.{Errand, Peeking, Claiming, EnteringFor, Helping, Giving, Returning}
+use Rattle.bw_lend.specs.Crowd.{Errand, Peeking, Claiming, EnteringFor, Helping, Giving}
+use Rattle.bw_lend.specs.Crowd.{GivingLast, Returning}
 use Rattle.bw_lend.specs.Crowd.{Phase, Has, Leaves, Wakes, Place, Away, Posted, Claimed, Done, Back}
 use Rattle.bw_lend.specs.Crowd.{Crowd, put}
 use Rattle.bw_lend.specs.CrowdLaws.{Notes, WakesFirst, Holds, Comes, SomeoneComes}
@@ -122,6 +123,7 @@ module _ (s z : Crowd) (i : ℕ) where
   errand_kept x js (EnteringFor j) q st h = st.keeps x j h
   errand_kept x js (Helping j) q st h = st.keeps x j h
   errand_kept x js (Giving j k) q st h = (st.keeps x j h.0, h.1)
+  errand_kept x js (GivingLast j) q st h = st.keeps x j h
   errand_kept x js (Returning j) q st h = st.keeps x j h
 
   pub ok_kept : (p : Phase) (q : Place) → Steps s z i p q → Ok s i p q → Ok z i p q

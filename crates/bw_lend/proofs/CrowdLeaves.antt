@@ -7,7 +7,8 @@ use mathlib.Core.Logic.{dite}
 use native.Mathlib.Decide.{ℕ_discrete, dec_le}
 use Rattle.bw_lend.specs.Crowd.{Stage, Drawn, Hinting, Reading}
 use Rattle.bw_lend.specs.Crowd.{Inside}
-use Rattle.bw_lend.specs.Crowd.{Peeking, Claiming, EnteringFor, Helping, Giving, Returning}
+use Rattle.bw_lend.specs.Crowd.{Peeking, Claiming, EnteringFor, Helping, Giving, GivingLast}
+use Rattle.bw_lend.specs.Crowd.{Returning}
 use Rattle.bw_lend.specs.Crowd.{Phase, Has, Leaves, Wakes, Place, Away, Posted, Claimed, Done, Back}
 use Rattle.bw_lend.specs.Crowd.{Hint, Crowd, put, own_loads}
 use Rattle.bw_lend.specs.CrowdLaws.{Notes, WakesFirst, Holds, Comes}
@@ -250,6 +251,7 @@ holds_on v u i (Leaves x js (Claiming j)) ne h = h
 holds_on v u i (Leaves x js (EnteringFor j)) ne h = absurd (ne h.2)
 holds_on v u i (Leaves x js (Helping j)) ne h = absurd (ne h.2)
 holds_on v u i (Leaves x js (Giving j k)) ne h = (h.0, h.1, (let lt = h.2 in omega arith))
+holds_on v u i (Leaves x js (GivingLast j)) ne h = (h.0, h.1, (let lt = h.2 in omega arith))
 holds_on v u i (Leaves x js (Returning j)) ne h = absurd (ne h.2)
 holds_on v u i (Wakes js) ne h = h
 

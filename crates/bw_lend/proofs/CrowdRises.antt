@@ -3,14 +3,16 @@
 use Rattle.std.proofs.Common.{◌≡◌, ◌≢◌, ℕ, zero, suc, ◌+◌, ◌%◌, ◌<◌, ◌≤◌, ◌⊎◌, List, [], ◌∷◌}
 use Rattle.std.proofs.Common.{Some, None, true, false, if◌then◌else◌, refl, sym, ap}
 use Rattle.std.proofs.Common.{◌∙◌, subst, arith, eq-eqb, inl, inr, ⊎_elim, is_some, length, ◌-◌}
-use Rattle.std.proofs.Common.{◌*◌}
+use Rattle.std.proofs.Common.{◌*◌, Bool}
+use Rattle.std.proofs.lemmas.Bool.{le-leb}
 use mathlib.Core.Logic.{dite}
 use native.Mathlib.Decide.{ℕ_discrete, dec_le}
 use Rattle.bw_lend.specs.Crowd.{are_in}
 use Rattle.bw_lend.proofs.CrowdComes.{passed}
 use Rattle.bw_lend.specs.Crowd.{Stage, Drawn, Hinting, Reading, Looking, Retracting, Parking}
 use Rattle.bw_lend.specs.Crowd.{ParkingHeld, Asleep, Fetching, Entering, Inside}
-use Rattle.bw_lend.specs.Crowd.{Errand, Peeking, Claiming, EnteringFor, Giving, Returning}
+use Rattle.bw_lend.specs.Crowd.{Errand, Peeking, Claiming, EnteringFor, Giving, GivingLast}
+use Rattle.bw_lend.specs.Crowd.{Returning, LookBehind}
 use Rattle.bw_lend.specs.Crowd.{Phase, Has, Leaves, Wakes, Place, Away, Posted, Claimed, Done, Back}
 use Rattle.bw_lend.specs.Crowd.{Crowd, Event, Look, Lend, StoreHint, Park}
 use Rattle.bw_lend.specs.Crowd.{Glance, Peek, ClaimToHelp}
@@ -188,15 +190,26 @@ own_peeking : (s : Crowd) (e : Event) (x : ℕ) (js : List ℕ)
 own_peeking s (Peek a) x js h = refl
 own_peeking s _ x js h = absurd (cc h)
 
-own_loading : (s : Crowd) (e : Event) (x : ℕ) (js : List ℕ) (k : ℕ)
+own_loading : (s : Crowd) (e : Event) (x : ℕ) (js : List ℕ) (k : ℕ) → x < s.next
     → is_some (after_at s e (Leaves x js (Peeking (suc k)))) ≡ true
     → (after_at s e (Leaves x js (Peeking (suc k)))
     ≡ Some (moved s (seat_of e) (hinted x js (s.hint (x % s.words)))))
     ⊎ (after_at s e (Leaves x js (Peeking (suc k)))
     ≡ Some (moved s (seat_of e) (Leaves x js (Peeking k))))
-own_loading s (Peek a) x js k h = inl refl
-own_loading s (Glance a) x js k h = inr refl
-own_loading s _ x js k h = absurd (cc h)
+own_loading s (Peek a) x js k lt h = inl refl
+own_loading s (Glance a) x js k lt h = inr refl
+own_loading s (LookBehind a) x js k lt h =
+    inr (ap (λ (b : Bool). Some (moved s a (if b then Leaves x js (Peeking k) else Wakes js)))
+    (le-leb (suc x) s.next lt))
+own_loading s _ x js k lt h = absurd (cc h)
+
+-- the ticket of a seat that may sleep was drawn
+is_drawn : (s : Crowd) (i t : ℕ) → Sound s → MaySleep i t s → t < s.next
+is_drawn s i t g h = by_stage h.0
+  where
+    by_stage : (s.phase i ≡ Has t Parking) ⊎ (s.phase i ≡ Has t Asleep) → t < s.next
+    by_stage (inl at) = (at_place s i t g Parking (Posted t) at h.2).0
+    by_stage (inr at) = (at_place s i t g Asleep (Posted t) at h.2).0
 
 -- the hint of a seat that may sleep stands
 stands : (s : Crowd) (i t : ℕ) → Sound s → MaySleep i t s → Stands s t i
@@ -250,7 +263,8 @@ from_peeking (suc n) s h i t js g k = more (suc (12 + n)) (12 + suc n) s (omega 
           (put_else x.phase (seat_of e) i (Leaves t js (Peeking n))
           (λ m. apart x h i t t js (Peeking (suc n)) at (m ∙ mine))) refl refl,
     )))
-    (own_loading x e t js n (can_at x e h (Leaves t js (Peeking (suc n))) at.0 mine can)))) s g k)
+    (own_loading x e t js n (is_drawn x i t y at.1)
+    (can_at x e h (Leaves t js (Peeking (suc n))) at.0 mine can)))) s g k)
 
 -- the state where the seat a has given back the seat j, of the ticket x
 abbrev gave : Crowd → ℕ → ℕ → ℕ → List ℕ → Crowd
@@ -263,16 +277,19 @@ own_giving : (s : Crowd) (e : Event) (x : ℕ) (js : List ℕ) (j : ℕ)
 own_giving s (Give a ks) x js j h = (ks, passed (are_in (j ∷ js) ks) (gave s a x j ks) h)
 own_giving s _ x js j h = absurd (cc h)
 
-own_giving_later : (s : Crowd) (e : Event) (x : ℕ) (js : List ℕ) (j k : ℕ)
+own_giving_later : (s : Crowd) (e : Event) (x : ℕ) (js : List ℕ) (j k : ℕ) → x + 1 < s.next
     → is_some (after_at s e (Leaves x js (Giving j (suc k)))) ≡ true
     → ((ks : List ℕ)
     × (after_at s e (Leaves x js (Giving j (suc k))) ≡ Some (gave s (seat_of e) x j ks)))
     ⊎ (after_at s e (Leaves x js (Giving j (suc k)))
     ≡ Some (moved s (seat_of e) (Leaves x js (Giving j k))))
-own_giving_later s (Give a ks) x js j k h =
+own_giving_later s (Give a ks) x js j k lt h =
     inl (ks, passed (are_in (j ∷ js) ks) (gave s a x j ks) h)
-own_giving_later s (Glance a) x js j k h = inr refl
-own_giving_later s _ x js j k h = absurd (cc h)
+own_giving_later s (Glance a) x js j k lt h = inr refl
+own_giving_later s (LookBehind a) x js j k lt h =
+    inr (ap (λ (b : Bool). Some (moved s a (Leaves x js (if b then Giving j k else GivingLast j))))
+    (le-leb (suc (x + 1)) s.next lt))
+own_giving_later s _ x js j k lt h = absurd (cc h)
 
 -- where the next event gives the seat back
 after_give : (y : Crowd) (e : Event) (h i t x : ℕ) (js : List ℕ) (j n : ℕ) → Sound y → x + 1 ≡ t
@@ -321,6 +338,7 @@ from_giving (suc n) s h i t x js j g after_it k = more (suc (13 + n)) (13 + suc 
           (λ m. apart y h i t x js (Giving j (suc n)) at (m ∙ mine))) refl refl,
     )))
     (own_giving_later y e x js j n
+    (let lt = is_drawn y i t good at.1 in omega arith)
     (can_at y e h (Leaves x js (Giving j (suc n))) at.0 mine can)))) s g k)
 
 -- someone comes for a seat that may sleep

@@ -7,7 +7,8 @@ use Rattle.bw_lend.specs.Crowd.{Done, Back}
 use Rattle.bw_lend.specs.Crowd.{are_in}
 use Rattle.bw_lend.specs.Crowd.{Drawn, Hinting, Reading, Looking, Retracting, Parking}
 use Rattle.bw_lend.specs.Crowd.{ParkingHeld, Asleep, Fetching, Entering, Inside}
-use Rattle.bw_lend.specs.Crowd.{Errand, Peeking, Claiming, EnteringFor, Helping, Giving, Returning}
+use Rattle.bw_lend.specs.Crowd.{Errand, Peeking, Claiming, EnteringFor, Helping, Giving}
+use Rattle.bw_lend.specs.Crowd.{GivingLast, Returning, LookBehind, look_behind_by}
 use Rattle.bw_lend.specs.Crowd.{Phase, Has, Leaves, Wakes, Claimed}
 use Rattle.bw_lend.specs.Crowd.{Crowd, put, moved, placed, is_posted_with, woken}
 use Rattle.bw_lend.specs.Crowd.{Event, Take, Look, Lend, StoreHint, Read, Retract, Park}
@@ -23,8 +24,8 @@ use Rattle.bw_lend.proofs.CrowdWalks.{by_test, look_drawn, look_entering, look_l
 use Rattle.bw_lend.proofs.CrowdWalks.{park_posted}
 use Rattle.bw_lend.proofs.CrowdWalks.{park_held, lend, retract, fetch}
 use Rattle.bw_lend.proofs.CrowdErrands.{look_for, glance_peeking, glance_giving, peek, claim_lost}
-use Rattle.bw_lend.proofs.CrowdErrands.{wake_next}
-use Rattle.bw_lend.proofs.CrowdHands.{claim_won, give, return_back}
+use Rattle.bw_lend.proofs.CrowdErrands.{wake_next, behind_peeking, behind_giving}
+use Rattle.bw_lend.proofs.CrowdHands.{claim_won, give, give_last, return_back}
 use Rattle.bw_lend.proofs.CrowdLeaves.{take_sound, store_hint_sound, leave_own, leave_helping}
 
 less : (a b : ℕ) → nat_lt a b ≡ true → a < b
@@ -86,6 +87,11 @@ module _ (s : Crowd) (a : ℕ) (y : Sound s) where
   by_glance (Leaves x js (Giving j (suc k))) e = glance_giving s a y x js j k e
   by_glance _ e = y
 
+  by_behind : (p : Phase) → s.phase a ≡ p → Sound (or_same s (look_behind_by s a p))
+  by_behind (Leaves x js (Peeking (suc k))) e = behind_peeking s a y x js k e
+  by_behind (Leaves x js (Giving j (suc k))) e = behind_giving s a y x js j k e
+  by_behind _ e = y
+
   by_peek : (p : Phase) → s.phase a ≡ p → Sound (or_same s (peek_by s a p))
   by_peek (Leaves x js (Peeking k)) e = peek s a y x js k e (s.hint (x % s.words)) refl
   by_peek _ e = y
@@ -106,6 +112,10 @@ module _ (s : Crowd) (a : ℕ) (y : Sound s) where
       by_test (λ o. Sound (or_same s o)) (are_in (j ∷ js) ks)
       (Some (placed s a (Leaves (x + 1) ks (Peeking 0)) j (Done x a))) None
       (λ all. give s a y x js ks j k e all) (λ n. y)
+  by_give ks (Leaves x js (GivingLast j)) e =
+      by_test (λ o. Sound (or_same s o)) (are_in (j ∷ js) ks)
+      (Some (placed s a (Wakes ks) j (Done x a))) None
+      (λ all. give_last s a y x js ks j e all) (λ n. y)
   by_give ks (Leaves x js (Returning j)) e =
       by_test (λ o. Sound (or_same s o)) (are_in js ks)
       (Some (placed s a (Wakes (j ∷ ks)) j (Back x a))) None
@@ -157,6 +167,7 @@ happens_sound s (SpuriousWake a) y = by_spurious s a y (s.phase a) refl
 happens_sound s (Fetch a) y = by_fetch s a y (s.phase a) refl
 happens_sound s (Leave a) y = by_leave s a y (s.phase a) refl
 happens_sound s (Glance a) y = by_glance s a y (s.phase a) refl
+happens_sound s (LookBehind a) y = by_behind s a y (s.phase a) refl
 happens_sound s (Peek a) y = by_peek s a y (s.phase a) refl
 happens_sound s (ClaimToHelp a) y = by_claim s a y EnteringFor
     (λ x js j v t i e f g. (e, f, g)) (λ x j z h. h) (s.phase a) refl

@@ -2,7 +2,7 @@
 -- and tells what its play says.
 use Rattle.std.proofs.Common.{◌≡◌, ◌≢◌, ℕ, zero, suc, ◌+◌, ◌/◌, ◌%◌, ◌<◌, ◌≤◌, ◌==◌, List, [], ◌∷◌}
 use Rattle.std.proofs.Common.{◌++◌, length, set, slice_index, refl, sym, ap, ◌∙◌, subst, arith}
-use Rattle.std.proofs.Common.{Bool, true, false, MatchBool, IsSome, None, replicate, if◌then◌else◌, eq-eqb, ne_eqb, ⊎_elim}
+use Rattle.std.proofs.Common.{Bool, true, false, MatchBool, IsSome, Option, Some, None, replicate, if◌then◌else◌, eq-eqb, ne_eqb, ⊎_elim}
 use Rattle.std.proofs.lemmas.List.{length-set, length-replicate}
 use mathlib.Core.Option.{none, some, some-ne-none}
 use lib.ListN.{get_elem?}
@@ -19,11 +19,12 @@ use Rattle.bw_lend.specs.declared.stake.Part.{Part}
 use Rattle.bw_lend.specs.declared.stake.Part.TheVariants.{Fresh, Owns, Hints, Lends, Helps}
 use Rattle.bw_lend.specs.declared.stake.Stake.{Stake}
 use Rattle.bw_lend.specs.declared.table.Place.TheVariants.{Lent}
-use Rattle.bw_lend.specs.Lent.{BringsOf, Content, HasTicket}
+use Rattle.bw_lend.specs.Lent.{BringsOf, Content, HasTicket, IsMade}
 use Rattle.bw_lend.specs.Rule.{weigh, weigh_all, Each, EachIn, stake, stakes_from}
 use Rattle.bw_lend.specs.Rule.{helper_at, owns, helps, Suits, Fits, Ruled, hint_word, hint_for}
 use Rattle.bw_lend.specs.Plays.{Mine, opened, posted, taken_back, claimed, given_back, hinted}
 use Rattle.bw_lend.specs.Plays.{others, first_one}
+use Rattle.bw_lend.specs.Waits.{IsOwn, MayTakeBack}
 use Rattle.bw_lend.proofs.Lists.{here_or_else, weigh_set, weigh_snoc, weigh_at, alone}
 use Rattle.bw_lend.proofs.Lists.{each_anything, each_zero, each_with, each_set, each_snoc}
 use Rattle.bw_lend.proofs.Moved.{no_owner, lent_stays, no_helper, fits_now, moved}
@@ -32,6 +33,18 @@ use Rattle.bw_lend.proofs.Moved.{no_owner, lent_stays, no_helper, fits_now, move
 pub is_home : (made : Bool) (n : ℕ) → MatchBool made (n % 8 ≡ 4) (n % 8 ≡ 5) → 3 ≤ n % 8
 is_home true n h = omega arith
 is_home false n h = omega arith
+
+-- the code tells whether the call is made
+pub made_code : (made : Bool) (n : ℕ) → MatchBool made (n % 8 ≡ 4) (n % 8 ≡ 5)
+    → (n % 8 == 4) ≡ made
+made_code true n h = ap (λ (x : ℕ). x == 4) h
+made_code false n h = ap (λ (x : ℕ). x == 4) h
+
+-- a place that its owner may take back is at home
+pub may_be_home : (n : ℕ) (found : Option ℕ) (ticket : ℕ) → MayTakeBack (Some n) found ticket
+    → 3 ≤ n % 8
+may_be_home n found ticket may = ⊎_elim (λ (back : 4 ≤ n % 8). omega arith)
+    (λ (own : (n % 8 ≡ 3) × IsOwn found ticket). let three = own.0 in omega arith) may
 
 all_zero : (n k : ℕ) → slice_index (replicate {A = ℕ} n 0) k ≡ 0
 all_zero zero k = refl
@@ -195,8 +208,11 @@ module _ {C R : Type 0} (lock : TableId) where
             (λ _. (
               Lent h,
               set_here s.homes k (some (Lent h)) (omega (arith, sized)),
-              same_brings lock of (n / 8) (n / 8) (lent k) h (Lent h) (sym fit.serves) refl here
-                  ((belongs, pending, refl), has),
+              same_brings lock of n n (lent k) h (Lent h) (sym fit.serves) refl here (
+                (belongs, pending, refl),
+                has,
+                subst (λ made. IsMade made (Lent h)) (sym (ap (λ (x : ℕ). x == 4) three)) tt,
+              ),
             )),
         refl,
       )
@@ -241,8 +257,8 @@ module _ {C R : Type 0} (lock : TableId) where
             got.0,
             refl,
             (
-              same_brings of lock (old / 8) (found / 8) h (r.lent k) got.0 fit.serves
-                  (ap (λ (x : ℕ). x / 8) (sym e)) fit.suits.1 got.2,
+              same_brings of lock old found h (r.lent k) got.0 fit.serves (sym e) fit.suits.1
+                  got.2,
               tt,
             ),
           )),
@@ -253,7 +269,7 @@ module _ {C R : Type 0} (lock : TableId) where
 
   -- step claim
   claim_at : (slots id : ℕ) (of : TableId) (mine k old n : ℕ) (c : List (ℕ × Content C R)) → k < 64
-      → 3 ≤ old % 8 → n % 8 ≡ 2
+      → old % 8 ≡ 3 → n % 8 ≡ 2
       → Allows Rule slots id (stake of mine Owns ∷ [], c) k (λ m. either (m == old) n m)
       (claimed (step slots k old n none) (stake of mine Owns ∷ [], c))
   claim_at slots id of mine k old n c lt home two s r sized at small =
@@ -265,8 +281,9 @@ module _ {C R : Type 0} (lock : TableId) where
       exchanged found old n (λ m. (u : List (Stake TableId (Holder C R))) × (a : Act (Content C R)) × Valid s.homes c a
       × Rule (stepped s k m id c u a)
       × claimed (step slots k old n none) (v, c) found (u, carried_after c a))
-      (λ (e : found ≡ old). let three : 3 ≤ found % 8 = subst (λ (x : ℕ). 3 ≤ x % 8) (sym e) home in
+      (λ (e : found ≡ old). let three : 3 ≤ found % 8 = subst (λ (x : ℕ). 3 ≤ x % 8) (sym e) (omega arith) in
       let got = r.home k lt three in
+      let brings = same_brings of lock old found (r.lent k) (r.lent k) got.0 fit.serves (sym e) refl got.2 in
       let none_yet = nobody_helps (Holder C R) lock s.words r.lent k three s.views r.each in (
         w,
         takes k got.0,
@@ -299,8 +316,9 @@ module _ {C R : Type 0} (lock : TableId) where
             r.lent k,
             got.0,
             refl,
-            same_brings of lock (old / 8) (found / 8) (r.lent k) (r.lent k) got.0 fit.serves
-                (ap (λ (x : ℕ). x / 8) (sym e)) refl got.2,
+            brings.0,
+            brings.1,
+            subst (λ made. IsMade made got.0) (ap (λ (x : ℕ). x == 4) home) brings.2,
             (refl, tt),
           )),
           (λ ne. absurd (ne e)),
@@ -310,7 +328,7 @@ module _ {C R : Type 0} (lock : TableId) where
 
   -- step give back
   give_back_at : (slots id : ℕ) (of : TableId) (k n : ℕ) (h : Holder C R) (z : Content C R) (ps : List (Stake TableId (Holder C R)))
-      (c : List (ℕ × Content C R)) → k < 64 → k < slots → 3 ≤ n % 8 → BringsOf of (n / 8) h z
+      (c : List (ℕ × Content C R)) → k < 64 → k < slots → 3 ≤ n % 8 → BringsOf of n h z
       → Allows Rule slots id (stake of k (Helps h) ∷ ps, (k, z) ∷ c) k (λ _. n)
       (λ _. given_back (step slots k n 0 none) (stake of k (Helps h) ∷ ps, (k, z) ∷ c) n)
   give_back_at slots id of k n h z ps c lt in_slots three brings s r sized at small =
@@ -341,7 +359,7 @@ module _ {C R : Type 0} (lock : TableId) where
             (λ _. (
               z,
               set_here s.homes k (some z) (omega (arith, sized)),
-              same_brings lock of (n / 8) (n / 8) (r.lent k) h z (sym fits.0.serves) refl
+              same_brings lock of n n (r.lent k) h z (sym fits.0.serves) refl
                   (sym fits.0.suits.1) brings,
             )),
         refl,
@@ -389,7 +407,7 @@ module _ {C R : Type 0} (lock : TableId) where
           unused = λ j lt e. r.unused j lt (sym (apart j lt) ∙ e);
           home = λ j lt three. let g = r.home j lt
               (subst (λ (x : ℕ). 3 ≤ x % 8) (apart j lt) three) in
-              (g.0, g.1, subst (λ (x : ℕ). BringsOf lock (x / 8) (r.lent j) g.0) (sym (apart j lt)) g.2);
+              (g.0, g.1, subst (λ (x : ℕ). BringsOf lock x (r.lent j) g.0) (sym (apart j lt)) g.2);
         },
         (refl, ((t, has, word, value), tt)),
       )
@@ -457,7 +475,7 @@ module _ {C R : Type 0} (lock : TableId) where
       (take_back_at slots id of k old n h lt home one)
 
   pub may_claim : (slots id : ℕ) (of : TableId) (mine k old n : ℕ) (c : List (ℕ × Content C R))
-      (me : Mine C R) → me ≡ (stake of mine Owns ∷ [], c) → k < 64 → 3 ≤ old % 8 → n % 8 ≡ 2
+      (me : Mine C R) → me ≡ (stake of mine Owns ∷ [], c) → k < 64 → old % 8 ≡ 3 → n % 8 ≡ 2
       → Allows Rule slots id me k (λ m. either (m == old) n m)
       (claimed (step slots k old n none) me)
   may_claim slots id of mine k old n c me e lt home two =
@@ -468,7 +486,7 @@ module _ {C R : Type 0} (lock : TableId) where
   pub may_give_back : (slots id : ℕ) (of : TableId) (k n : ℕ) (h : Holder C R) (z : Content C R)
       (ps : List (Stake TableId (Holder C R))) (c : List (ℕ × Content C R)) (me : Mine C R)
       → me ≡ (stake of k (Helps h) ∷ ps, (k, z) ∷ c) → k < 64 → k < slots → 3 ≤ n % 8
-      → BringsOf of (n / 8) h z
+      → BringsOf of n h z
       → Allows Rule slots id me k (λ _. n) (λ _. given_back (step slots k n 0 none) me n)
   may_give_back slots id of k n h z ps c me e lt in_slots three brings =
       subst (λ m. Allows Rule slots id m k (λ _. n) (λ _. given_back (step slots k n 0 none) m n))

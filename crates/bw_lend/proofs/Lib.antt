@@ -5,6 +5,7 @@ pub mod Moved
 pub mod Kept
 pub mod Handed
 pub mod Finished
+mod Holding
 mod CrowdInvariant
 mod CrowdKept
 mod CrowdWalks
@@ -19,3 +20,8 @@ mod CrowdStages
 mod CrowdRaises
 mod CrowdComes
 mod CrowdRises
+mod Turned
+mod TurnsRun
+mod TurnsLeave
+mod TurnsLed
+mod PlacesOwed

@@ -1,5 +1,5 @@
 -- A step on the state of one place keeps the rule.
-use Rattle.std.proofs.Common.{◌≡◌, ◌≢◌, ℕ, ◌/◌, ◌%◌, ◌<◌, ◌≤◌, List, length, set}
+use Rattle.std.proofs.Common.{◌≡◌, ◌≢◌, ℕ, ◌%◌, ◌<◌, ◌≤◌, List, length, set}
 use Rattle.std.proofs.Common.{slice_index, refl, sym, ap, ◌∙◌, subst, arith}
 use Rattle.std.proofs.lemmas.List.{length-set}
 use mathlib.Core.Option.{Option, some}
@@ -81,7 +81,7 @@ module _ {S Y : Type 0} (Brings : TableId → ℕ → S → Y → Type 0) (lock 
       → ((j : ℕ) → weigh_all (helps j) (set s.views id w) ≤ 1)
       → (n ≡ 0 → (y : Y) × (get_elem? homes k ≡ some (some y)))
       → (3 ≤ n % 8 → (y : Y) × (get_elem? homes k ≡ some (some y))
-      × Brings lock (n / 8) (lent k) y)
+      × Brings lock n (lent k) y)
       → Ruled Brings lock record {
         words = set s.words k n;
         homes = homes;
@@ -108,15 +108,15 @@ module _ {S Y : Type 0} (Brings : TableId → ℕ → S → Y → Type 0) (lock 
             (g.0, still j ne ∙ g.1));
         home = here_or_else (λ j. j < 64 → 3 ≤ slice_index (set s.words k n) j % 8
             → (y : Y) × (get_elem? homes j ≡ some (some y))
-            × Brings lock (slice_index (set s.words k n) j / 8) (lent j) y) k
+            × Brings lock (slice_index (set s.words k n) j) (lent j) y) k
             (λ lt h. let here = index_here s.words k n there in
             let g = full (subst (λ (x : ℕ). 3 ≤ x % 8) here h) in
-            (g.0, g.1, subst (λ (x : ℕ). Brings lock (x / 8) (lent k) g.0) (sym here) g.2))
+            (g.0, g.1, subst (λ (x : ℕ). Brings lock x (lent k) g.0) (sym here) g.2))
             (λ j ne lt h. let apart = index_else s.words k j n ne in
             let g = r.home j lt (subst (λ (x : ℕ). 3 ≤ x % 8) apart h) in (
               g.0,
               still j ne ∙ g.1,
-              subst (λ x. Brings lock (slice_index (set s.words k n) j / 8) x g.0) (sym (same j ne))
-                  (subst (λ (x : ℕ). Brings lock (x / 8) (r.lent j) g.0) (sym apart) g.2),
+              subst (λ x. Brings lock (slice_index (set s.words k n) j) x g.0) (sym (same j ne))
+                  (subst (λ (x : ℕ). Brings lock x (r.lent j) g.0) (sym apart) g.2),
             ));
       }

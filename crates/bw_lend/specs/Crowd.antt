@@ -41,6 +41,8 @@ pub data Errand : Type 0 where
   Helping : ℕ → Errand
   -- it has left for this seat, makes at most so many loads of the lock's own, and gives it back
   Giving : ℕ → ℕ → Errand
+  -- it has left for this seat and found no later ticket drawn, and gives it back next
+  GivingLast : ℕ → Errand
   -- it has claimed this seat, and gives it back next without its call made
   Returning : ℕ → Errand
 
@@ -94,6 +96,7 @@ pub data Event : Type 0 where
   Fetch : ℕ → Event
   Leave : ℕ → Event
   Glance : ℕ → Event
+  LookBehind : ℕ → Event
   Peek : ℕ → Event
   ClaimToHelp : ℕ → Event
   ClaimToReturn : ℕ → Event
@@ -238,6 +241,15 @@ glance_by s i (Leaves x js (Peeking (suc k))) = Some (moved s i (Leaves x js (Pe
 glance_by s i (Leaves x js (Giving j (suc k))) = Some (moved s i (Leaves x js (Giving j k)))
 glance_by s i _ = None
 
+-- The seat i looks whether the ticket that it works on next was drawn, by one of these loads. If it
+-- was not, the seat looks for no hint: that ticket's seat will find its ticket served.
+abbrev pub look_behind_by : Crowd → ℕ → Phase → Option Crowd
+look_behind_by s i (Leaves x js (Peeking (suc k))) =
+    Some (moved s i (if nat_lt x s.next then Leaves x js (Peeking k) else Wakes js))
+look_behind_by s i (Leaves x js (Giving j (suc k))) =
+    Some (moved s i (Leaves x js (if nat_lt (x + 1) s.next then Giving j k else GivingLast j)))
+look_behind_by s i _ = None
+
 -- the phase of a seat that has looked for the hint of the ticket x
 abbrev pub hinted : ℕ → List ℕ → Option Hint → Phase
 hinted x js (Some h) = if h.ticket == x then Leaves x js (Claiming h.seat) else Wakes js
@@ -277,6 +289,8 @@ are_in (j ∷ js) ks = is_in j ks && are_in js ks
 abbrev pub give_by : Crowd → ℕ → List ℕ → Phase → Option Crowd
 give_by s i ks (Leaves x js (Giving j k)) = if are_in (j ∷ js) ks
     then Some (placed s i (Leaves (x + 1) ks (Peeking 0)) j (Done x i)) else None
+give_by s i ks (Leaves x js (GivingLast j)) =
+    if are_in (j ∷ js) ks then Some (placed s i (Wakes ks) j (Done x i)) else None
 give_by s i ks (Leaves x js (Returning j)) =
     if are_in js ks then Some (placed s i (Wakes (j ∷ ks)) j (Back x i)) else None
 give_by s i ks _ = None
@@ -305,6 +319,7 @@ after s (SpuriousWake i) = spurious_wake_by s i (s.phase i)
 after s (Fetch i) = fetch_by s i (s.phase i)
 after s (Leave i) = leave_by s i (s.phase i)
 after s (Glance i) = glance_by s i (s.phase i)
+after s (LookBehind i) = look_behind_by s i (s.phase i)
 after s (Peek i) = peek_by s i (s.phase i)
 after s (ClaimToHelp i) = claim_by EnteringFor s i (s.phase i)
 after s (ClaimToReturn i) = claim_by Returning s i (s.phase i)

@@ -2,10 +2,11 @@
 -- event, and each ticket is left in its turn.
 use Rattle.std.specs.Prelude.{◌≡◌, ℕ, ◌+◌, ◌<◌, ◌≤◌, ◌⊎◌, Bool, true, false, List, [], ◌∷◌}
 use Rattle.bw_lend.specs.Crowd.{Asleep, Inside}
-use Rattle.bw_lend.specs.Crowd.{Peeking, Claiming, EnteringFor, Helping, Giving, Returning}
-use Rattle.bw_lend.specs.Crowd.{Phase, Has, Leaves, Wakes, Place, Away, Posted, Claimed, Done, Back}
+use Rattle.bw_lend.specs.Crowd.{Peeking, Claiming, EnteringFor, Helping, Giving, GivingLast}
+use Rattle.bw_lend.specs.Crowd.{Returning, Phase, Has, Leaves, Wakes, Place, Away, Posted}
+use Rattle.bw_lend.specs.Crowd.{Claimed, Done, Back}
 use Rattle.bw_lend.specs.Crowd.{Crowd, Event, Take, Look, Lend, StoreHint, Read, Retract, Park}
-use Rattle.bw_lend.specs.Crowd.{SpuriousWake, Fetch, Leave, Glance, Peek, ClaimToHelp}
+use Rattle.bw_lend.specs.Crowd.{SpuriousWake, Fetch, Leave, Glance, LookBehind, Peek, ClaimToHelp}
 use Rattle.bw_lend.specs.Crowd.{ClaimToReturn, Give, Wake, is_possible, run, start}
 
 -- the seat i is one of them
@@ -30,6 +31,7 @@ Holds v (Leaves x js (EnteringFor j)) t i = (x ≡ t) × (j ≡ i) × (t ≡ v)
 Holds v (Leaves x js (Helping j)) t i = (x ≡ t) × (j ≡ i) × (t ≡ v)
 Holds v (Leaves x js (Returning j)) t i = (x ≡ t) × (j ≡ i) × (t ≡ v)
 Holds v (Leaves x js (Giving j k)) t i = (x ≡ t) × (j ≡ i) × (t < v)
+Holds v (Leaves x js (GivingLast j)) t i = (x ≡ t) × (j ≡ i) × (t < v)
 Holds v _ t i = ⊥
 
 -- it will look for the hint of the ticket t, or has seen the one of the seat i
@@ -44,9 +46,9 @@ abbrev pub SomeoneComes : Crowd → ℕ → ℕ → Type 0
 SomeoneComes s t i = (h : ℕ) × Comes (s.phase h) t i
 
 -- The wake under way for the seat i, which sleeps with the ticket t, by the word of its place.
--- While nobody has claimed it, its ticket is not left; if it is served, someone comes. Who has claimed it
--- holds it. Once it is back, who gave it back owes it a wake; if its call is not made, that wake is
--- the next.
+-- While nobody has claimed it, its ticket is not left; if it is served, someone comes. Who has
+-- claimed it holds it. Once it is back, who gave it back owes it a wake; if its call is not made,
+-- that wake is the next.
 abbrev pub WakeIsUnderWay : Crowd → ℕ → ℕ → Place → Type 0
 WakeIsUnderWay s i t Away = ⊥
 WakeIsUnderWay s i t (Posted u) = (s.serving ≤ t) × (t ≡ s.serving → SomeoneComes s t i)
@@ -87,6 +89,7 @@ seat_of (SpuriousWake i) = i
 seat_of (Fetch i) = i
 seat_of (Leave i) = i
 seat_of (Glance i) = i
+seat_of (LookBehind i) = i
 seat_of (Peek i) = i
 seat_of (ClaimToHelp i) = i
 seat_of (ClaimToReturn i) = i

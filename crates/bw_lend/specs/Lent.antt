@@ -1,5 +1,6 @@
 -- A seat that was lent, and what comes back.
-use Rattle.std.specs.Prelude.{◌≡◌, ℕ, ◌+◌, ◌≤◌, [], ◌∷◌, ◌++◌, None, Some, IsSome, MatchOption}
+use Rattle.std.specs.Prelude.{◌≡◌, ℕ, ◌+◌, ◌/◌, ◌%◌, ◌==◌, ◌≤◌, Bool, true, false, [], ◌∷◌, ◌++◌}
+use Rattle.std.specs.Prelude.{None, Some, IsSome, MatchOption}
 use Rattle.atomic_table.specs.Seated.{TableId}
 use Rattle.bw_machine.specs.History.{made}
 use Rattle.bw_ticket.specs.Holder.{Holder, ticket_pending}
@@ -37,6 +38,13 @@ module _ {C R : Type 0} where
   abbrev pub HasTicket : Holder C R → ℕ → Type 0
   HasTicket seat ticket = ticket_pending seat.pending ≡ Some ticket
 
-  -- the content returns what was lent with this ticket
+  -- the content is a seat whose call was made, or one whose call was not made
+  abbrev pub IsMade : Bool → Content C R → Type 0
+  IsMade true (Made seat answer) = Unit {0}
+  IsMade false (Lent seat) = Unit {0}
+  IsMade _ _ = ⊥
+
+  -- the content returns what was lent, with the ticket of this state and as its code says
   abbrev pub BringsOf : TableId → ℕ → Holder C R → Content C R → Type 0
-  BringsOf lock ticket lent content = Brings lock lent content × HasTicket lent ticket
+  BringsOf lock state lent content = Brings lock lent content × HasTicket lent (state / 8)
+      × IsMade (state % 8 == 4) content

@@ -5,6 +5,8 @@ pub mod Plays
 pub mod Parts
 pub mod Bells
 pub mod Waits
+pub mod Visits
+pub mod Turns
 pub mod Crowd
 pub mod CrowdLaws
 pub mod CrowdRounds

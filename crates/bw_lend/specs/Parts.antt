@@ -1,9 +1,9 @@
 -- The parts that a seat of the table has between two steps.
-use Rattle.std.specs.Prelude.{◌≡◌, ℕ, [], ◌∷◌, Option, None, Some}
+use Rattle.std.specs.Prelude.{◌≡◌, ℕ, Bool, [], ◌∷◌, Option, None, Some}
 use Rattle.atomic_table.specs.Seated.{TableId}
 use Rattle.bw_lend.specs.declared.stake.Part.TheVariants.{Owns, Helps}
 use Rattle.bw_lend.specs.Rule.{stake}
-use Rattle.bw_lend.specs.Lent.{BringsOf, Content}
+use Rattle.bw_lend.specs.Lent.{Brings, Content, HasTicket, IsMade}
 use Rattle.bw_lend.specs.Plays.{Mine}
 use Rattle.bw_ticket.specs.Holder.{Holder, fresh_seat}
 
@@ -18,10 +18,11 @@ module _ {C R : Type 0} where
       × (me ≡ (stake lock k Owns ∷ [], (k, y) ∷ []))
 
   -- the seat has this place of another seat of the lock, which lent itself with this ticket, beside
-  -- what it had
-  abbrev pub IsHelper : TableId → ℕ → ℕ → Mine C R → Mine C R → Type 0
-  IsHelper lock k ticket old me = (lent : Holder C R) × (y : Content C R)
-      × (me ≡ (stake lock k (Helps lent) ∷ old.0, (k, y) ∷ old.1)) × BringsOf lock ticket lent y
+  -- what it had. The call of that seat is made or not
+  abbrev pub IsHelper : TableId → ℕ → ℕ → Bool → Mine C R → Mine C R → Type 0
+  IsHelper lock k ticket made old me = (lent : Holder C R) × (y : Content C R)
+      × (me ≡ (stake lock k (Helps lent) ∷ old.0, (k, y) ∷ old.1)) × Brings lock lent y
+      × HasTicket lent ticket × IsMade made y
 
   -- the seat of the lock as contracts see it. Where it is lent, in no call's contract, it is none
   abbrev pub seat_in : TableId → Option (Holder C R) → Holder C R

@@ -1,5 +1,5 @@
 -- The news that each kind of step on the table of places brings to the seat that makes it.
-use Rattle.std.specs.Prelude.{◌≡◌, ◌≢◌, ℕ, ◌/◌, List, [], ◌∷◌, map, drop, take}
+use Rattle.std.specs.Prelude.{◌≡◌, ◌≢◌, ℕ, ◌/◌, false, List, [], ◌∷◌, map, drop, take}
 use Rattle.atomic_table.specs.Seated.{TableId}
 use Rattle.atomic_table.specs.Table.{Me, Step}
 use Rattle.bw_lend.specs.declared.stake.Part.{Part}
@@ -7,7 +7,7 @@ use Rattle.bw_lend.specs.declared.stake.Part.TheVariants.{Owns, Hints, Lends, He
 use Rattle.bw_lend.specs.declared.stake.Stake.{Stake}
 use Rattle.bw_lend.specs.declared.table.Place.TheVariants.{Empty, Lent, Made}
 use Rattle.bw_lend.specs.Rule.{Each, stake, hint_word, hint_for}
-use Rattle.bw_lend.specs.Lent.{BringsOf, Content, HasTicket}
+use Rattle.bw_lend.specs.Lent.{Brings, BringsOf, Content, HasTicket, IsMade}
 use Rattle.bw_ticket.specs.Holder.{Holder}
 
 module _ {S : Type 0} where
@@ -40,25 +40,26 @@ module _ {C R : Type 0} where
   abbrev pub posted : Step (Content C R) → Mine C R → ℕ → Mine C R → Type 0
   posted st m n m' = m' ≡ (map (lent_by m.1) m.0, drop 1 m.1)
 
-  -- the content brings back what a stake of this lock with this part has lent with this ticket
+  -- the content brings back what a stake of this lock with this part has lent, as the state says
   abbrev pub BringsBack : Content C R → TableId → ℕ → Part (Holder C R) → Type 0
-  BringsBack y lock ticket (Lends lent) = BringsOf lock ticket lent y
-  BringsBack y lock ticket _ = ⊥
+  BringsBack y lock state (Lends lent) = BringsOf lock state lent y
+  BringsBack y lock state _ = ⊥
 
   -- step take back: the owner has its place again, if its state is what was expected
   abbrev pub taken_back : Step (Content C R) → Mine C R → ℕ → Mine C R → Type 0
   taken_back st m n m' = (n ≡ st.first → (y : Content C R)
       × (m' ≡ (map (with_part Owns) m.0, (st.word, y) ∷ m.1))
-      × Each (λ p. BringsBack y p.lock_id (st.first / 8) p.part) m.0)
+      × Each (λ p. BringsBack y p.lock_id st.first p.part) m.0)
       × (n ≢ st.first → m' ≡ m)
 
   -- step claim: a helper has the place of another seat, if its state is what was expected. That
-  -- seat has the ticket of the state
+  -- seat has the ticket of the state, and its call is not made
   abbrev pub claimed : Step (Content C R) → Mine C R → ℕ → Mine C R → Type 0
   claimed st m n m' = (n ≡ st.first → (lock : TableId) × (lent : Holder C R)
       × (y : Content C R)
       × (m' ≡ (stake lock st.word (Helps lent) ∷ m.0, (st.word, y) ∷ m.1))
-      × BringsOf lock (st.first / 8) lent y × Each (λ q. q.lock_id ≡ lock) m.0)
+      × Brings lock lent y × HasTicket lent (st.first / 8) × IsMade false y
+      × Each (λ q. q.lock_id ≡ lock) m.0)
       × (n ≢ st.first → m' ≡ m)
 
   -- step give back: the place of another seat goes home

@@ -1,7 +1,7 @@
 -- The rule of the table of places: what each state says of its place, and which parts seats have in
 -- it. A state is a ticket times 8 and a code. The states alone are under the rule: hints may have
 -- any value.
-use Rattle.std.specs.Prelude.{◌≡◌, ℕ, zero, suc, ◌+◌, ◌*◌, ◌/◌, ◌%◌, ◌<◌, ◌≤◌, ◌==◌, List, []}
+use Rattle.std.specs.Prelude.{◌≡◌, ℕ, zero, suc, ◌+◌, ◌*◌, ◌%◌, ◌<◌, ◌≤◌, ◌==◌, List, []}
 use Rattle.std.specs.Prelude.{◌∷◌, length, slice_index}
 use mathlib.Core.Option.{some}
 use lib.ListN.{get_elem?}
@@ -84,8 +84,8 @@ pub record Fits {S : Type 0} (lock : TableId) (words : List ℕ) (lent : ℕ →
     pub within : p.place < 64
     pub suits : Suits (slice_index words p.place) (lent p.place) p.part
 
--- The rule. `Brings lock ticket seat content`: the content of a place brings back the seat that was
--- lent with this ticket.
+-- The rule. `Brings lock state seat content`: the content of a place in this state brings back the
+-- seat that was lent.
 pub record Ruled {S Y : Type 0} (Brings : TableId → ℕ → S → Y → Type 0) (lock : TableId)
     (s : State Y (List (Stake TableId S))) : Type 0 where
   pub sized : length s.words ≡ 128
@@ -99,7 +99,7 @@ pub record Ruled {S Y : Type 0} (Brings : TableId → ℕ → S → Y → Type 0
   pub unused : (k : ℕ) → k < 64 → slice_index s.words k ≡ 0
       → (y : Y) × (get_elem? s.homes k ≡ some (some y))
   -- from the code `POSTED` on a place has its content, which brings back what was lent with the
-  -- ticket of the state
+  -- ticket of the state, and with its call made or not as the code says
   pub home : (k : ℕ) → k < 64 → 3 ≤ slice_index s.words k % 8
       → (y : Y) × (get_elem? s.homes k ≡ some (some y))
-      × Brings lock (slice_index s.words k / 8) (lent k) y
+      × Brings lock (slice_index s.words k) (lent k) y

@@ -3,14 +3,24 @@ ghost use Rattle.std.specs.Prelude.{◌≡◌, ◌^◌};
 ghost use Rattle.bw_lend.specs.CrowdLaws.{NoWakeIsLost, NoneIsStuck, AwakeSeatsCanStep};
 ghost use Rattle.bw_lend.specs.CrowdLaws.{OnlyTheServedTicketIsInside, AtMostOneIsInside};
 ghost use Rattle.bw_lend.specs.CrowdRounds.{SeventeenRoundsRaiseServing, DrawnTicketsAreLeft};
+ghost use Rattle.bw_lend.specs.Turns.{TurnsAreEvents, TurnsLeaveDrawnTickets};
 
-use crate::table::TICKETS;
+use crate::table::{AWAY, BACK, CLAIMED, DONE, POSTED, TICKETS};
 use bw_ticket::limits::MAX_TICKETS;
 
 /// Tickets fit into the words of places: a ticket is below 2^22, and a word has room for 2^28.
 pub fn tickets_fit()
     ensures tickets { MAX_TICKETS ≡ 2 ^ 22 }
     ensures room { TICKETS ≡ 2 ^ 28 }
+{}
+
+/// The codes of places are those that the rule and the turns have as numbers.
+pub fn codes_of_places()
+    ensures away { AWAY ≡ 1 }
+    ensures claimed { CLAIMED ≡ 2 }
+    ensures posted { POSTED ≡ 3 }
+    ensures done { DONE ≡ 4 }
+    ensures back { BACK ≡ 5 }
 {}
 
 /// A seat that sleeps has its wake under way.
@@ -63,4 +73,24 @@ pub fn seventeen_rounds_raise_serving()
 /// each thread runs which can run.
 pub fn drawn_tickets_are_left()
     ensures { DrawnTicketsAreLeft }
+{}
+
+/// Each turn of a seat that waits while it is lent, or that has left, is one event of the model, by
+/// the same seat.
+///
+/// Such a turn is a read, a look, a try to take back or a sleep. Or it is a read of a hint, a try
+/// to claim, a place that is given back or a wake. It is made where the contracts of these calls
+/// allow it, and with what they say. Every other turn is taken to be an event of the model. The law
+/// assumes a hint word for each seat.
+pub fn turns_are_events()
+    ensures { TurnsAreEvents }
+{}
+
+/// After any turns, each drawn ticket is served and left within seventeen rounds of turns for
+/// itself and for each ticket before it that is not yet left.
+///
+/// In a round each seat that is neither idle nor asleep makes a turn. The law assumes a hint word
+/// for each seat.
+pub fn turns_leave_drawn_tickets()
+    ensures { TurnsLeaveDrawnTickets }
 {}

@@ -1,147 +1,236 @@
 //! The help of a seat that leaves: it makes the calls of the next tickets that are lent.
-ghost use Rattle.std.specs.Prelude.{◌≡◌, ℕ, ◌<◌, IfSome, MatchBool};
-ghost use Rattle.bw_lend.specs.Lent.{Brings};
+ghost use Rattle.std.specs.Prelude.{◌≡◌, ℕ, ◌+◌, ◌<◌, MatchBool, IsSome, true, false};
+ghost use Rattle.bw_lend.specs.declared.task.Task.TheVariants.{
+  ToEnter,
+  ToPeek,
+  ToHelp,
+  ToGive,
+  ToGiveLast,
+  ToWakeFrom,
+};
+ghost use Rattle.bw_lend.specs.Lent.{Brings, HasTicket, IsFinished, IsMade};
 ghost use Rattle.bw_lend.specs.Parts.{IsTable, IsOwner, IsHelper};
+ghost use Rattle.bw_lend.specs.Visits.{to, gone};
 ghost use Rattle.bw_lend.specs.declared.table.TheConstants.{TICKETS};
 
-use crate::errands::{Errand, TableHints, finish_owing, is_over, seek};
-use crate::steps::give_back;
+use crate::steps::{claim, give_back};
 use crate::table::{Content, Place, Shared, Token};
-use crate::waking::{Owed, Owners, TableBells, wake_all, wake_first};
+use crate::visits::{Visit, wake_all, wake_first};
 use bw_machine::Machine;
-use bw_ticket::TicketLock;
+use bw_ticket::{Answer, Seat, TicketLock};
 use std::rt::Clock;
 use std::sync::Wait;
 
 // Greatest number of calls that a seat makes for others when it leaves.
 const MOST_HELPED: u64 = 64;
 
-// Makes the pending call of a lent seat. Returns whether it made it, and the errand that is due.
-fn make<M: Machine, R: Wait + Clock>(
+// Makes the pending call of the seat in the place. Returns whether the next ticket was drawn then.
+fn make<M: Machine, R: Wait + Clock, V: Visit>(
     rt: &R,
     lock: &TicketLock<M>,
     content: Content<M>,
-) -> (Content<M>, bool, Option<Errand>)
-    requires { (lent : _) × Brings lock.now.lock_id lent content }
-    ensures lent { (lent : _) → Brings lock.now.lock_id lent content →
-        Brings lock.now.lock_id lent result.0 }
-    ensures small { IfSome result.2 (λ errand. errand.ticket < TICKETS) }
+    place: usize,
+    visit: &mut V,
+) -> (Content<M>, bool)
+    requires lent { (lent : _) × Brings lock.now.lock_id lent content ×
+        HasTicket lent (V.state visit.old).ticket × IsMade false content }
+    requires task { (V.state visit.old).task ≡ ToHelp place }
+    ensures made { (lent : _) → Brings lock.now.lock_id lent content →
+        Brings lock.now.lock_id lent result.0 × IsMade true result.0 }
+    ensures left { MatchBool result.1
+        (V.state visit.new ≡ to (V.state visit.old) (ToGive place))
+        (V.state visit.new ≡ to (V.state visit.old) (ToGiveLast place)) }
+    ensures small { (V.state visit.old).ticket + 1 < TICKETS }
 {
     match content {
         Place::Lent(seat) => {
             let mut seat = seat;
-            let (answer, _behind, errand) = finish_owing(rt, lock, &mut seat);
-            (Place::Made(seat, answer), true, errand)
+            let (answer, behind) = seat.finish_and_look(rt, lock);
+            let later = visit.leave_for(place, behind);
+            (Place::Made(seat, answer), later)
         }
-        other => (other, false, None),
+        Place::Made(_, _) => unreachable!(),
+        Place::Empty => unreachable!(),
     }
 }
 
-// Makes the call of the seat in the place of another one, or leaves it. Returns whether it is made,
-// and the errand that is due.
-fn make_at<M: Machine, R: Wait + Clock>(
+// Makes the call of the seat in the place that was claimed. Returns whether the next ticket was
+// drawn then.
+fn make_at<M: Machine, R: Wait + Clock, V: Visit>(
     rt: &R,
     lock: &TicketLock<M>,
     table: &Shared<M>,
     token: &mut Token<M>,
     place: usize,
-    makes: bool,
-) -> (bool, Option<Errand>)
+    visit: &mut V,
+) -> bool
     requires table { (token.old.table_id ≡ table.now.table_id) × IsTable table.now.table_id }
-    requires helper { (ticket : _) × (before : _) ×
-        IsHelper lock.now.lock_id place ticket before token.old.me }
+    requires helper { (before : _) ×
+        IsHelper lock.now.lock_id place (V.state visit.old).ticket false before token.old.me }
     requires place { place < 64 }
+    requires task { (V.state visit.old).task ≡ ToHelp place }
     ensures table { token.new.table_id ≡ token.old.table_id }
-    ensures helper { (ticket : _) → (before : _) →
-        IsHelper lock.now.lock_id place ticket before token.old.me →
-        IsHelper lock.now.lock_id place ticket before token.new.me }
-    ensures small { IfSome result.1 (λ errand. errand.ticket < TICKETS) }
-    ensures last { MatchBool makes (Unit {0}) (IfSome result.1 (λ _. ⊥)) }
+    ensures helper { (before : _) →
+        IsHelper lock.now.lock_id place (V.state visit.old).ticket false before token.old.me →
+        IsHelper lock.now.lock_id place (V.state visit.old).ticket true before token.new.me }
+    ensures left { MatchBool result
+        (V.state visit.new ≡ to (V.state visit.old) (ToGive place))
+        (V.state visit.new ≡ to (V.state visit.old) (ToGiveLast place)) }
+    ensures small { (V.state visit.old).ticket + 1 < TICKETS }
 {
-    if !makes {
-        return (false, None);
-    }
     let content = table.exchange(token, place, Place::Empty);
-    let (content, made, errand) = make(rt, lock, content);
+    let (content, later) = make(rt, lock, content, place, visit);
     let _empty = table.exchange(token, place, content);
-    (made, errand)
+    later
 }
 
-// Does the errand: makes the call of the ticket, if its seat is lent, or gives the seat back as it
-// is and wakes its owner. Returns the wake that is owed, and the next errand.
-fn help_one<M: Machine, R: Wait + Clock>(
+// Looks for the seat with the next ticket. If it is lent, makes its call and gives it back. Returns
+// whether there may be one more.
+fn help_one<M: Machine, R: Wait + Clock, V: Visit>(
     rt: &R,
     lock: &TicketLock<M>,
     table: &Shared<M>,
     token: &mut Token<M>,
-    errand: Errand,
-    makes: bool,
-) -> Option<(Owed, Option<Errand>)>
+    visit: &mut V,
+) -> bool
     requires table { (token.old.table_id ≡ table.now.table_id) × IsTable table.now.table_id }
+    requires visit { (V.state visit.old).table ≡ table.now.table_id }
     requires owner { (mine : _) × IsOwner lock.now.lock_id mine token.old.me }
-    requires small { errand.ticket < TICKETS }
+    requires task { (V.state visit.old).task ≡ ToPeek }
+    requires small { (V.state visit.old).ticket < TICKETS }
+    requires later { 0 < (V.state visit.old).ticket }
     ensures table { token.new.table_id ≡ token.old.table_id }
     ensures same { token.new.me ≡ token.old.me }
-    ensures place { IfSome result (λ helped. helped.0.place < 64) }
-    ensures small { IfSome result (λ helped. IfSome helped.1 (λ next. next.ticket < TICKETS)) }
-    ensures last { MatchBool makes (Unit {0}) (IfSome result (λ helped. IfSome helped.1 (λ _. ⊥))) }
+    ensures visit { (V.state visit.new).table ≡ (V.state visit.old).table }
+    ensures next { MatchBool result ((V.state visit.new).task ≡ ToPeek)
+        ((V.state visit.new).task ≡ ToWakeFrom 0) }
+    ensures small { (V.state visit.new).ticket < TICKETS }
+    ensures later { 0 < (V.state visit.new).ticket }
 {
-    let (place, ticket) = seek(&mut TableHints::of(table), lock, table, token, errand)?;
-    let (made, next) = make_at(rt, lock, table, token, place, makes);
-    let owed = give_back(table, token, place, ticket, made);
-    if !made {
-        wake_first(&mut TableBells::of(table), token, place);
+    let Some(place) = visit.peek() else {
+        return false;
+    };
+    let ticket = visit.ticket();
+    if !visit.claim_to_help(claim(lock, table, token, place, ticket)) {
+        return false;
     }
-    Some((owed, next))
+    if make_at(rt, lock, table, token, place, visit) {
+        visit.give(give_back(table, token, place, ticket, true));
+        return true;
+    }
+    visit.give_last(give_back(table, token, place, ticket, true));
+    false
 }
 
-// Does the errand, and those that it leads to, as long as the next seats are lent.
-fn help_next<M: Machine, R: Wait + Clock>(
-    rt: &R,
+// Looks for the seat with the next ticket. If it is lent, gives it back as it is, and wakes its
+// owner.
+fn return_one<M: Machine, V: Visit>(
     lock: &TicketLock<M>,
     table: &Shared<M>,
     token: &mut Token<M>,
-    errand: Errand,
-) -> Owners
-    requires table { (token.old.table_id ≡ table.now.table_id) × IsTable table.now.table_id }
-    requires owner { (mine : _) × IsOwner lock.now.lock_id mine token.old.me }
-    requires small { errand.ticket < TICKETS }
-    ensures table { token.new.table_id ≡ token.old.table_id }
-    ensures same { token.new.me ≡ token.old.me }
-{
-    let mut owners = Owners::none();
-    let mut due = Some(errand);
-    for nth in 0..MOST_HELPED + 1 {
-        let Some(errand) = due else {
-            return owners;
-        };
-        let makes = nth < MOST_HELPED;
-        let Some((owed, next)) = help_one(rt, lock, table, token, errand, makes) else {
-            return owners;
-        };
-        owners = owners.with(owed);
-        due = next;
-    }
-    is_over(due);
-    owners
-}
-
-/// Does the errand: makes the calls of the next tickets that are lent, and then wakes their owners.
-///
-/// After 64 calls the next seat goes back as it is. Its owner makes its call, and helps on.
-pub(crate) fn help<M: Machine, R: Wait + Clock>(
-    rt: &R,
-    lock: &TicketLock<M>,
-    table: &Shared<M>,
-    token: &mut Token<M>,
-    errand: Errand,
+    visit: &mut V,
 )
     requires table { (token.old.table_id ≡ table.now.table_id) × IsTable table.now.table_id }
+    requires visit { (V.state visit.old).table ≡ table.now.table_id }
     requires owner { (mine : _) × IsOwner lock.now.lock_id mine token.old.me }
-    requires small { errand.ticket < TICKETS }
+    requires task { (V.state visit.old).task ≡ ToPeek }
+    requires small { (V.state visit.old).ticket < TICKETS }
+    requires later { 0 < (V.state visit.old).ticket }
     ensures table { token.new.table_id ≡ token.old.table_id }
     ensures same { token.new.me ≡ token.old.me }
+    ensures visit { (V.state visit.new).table ≡ (V.state visit.old).table }
+    ensures task { (V.state visit.new).task ≡ ToWakeFrom 0 }
 {
-    let owners = help_next(rt, lock, table, token, errand);
-    wake_all(&mut TableBells::of(table), token, owners);
+    let Some(place) = visit.peek() else {
+        return;
+    };
+    let ticket = visit.ticket();
+    if !visit.claim_to_return(claim(lock, table, token, place, ticket)) {
+        return;
+    }
+    visit.return_back(give_back(table, token, place, ticket, false));
+    wake_first(token, visit, place);
+}
+
+// Makes the calls of the next tickets, as long as their seats are lent. After 64 calls the next
+// seat goes back as it is. Its owner makes its call, and helps on.
+fn help<M: Machine, R: Wait + Clock, V: Visit>(
+    rt: &R,
+    lock: &TicketLock<M>,
+    table: &Shared<M>,
+    token: &mut Token<M>,
+    visit: &mut V,
+)
+    requires table { (token.old.table_id ≡ table.now.table_id) × IsTable table.now.table_id }
+    requires visit { (V.state visit.old).table ≡ table.now.table_id }
+    requires owner { (mine : _) × IsOwner lock.now.lock_id mine token.old.me }
+    requires task { (V.state visit.old).task ≡ ToPeek }
+    requires small { (V.state visit.old).ticket < TICKETS }
+    requires later { 0 < (V.state visit.old).ticket }
+    ensures table { token.new.table_id ≡ token.old.table_id }
+    ensures same { token.new.me ≡ token.old.me }
+    ensures visit { (V.state visit.new).table ≡ (V.state visit.old).table }
+    ensures task { (V.state visit.new).task ≡ ToWakeFrom 0 }
+{
+    for _nth in 0..MOST_HELPED {
+        if !help_one(rt, lock, table, token, visit) {
+            return;
+        }
+    }
+    return_one(lock, table, token, visit);
+}
+
+// Makes the pending call of the seat. Returns whether the next ticket was drawn then.
+fn leave_with<M: Machine, R: Wait + Clock, V: Visit>(
+    rt: &R,
+    lock: &TicketLock<M>,
+    seat: &mut Seat<M>,
+    visit: &mut V,
+) -> (Answer<M::Reply>, bool)
+    requires lock { seat.old.lock_id ≡ lock.now.lock_id }
+    requires pending { IsSome seat.old.pending }
+    requires ticket { HasTicket seat.old (V.state visit.old).ticket }
+    requires task { (V.state visit.old).task ≡ ToEnter }
+    ensures finished { IsFinished seat.old result.0 seat.new }
+    ensures left { MatchBool result.1
+        (V.state visit.new ≡ gone (V.state visit.old) ToPeek)
+        (V.state visit.new ≡ gone (V.state visit.old) (ToWakeFrom 0)) }
+    ensures small { (V.state visit.old).ticket + 1 < TICKETS }
+{
+    let (answer, behind) = seat.finish_and_look(rt, lock);
+    let later = visit.leave(behind);
+    (answer, later)
+}
+
+/// Makes the pending call of the seat, then those of the next tickets that are lent, and then wakes
+/// their owners.
+pub(crate) fn finish_visit<M: Machine, R: Wait + Clock, V: Visit>(
+    rt: &R,
+    lock: &TicketLock<M>,
+    table: &Shared<M>,
+    token: &mut Token<M>,
+    seat: &mut Seat<M>,
+    visit: V,
+) -> Answer<M::Reply>
+    requires table { (token.old.table_id ≡ table.now.table_id) × IsTable table.now.table_id }
+    requires visit { (V.state visit).table ≡ table.now.table_id }
+    requires owner { (mine : _) × IsOwner lock.now.lock_id mine token.old.me }
+    requires lock { seat.old.lock_id ≡ lock.now.lock_id }
+    requires pending { IsSome seat.old.pending }
+    requires ticket { HasTicket seat.old (V.state visit).ticket }
+    requires task { (V.state visit).task ≡ ToEnter }
+    requires nobody { (V.state visit).owed ≡ 0 }
+    ensures table { token.new.table_id ≡ token.old.table_id }
+    ensures same { token.new.me ≡ token.old.me }
+    ensures finished { IsFinished seat.old result seat.new }
+{
+    let mut visit = visit;
+    let (answer, later) = leave_with(rt, lock, seat, &mut visit);
+    if later {
+        help(rt, lock, table, token, &mut visit);
+        wake_all(token, visit);
+        return answer;
+    }
+    wake_all(token, visit);
+    answer
 }

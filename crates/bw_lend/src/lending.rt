@@ -1,15 +1,15 @@
 //! The wait of a seat, which lends itself until its call is made.
-ghost use Rattle.std.specs.Prelude.{◌≡◌, ◌<◌, [], ◌∷◌, IsSome};
+ghost use Rattle.std.specs.Prelude.{◌≡◌, ◌<◌, None, [], ◌∷◌, IsSome};
 ghost use Rattle.bw_lend.specs.declared.stake.Part.TheVariants.{Lends};
-ghost use Rattle.bw_lend.specs.Lent.{IsFinished, Returns};
+ghost use Rattle.bw_lend.specs.Lent.{HasTicket, IsFinished, Returns};
 ghost use Rattle.bw_lend.specs.Parts.{IsTable, IsOwner};
 ghost use Rattle.bw_lend.specs.Rule.{stake};
 
-use crate::errands::finish_owing;
-use crate::helping::help;
+use crate::helping::finish_visit;
 use crate::sleeping::{PlaceWord, TableWord, may_take_back, sleep_lent};
 use crate::steps::{post, take_back};
 use crate::table::{Content, Place, Shared, Token, low_half};
+use crate::visits::TableVisit;
 use bw_machine::Machine;
 use bw_ticket::{Answer, Seat, TicketLock};
 use std::hint::spin_loop;
@@ -43,12 +43,13 @@ fn is_served_soon<M: Machine>(lock: &TicketLock<M>, ticket: u64) -> bool {
 //
 // Each turn reads the state of the place. While nobody has claimed the seat, it then looks whether
 // its ticket is served: no other seat wakes it for that. It sleeps only if that look was in vain.
-fn wait_for_place<M: Machine, R: Wait>(
+fn wait_for_place<M: Machine, R: Wait, W: PlaceWord>(
     rt: &R,
     lock: &TicketLock<M>,
     table: &Shared<M>,
     token: &mut Token<M>,
     place: usize,
+    word: &mut W,
     lent: &Snapshot<Seat<M>>,
     ticket: u64,
 ) -> Content<M>
@@ -56,17 +57,21 @@ fn wait_for_place<M: Machine, R: Wait>(
     requires lends { token.old.me ≡
         (stake lent.now.value.lock_id place (Lends lent.now.value) ∷ [], []) }
     requires place { place < 64 }
+    requires ticket { HasTicket lent.now.value ticket }
+    requires word { W.exists word.old × (W.state word.old ≡ None) }
     ensures table { token.new.table_id ≡ token.old.table_id }
     ensures owner { IsOwner lent.now.value.lock_id place token.new.me }
     ensures back { Returns lent.now.value result }
 {
     for _ in rt.forever() {
-        let mut word = TableWord::of(table, place);
         let state = word.read();
-        if !may_take_back(&mut word, lock, state, ticket) {
-            sleep_lent(rt, &mut word, low_half(state), ticket);
-        } else if let Some(content) = take_back(table, token, place, lent, state) {
-            return content;
+        if !may_take_back(word, lock, state, ticket) {
+            sleep_lent(rt, word, low_half(state), ticket);
+            continue;
+        }
+        match take_back(table, token, place, word, lent, state, ticket) {
+            Ok(content) => return content,
+            Err(lost) => word.retry(lost),
         }
     }
     unreachable!()
@@ -96,12 +101,11 @@ pub(crate) fn finish_and_help<M: Machine, R: Wait + Clock>(
     ensures same { token.new.me ≡ token.old.me }
     ensures finished { IsFinished seat.old result seat.new }
 {
-    let (answer, _behind, due) = finish_owing(rt, lock, seat);
-    let Some(errand) = due else {
-        return answer;
+    let Some(ticket) = seat.pending() else {
+        unreachable!()
     };
-    help(rt, lock, table, token, errand);
-    answer
+    let visit = TableVisit::of(table, ticket);
+    finish_visit(rt, lock, table, token, seat, visit)
 }
 
 /// Lends the seat until a helper has made its pending call, or it has to make that itself.
@@ -127,7 +131,8 @@ pub(crate) fn finish_lent<M: Machine, R: Wait + Clock>(
     };
     let lent = Snapshot::of(&seat);
     post(table, token, place, seat, ticket);
-    match wait_for_place(rt, lock, table, token, place, &lent, ticket) {
+    let mut word = TableWord::of(table, place);
+    match wait_for_place(rt, lock, table, token, place, &mut word, &lent, ticket) {
         Place::Made(seat, answer) => (seat, answer),
         Place::Lent(seat) => {
             let mut seat = seat;

@@ -1,11 +1,12 @@
-//! The sleep of the owner of a place, and what it sees before it.
+//! The wait of the owner of a place: what it reads, finds, takes back and sleeps on.
 //!
 //! No other file of the crate names `.park(`. A sleep, a read and a look are no steps of the table,
-//! so they are asked by contract. [`may_take_back`] and [`sleep_lent`] are proved of any
-//! [`PlaceWord`], which has as seen only what its own calls found.
+//! so they are asked by contract. The wait is proved of any [`PlaceWord`], which alone says where
+//! the owner is: each call asks for the stage of the model `Crowd` in which the model makes it.
 ghost use Rattle.std.specs.Prelude.{◌≡◌, ℕ, ◌+◌, ◌%◌, ◌^◌, ◌<◌, ◌≤◌, Option, Some, None, MatchBool};
-ghost use Rattle.bw_lend.specs.Waits.{MaySleep};
+ghost use Rattle.bw_lend.specs.Waits.{IsPosted, MaySleep, MayTakeBack};
 
+use crate::steps::Lost;
 use crate::table::{POSTED, Shared, code_of};
 use bw_machine::{Count, Machine};
 use bw_ticket::{Sighting, TicketLock};
@@ -14,7 +15,7 @@ use std::sync::Wait;
 /// The word of a place, on which the owner of the place sleeps while its seat is lent.
 ///
 /// It counts the sleeps. It has the state that was read since the last sleep, and the ticket that
-/// was found served since that read.
+/// was found served since that read. Both say what the owner does next: `Waits.antt:stage_of`.
 pub(crate) trait PlaceWord {
     ghost exists: { Self → Type 0 };
 
@@ -24,25 +25,36 @@ pub(crate) trait PlaceWord {
 
     ghost sleeps: { Self → ℕ };
 
-    /// Reads the state of the place.
+    /// Reads the state of the place, once after each sleep.
     fn read(&mut self) -> u64
-        requires { exists self.old }
+        requires exists { exists self.old }
+        requires anew { state self.old ≡ None }
         ensures exists { exists self.new }
         ensures state { state self.new ≡ Some result }
-        ensures anew { found self.new ≡ None }
+        ensures found { found self.new ≡ None }
         ensures sleeps { sleeps self.new ≡ sleeps self.old };
 
-    /// Notes what a look found.
+    /// Notes what a look found, one for each read of a seat that nobody has claimed.
     fn note(&mut self, sighting: Sighting)
-        requires { exists self.old }
+        requires exists { exists self.old }
+        requires posted { IsPosted (state self.old) × (found self.old ≡ None) }
         ensures exists { exists self.new }
         ensures state { state self.new ≡ state self.old }
         ensures found { found self.new ≡ Some sighting.served }
         ensures sleeps { sleeps self.new ≡ sleeps self.old };
 
+    /// Forgets what it has read: the state was another one when the place was to be taken back.
+    fn retry(&mut self, lost: Lost)
+        requires exists { exists self.old }
+        ensures exists { exists self.new }
+        ensures anew { state self.new ≡ None }
+        ensures sleeps { sleeps self.new ≡ sleeps self.old };
+
     /// Sleeps while the lower half of the word is the expected one, until a wake or for no reason.
-    fn sleep<R: Wait>(&mut self, rt: &R, expected: u32)
-        requires { exists self.old }
+    fn sleep<R: Wait>(&mut self, rt: &R, expected: u32, ticket: u64)
+        requires exists { exists self.old }
+        requires seen { MaySleep (state self.old) (found self.old) ticket }
+        requires expected { (n : ℕ) × (state self.old ≡ Some n) × (expected ≡ n % 2 ^ 32) }
         ensures exists { exists self.new }
         ensures anew { state self.new ≡ None }
         ensures made { sleeps self.new ≡ sleeps self.old + 1 };
@@ -63,6 +75,7 @@ impl<'a, M: Machine> TableWord<'a, M> {
     pub(crate) fn of(table: &'a Shared<M>, place: usize) -> TableWord<'a, M>
         ensures table { result.table.now ≡ table.now }
         ensures place { result.place ≡ place }
+        ensures anew { result.state ≡ None }
     {
         TableWord {
             table,
@@ -96,7 +109,13 @@ impl<'a, M: Machine> PlaceWord for TableWord<'a, M> {
         self.found = Some(sighting.served());
     }
 
-    fn sleep<R: Wait>(&mut self, rt: &R, expected: u32) {
+    fn retry(&mut self, lost: Lost) {
+        let _ = lost;
+        self.state = None;
+    }
+
+    fn sleep<R: Wait>(&mut self, rt: &R, expected: u32, ticket: u64) {
+        let _ = ticket;
         self.table.park(rt, self.place, expected);
         self.state = None;
         self.sleeps = self.sleeps.one_more();
@@ -105,7 +124,8 @@ impl<'a, M: Machine> PlaceWord for TableWord<'a, M> {
 
 // Looks which ticket is served. The word has it as found after the state that was read last.
 fn look<M: Machine, W: PlaceWord>(word: &mut W, lock: &TicketLock<M>) -> u64
-    requires { W.exists word.old }
+    requires exists { W.exists word.old }
+    requires posted { IsPosted (W.state word.old) × (W.found word.old ≡ None) }
     ensures exists { W.exists word.new }
     ensures state { W.state word.new ≡ W.state word.old }
     ensures found { W.found word.new ≡ Some result }
@@ -125,9 +145,9 @@ pub(crate) fn may_take_back<M: Machine, W: PlaceWord>(
     ticket: u64,
 ) -> bool
     requires exists { W.exists word.old }
-    requires read { W.state word.old ≡ Some state }
+    requires read { (W.state word.old ≡ Some state) × (W.found word.old ≡ None) }
     ensures exists { W.exists word.new }
-    ensures may { MatchBool result (3 ≤ state % 8)
+    ensures may { MatchBool result (MayTakeBack (W.state word.new) (W.found word.new) ticket)
         (MaySleep (W.state word.new) (W.found word.new) ticket) }
     ensures state { W.state word.new ≡ Some state }
 {
@@ -146,7 +166,9 @@ pub(crate) fn sleep_lent<R: Wait, W: PlaceWord>(rt: &R, word: &mut W, expected: 
     requires seen { MaySleep (W.state word.old) (W.found word.old) ticket }
     requires expected { (state : ℕ) × (W.state word.old ≡ Some state) ×
         (expected ≡ state % 2 ^ 32) }
+    ensures exists { W.exists word.new }
+    ensures anew { W.state word.new ≡ None }
     ensures made { W.sleeps word.new ≡ W.sleeps word.old + 1 }
 {
-    word.sleep(rt, expected);
+    word.sleep(rt, expected, ticket);
 }

@@ -1,18 +1,19 @@
 //! The steps on the table of places.
 ghost use Rattle.std.specs.Prelude.{◌≡◌, ◌%◌, ◌<◌, ◌≤◌, [], ◌∷◌, drop, ℕ};
-ghost use Rattle.std.specs.Prelude.{IsSome, IfSome, IfNone, MatchBool};
+ghost use Rattle.std.specs.Prelude.{Some, IsSome, IfOk, IfErr, MatchBool, false};
 ghost use Rattle.bw_lend.specs.declared.stake.Part.TheVariants.{Owns, Lends, Helps, Fresh};
 ghost use Rattle.bw_lend.specs.Lent.{HasTicket, Returns};
 ghost use Rattle.bw_lend.specs.Rule.{stake};
 ghost use Rattle.bw_lend.specs.Parts.{IsTable, IsOwner, IsHelper};
+ghost use Rattle.bw_lend.specs.Waits.{MayTakeBack};
 ghost use Rattle.bw_lend.specs.declared.table.TheConstants.{TICKETS};
 
 use crate::plays::{Claim, GiveBack, Hint, Open, Post, TakeBack};
+use crate::sleeping::PlaceWord;
 use crate::table::{
     AWAY, CLAIMED, Content, POSTED, Place, Shared, Token, hint_of, hint_word_of, returned_state,
     state_of,
 };
-use crate::waking::Owed;
 use bw_machine::Machine;
 use bw_ticket::{Seat, TicketLock};
 use std::snapshot::Snapshot;
@@ -50,30 +51,90 @@ pub(crate) fn post<M: Machine>(
     table.store::<Hint>(token, hint_word_of(ticket), hint_of(ticket, place));
 }
 
-/// Takes the place back, where this seat is lent, if its state is still this one.
-pub(crate) fn take_back<M: Machine>(
+/// The state of a place was another one than its owner had read. Only a try to take the place back
+/// makes one.
+#[derive(Drop)]
+pub(crate) struct Lost {
+    state: u64,
+}
+
+/// Takes the place back, where this seat is lent, if its state is still the one that was read.
+///
+/// Its owner has read that the seat is back, or has found its own ticket served.
+pub(crate) fn take_back<M: Machine, W: PlaceWord>(
     table: &Shared<M>,
     token: &mut Token<M>,
     place: usize,
+    word: &W,
     lent: &Snapshot<Seat<M>>,
     state: u64,
-) -> Option<Content<M>>
+    ticket: u64,
+) -> Result<Content<M>, Lost>
     requires table { (token.old.table_id ≡ table.now.table_id) × IsTable table.now.table_id }
     requires lends { token.old.me ≡
         (stake lent.now.value.lock_id place (Lends lent.now.value) ∷ [], []) }
     requires place { place < 64 }
-    requires home { 3 ≤ state % 8 }
+    requires ticket { HasTicket lent.now.value ticket }
+    requires read { W.state word.now ≡ Some state }
+    requires seen { MayTakeBack (W.state word.now) (W.found word.now) ticket }
     ensures table { token.new.table_id ≡ token.old.table_id }
-    ensures none { IfNone result (token.new.me ≡ token.old.me) }
-    ensures back { IfSome result (λ y. Returns lent.now.value y ×
+    ensures lost { IfErr result (λ _. token.new.me ≡ token.old.me) }
+    ensures back { IfOk result (λ y. Returns lent.now.value y ×
         IsOwner lent.now.value.lock_id place token.new.me) }
 {
+    let _ = word;
     let _ = lent;
+    let _ = ticket;
     let found = table.compare_exchange::<TakeBack>(token, place, state, AWAY);
     if found != state {
-        return None;
+        return Err(Lost { state: found });
     }
-    Some(table.exchange(token, place, Place::Empty))
+    Ok(table.exchange(token, place, Place::Empty))
+}
+
+/// A try to claim a place. Only [`claim`] makes one.
+#[derive(Drop)]
+pub(crate) struct Tried {
+    place: usize,
+    ticket: u64,
+    won: bool,
+}
+
+impl Tried {
+    pub(crate) fn place(&self) -> usize
+        ensures { result ≡ self.now.place }
+    {
+        self.place
+    }
+
+    /// Whether the place was claimed.
+    pub(crate) fn won(&self) -> bool
+        ensures { result ≡ self.now.won }
+    {
+        self.won
+    }
+}
+
+/// A place that was given back, with the call of its seat made or not. Only [`give_back`] makes
+/// one. It is not `Drop`.
+pub(crate) struct Given {
+    place: usize,
+    ticket: u64,
+    made: bool,
+}
+
+impl Given {
+    /// The place.
+    pub(crate) fn end(self) -> usize
+        ensures { result ≡ self.place }
+    {
+        let Given {
+            place,
+            ticket: _,
+            made: _,
+        } = self;
+        place
+    }
 }
 
 /// Takes the place if the seat of this ticket is lent there.
@@ -83,37 +144,44 @@ pub(crate) fn claim<M: Machine>(
     token: &mut Token<M>,
     place: usize,
     ticket: u64,
-) -> bool
+) -> Tried
     requires table { (token.old.table_id ≡ table.now.table_id) × IsTable table.now.table_id }
     requires owner { (mine : _) × IsOwner lock.now.lock_id mine token.old.me }
     requires place { place < 64 }
     requires small { ticket < TICKETS }
     ensures table { token.new.table_id ≡ token.old.table_id }
-    ensures claimed { MatchBool result
-        (IsHelper lock.now.lock_id place ticket token.old.me token.new.me)
+    ensures tried { (result.place ≡ place) × (result.ticket ≡ ticket) }
+    ensures claimed { MatchBool result.won
+        (IsHelper lock.now.lock_id place ticket false token.old.me token.new.me)
         (token.new.me ≡ token.old.me) }
 {
     let posted = state_of(ticket, POSTED);
     let found = table.compare_exchange::<Claim>(token, place, posted, state_of(ticket, CLAIMED));
-    found == posted
+    let won = found == posted;
+    Tried { place, ticket, won }
 }
 
-/// Gives the place of another seat back, with the seat that was lent in it.
+/// Gives the place of another seat back, with the seat that was lent in it, its call made or not.
 pub(crate) fn give_back<M: Machine>(
     table: &Shared<M>,
     token: &mut Token<M>,
     place: usize,
     ticket: u64,
     made: bool,
-) -> Owed
+) -> Given
     requires table { (token.old.table_id ≡ table.now.table_id) × IsTable table.now.table_id }
-    requires helper { (lock : _) × (before : _) × IsHelper lock place ticket before token.old.me }
+    requires helper { (lock : _) × (before : _) ×
+        IsHelper lock place ticket made before token.old.me }
     requires place { place < 64 }
     requires small { ticket < TICKETS }
     ensures table { token.new.table_id ≡ token.old.table_id }
     ensures back { token.new.me ≡ (drop 1 token.old.me.0, drop 1 token.old.me.1) }
-    ensures owed { result.place ≡ place }
+    ensures given { (result.place ≡ place) × (result.ticket ≡ ticket) × (result.made ≡ made) }
 {
     table.store::<GiveBack>(token, place, returned_state(ticket, made));
-    Owed::to(place)
+    Given {
+        place,
+        ticket,
+        made,
+    }
 }

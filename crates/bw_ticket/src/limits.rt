@@ -9,7 +9,8 @@ pub const MAX_CALLS: u32 = 65536;
 /// Greatest number of tickets of a lock. Each ticket is below it.
 pub const MAX_TICKETS: u64 = MAX_SEATS as u64 * MAX_CALLS as u64;
 
-/// Greatest number of looks of a seat whose ticket is served soon, before it sleeps.
+/// Greatest number of looks of a seat whose ticket is served soon, before it sleeps. Only the few
+/// seats that are next look on, so each may look often. No measurement has picked the number.
 pub const LOOKS: u64 = 1000;
 
 /// Greatest number of yields of a seat before it sleeps.

@@ -1,30 +1,51 @@
 -- The helper gives the place back that it claimed, and has what it had before.
-use Rattle.std.proofs.Common.{◌∙◌, ap, drop}
-use Rattle.bw_lend.specs.Parts.{IsHelper}
+use Rattle.std.proofs.Common.{◌∙◌, true, ap, sym}
+use Rattle.bw_lend.specs.Visits.{Visiting}
+use Rattle.bw_lend.proofs.Holding.{helped, had_back}
 use Rattle.bw_lend.proofs.helping.help_one.Goals as goal
 
-pub give_back-owed-requires-clause-helper : goal.give_back-owed-requires-clause-helper
-give_back-owed-requires-clause-helper g c κs within = (
+pub give_back-requires-clause-helper : goal.give_back-requires-clause-helper
+give_back-requires-clause-helper g c κs within = (
   c.args.lock.now.lock_id,
   c.args.token.now.me,
-  c.make_at-made.ensures.helper c.in_ok-place.ticket c.args.token.now.me c.in_ok-place.ensures.some.2,
+  helped c.args.lock.now.lock_id c.in-Some.place c.ticket-ticket.result
+      c.args.token.now.me c.claim.new.token.me c.make_at.new.token.me
+      (g.V.Visit.state c.claim_to_help.new.self).ticket c.claim.result.won c.claim.ensures.claimed
+      c.if-not-claim_to_help.ensures.claimed.1
+      (ap (λ (v : Visiting). v.ticket) c.if-not-claim_to_help.ensures.claimed.0
+      ∙ sym c.ticket-ticket.ensures) c.make_at.ensures.helper,
 )
 
-pub wake_first-requires-clause-free : goal.wake_first-requires-clause-free
-wake_first-requires-clause-free g c κs within =
-    let h : IsHelper c.args.lock.now.lock_id c.in_ok-place.place c.in_ok-place.ticket c.args.token.now.me c.make_at-made.new.token.me =
-    c.make_at-made.ensures.helper c.in_ok-place.ticket c.args.token.now.me c.in_ok-place.ensures.some.2 in
-    let same = c.give_back-owed.ensures.back ∙ ap (λ m. (drop 1 m.0, drop 1 m.1)) h.2 in
-    let w = c.requires.owner in (c.args.lock.now.lock_id, w.0, (w.1.0, same ∙ w.1.1))
+pub returns-then-make_at-clause-same : goal.returns-then-make_at-clause-same
+returns-then-make_at-clause-same g c =
+    let h = helped c.args.lock.now.lock_id c.in-Some.place c.ticket-ticket.result
+    c.args.token.now.me c.claim.new.token.me c.make_at.new.token.me
+    (g.V.Visit.state c.claim_to_help.new.self).ticket c.claim.result.won c.claim.ensures.claimed
+    c.if-not-claim_to_help.ensures.claimed.1
+    (ap (λ (v : Visiting). v.ticket) c.if-not-claim_to_help.ensures.claimed.0
+    ∙ sym c.ticket-ticket.ensures) c.make_at.ensures.helper in
+    had_back c.args.lock.now.lock_id c.in-Some.place c.ticket-ticket.result c.args.token.now.me
+    c.claim.new.token.me c.make_at.new.token.me true c.give_back.new.token.me h c.give_back.ensures.back
 
-pub returns-then-not-made-clause-same : goal.returns-then-not-made-clause-same
-returns-then-not-made-clause-same g c =
-    let h : IsHelper c.args.lock.now.lock_id c.in_ok-place.place c.in_ok-place.ticket c.args.token.now.me c.make_at-made.new.token.me =
-    c.make_at-made.ensures.helper c.in_ok-place.ticket c.args.token.now.me c.in_ok-place.ensures.some.2 in
-    c.give_back-owed.ensures.back ∙ ap (λ m. (drop 1 m.0, drop 1 m.1)) h.2
+pub give_back-requires-2-clause-helper : goal.give_back-requires-2-clause-helper
+give_back-requires-2-clause-helper g c κs within = (
+  c.args.lock.now.lock_id,
+  c.args.token.now.me,
+  helped c.args.lock.now.lock_id c.in-Some.place c.ticket-ticket.result
+      c.args.token.now.me c.claim.new.token.me c.make_at.new.token.me
+      (g.V.Visit.state c.claim_to_help.new.self).ticket c.claim.result.won c.claim.ensures.claimed
+      c.if-not-claim_to_help.ensures.claimed.1
+      (ap (λ (v : Visiting). v.ticket) c.if-not-claim_to_help.ensures.claimed.0
+      ∙ sym c.ticket-ticket.ensures) c.make_at.ensures.helper,
+)
 
-pub returns-else-not-made-clause-same : goal.returns-else-not-made-clause-same
-returns-else-not-made-clause-same g c =
-    let h : IsHelper c.args.lock.now.lock_id c.in_ok-place.place c.in_ok-place.ticket c.args.token.now.me c.make_at-made.new.token.me =
-    c.make_at-made.ensures.helper c.in_ok-place.ticket c.args.token.now.me c.in_ok-place.ensures.some.2 in
-    c.give_back-owed.ensures.back ∙ ap (λ m. (drop 1 m.0, drop 1 m.1)) h.2
+pub returns-clause-same : goal.returns-clause-same
+returns-clause-same g c =
+    let h = helped c.args.lock.now.lock_id c.in-Some.place c.ticket-ticket.result
+    c.args.token.now.me c.claim.new.token.me c.make_at.new.token.me
+    (g.V.Visit.state c.claim_to_help.new.self).ticket c.claim.result.won c.claim.ensures.claimed
+    c.if-not-claim_to_help.ensures.claimed.1
+    (ap (λ (v : Visiting). v.ticket) c.if-not-claim_to_help.ensures.claimed.0
+    ∙ sym c.ticket-ticket.ensures) c.make_at.ensures.helper in
+    had_back c.args.lock.now.lock_id c.in-Some.place c.ticket-ticket.result c.args.token.now.me
+    c.claim.new.token.me c.make_at.new.token.me true c.give_back-2.new.token.me h c.give_back-2.ensures.back

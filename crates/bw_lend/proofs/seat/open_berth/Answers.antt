@@ -1,5 +1,5 @@
 -- The place that is handed out is the first of the rest.
-use Rattle.std.proofs.Common.{arith, ◌+◌, ◌-◌, ℕ, [], ◌∷◌, ap, ◌∙◌, sym, subst}
+use Rattle.std.proofs.Common.{arith, ◌+◌, ◌-◌, ℕ, [], ◌∷◌, ap, ◌∙◌, sym}
 use Rattle.std.specs.Arc.{arc_value}
 use Rattle.bw_lend.specs.declared.stake.Part.TheVariants.{Fresh}
 use Rattle.bw_lend.specs.Plays.{others, first_one}

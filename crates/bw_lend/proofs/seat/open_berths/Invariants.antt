@@ -1,5 +1,5 @@
 -- The berths so far, and the places that are left.
-use Rattle.std.proofs.Common.{◌≡◌, ◌+◌, ◌-◌, ◌≤◌, [], vec_len, vec_capacity}
+use Rattle.std.proofs.Common.{◌≡◌, ◌-◌, ◌≤◌, [], vec_len, vec_capacity}
 use Rattle.std.specs.Arc.{arc_value}
 use Rattle.bw_lend.specs.Parts.{IsTable}
 use Rattle.bw_lend.specs.Rule.{Each, stakes_from}
