@@ -3,7 +3,6 @@ mod Asked
 mod Blamed
 pub mod CallerLemmas
 mod Claimed
-mod Closeness
 mod Fit
 mod ColumnsOfGroups
 mod PeriodNumbers
@@ -13,4 +12,3 @@ mod PlannedHosts
 mod Questions
 mod RefusedRow
 mod Spelling
-mod Squares

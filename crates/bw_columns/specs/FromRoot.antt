@@ -1,4 +1,4 @@
--- The least weights from the root down, in columns of numbers.
+-- The weights with which all goals are met, in columns of numbers.
 use Rattle.std.specs.Prelude.{◌≡◌, ◌==◌, ℕ, List, Bool, map, if◌then◌else◌}
 use Rattle.bw_model.specs.declared.row.Row.{Row}
 use Rattle.bw_model.specs.Groups.{Groups}
@@ -6,7 +6,7 @@ use Rattle.bw_questions.specs.declared.from_root.measure.Measure.{Measure}
 use Rattle.bw_questions.specs.declared.from_root.measure.Measure.TheVariants.{Planned, Guaranteed}
 use Rattle.bw_questions.specs.declared.from_root.least.Tuned.{Tuned}
 use Rattle.bw_questions.specs.declared.from_root.least.Tuned.TheVariants.{Met, Unmet}
-use Rattle.bw_questions.specs.FromRoot.{IsTunedFromRoot}
+use Rattle.bw_questions.specs.Lowered.{IsTuned}
 use Rattle.bw_columns.specs.declared.from_root.TheConstants.{NO_GOAL}
 
 -- the measure that a number names: the plan for 0, the guarantee for any other
@@ -25,10 +25,9 @@ IsToldOfRoot groups (Met tuned) weights unmet =
 IsToldOfRoot groups (Unmet top) weights unmet =
     (weights ≡ weights_of groups.rows) × (unmet ≡ top)
 
--- the least weights from the root down that meet all goals, or a group whose goals no weights meet
--- together, told
+-- the weights that meet all goals, or a group whose goals no weights meet together, told
 pub record IsFromRootTold (measure : Measure) (groups : Groups) (goals : List ℕ) (may : List Bool)
     (weights : List ℕ) (unmet : ℕ) : Type 0 where
   pub tuned : Tuned
-  pub held : IsTunedFromRoot measure groups goals may tuned
+  pub held : IsTuned measure groups goals may tuned
   pub told : IsToldOfRoot groups tuned weights unmet

@@ -10,7 +10,6 @@ pub mod FromRoot
 pub mod Groups
 pub mod Held
 pub mod Limited
-pub mod Logarithm
 pub mod Numbers
 pub mod OtherLimits
 pub mod PeriodLaws
@@ -21,6 +20,5 @@ pub mod Questions
 pub mod Reasoned
 pub mod RefusedRow
 pub mod Served
-pub mod Shares
 pub mod Tallies
 pub mod Walks

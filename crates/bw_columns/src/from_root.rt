@@ -1,4 +1,4 @@
-//! The least weights from the root down, with which all goals of a host and its rows are met.
+//! The weights with which all goals of a host and its rows are met.
 ghost use Rattle.std.specs.Prelude.{◌≡◌, true, length, IfOk, IfErr, OnOk};
 ghost use Rattle.bw_columns.specs.Asked.{groups_asked, refusal_where, Answers};
 ghost use Rattle.bw_columns.specs.Certificates.{flags_in};
@@ -60,7 +60,7 @@ fn told(alloc: Global, instance: &Instance, tuned: &Tuned) -> Result<FromRootCol
     }
 }
 
-/// The least weights from the root down of a host and its rows.
+/// The weights with which all goals of a host and its rows are met.
 ///
 /// `goals` has the least slices that each row is to get by the measure, 0 for none. `may` is not 0
 /// for a row whose weight may change. `fit` is whether the caller's columns have the rows' length.

@@ -4,7 +4,7 @@
 //! Over them are the planner's answers: plan, certificate, verdict, limiting groups, figures,
 //! reasons, limits of a round, what a scheduler is given for one, weights for goals of rows and
 //! limits of others, questions about a group, refused row. And a booked period, and conversions of
-//! what operators write to slices and weights.
+//! what operators write to slices.
 #![tactic(auto)]
 
 mod asked_group;
@@ -24,7 +24,6 @@ mod groups;
 mod held;
 mod laws;
 mod limited;
-mod logarithm;
 mod one_period;
 mod other_limits;
 mod period_limits;
@@ -37,7 +36,6 @@ mod reasoned;
 mod refusal;
 mod served;
 mod set_rows;
-mod shares;
 mod sum_columns;
 mod tally;
 mod walk;
@@ -57,7 +55,7 @@ pub use from_root::{FromRootColumns, NO_GOAL, from_root_of, measure_of};
 pub use front::write_front;
 pub use groups::{GroupColumns, group_columns};
 pub use held::{HeldColumns, held_of};
-pub use laws::{column_numbers, limits_of_periods, share_numbers};
+pub use laws::{column_numbers, limits_of_periods};
 pub use limited::limiting_of;
 pub use other_limits::{OtherLimitColumns, other_limits_of};
 pub use period_limits::limit_of_period;
@@ -69,6 +67,5 @@ pub use reasoned::{ReasonColumns, reasons_of};
 pub use refusal::Refusal;
 pub use served::{ServedColumns, served_of};
 pub use set_rows::SettingColumns;
-pub use shares::{linear_weight, logarithmic_weight};
 pub use sum_columns::SumColumns;
 pub use written::{are_groups_even, write_groups};

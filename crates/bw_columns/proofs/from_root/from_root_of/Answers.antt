@@ -1,28 +1,38 @@
 -- The goals of `from_root_of` that are answered by hand.
 use Rattle.std.proofs.Common.{◌≡◌, ℕ, List, Bool, length, ap, sym, ◌∙◌, inl, inr}
 use Rattle.std.proofs.lemmas.List.{length-map}
+use Rattle.std.proofs.lemmas.List.FromFn.{length-map-range_with_len}
 use Rattle.bw_model.specs.declared.row.Row.{Row}
 use Rattle.bw_model.specs.Groups.{Groups}
 use Rattle.bw_questions.specs.declared.from_root.least.Tuned.{Tuned}
 use Rattle.bw_questions.specs.declared.from_root.least.Tuned.TheVariants.{Met, Unmet}
 use Rattle.bw_questions.specs.declared.from_root.measure.Measure.{Measure}
-use Rattle.bw_questions.specs.FromRoot.{IsTunedFromRoot}
+use Rattle.bw_questions.specs.FromRoot.{IsTunedFromRoot, weighed_row}
+use Rattle.bw_questions.specs.Lowered.{IsTuned, level_weights, lowered, own_rows}
 use Rattle.bw_columns.specs.Asked.{groups_asked, table_of}
 use Rattle.bw_columns.specs.Certificates.{flags_in}
 use Rattle.bw_columns.specs.FromRoot.{IsFromRootTold, IsToldOfRoot}
 use Rattle.bw_columns.proofs.Asked.{rows_length, moved}
 use Rattle.bw_columns.proofs.from_root.from_root_of.Goals as goal
 
+-- one row for each row
+tuned_long : (measure : Measure) (groups : Groups) (goals : List ℕ) (may : List Bool)
+    (tuned : Groups) → IsTunedFromRoot measure groups goals may (Met tuned)
+    → length tuned.rows ≡ length groups.rows
+tuned_long measure groups goals may tuned (inl raised) = raised.reweighted.tree.as_many
+tuned_long measure groups goals may tuned (inr all) = all.reweighted.tree.as_many
+
 -- one weight for each row
 weights_long : (measure : Measure) (groups : Groups) (goals : List ℕ) (may : List Bool)
-    (tuned : Tuned) (weights : List ℕ) (unmet : ℕ) → IsTunedFromRoot measure groups goals may tuned
+    (tuned : Tuned) (weights : List ℕ) (unmet : ℕ) → IsTuned measure groups goals may tuned
     → IsToldOfRoot groups tuned weights unmet → length weights ≡ length groups.rows
 weights_long measure groups goals may (Met tuned) weights unmet held told =
     ap (length {A = ℕ}) told.0 ∙ length-map tuned.rows (λ (r : Row). r.weight)
-    ∙ elim held [
-      | inl raised ↦ raised.reweighted.tree.as_many
-      | inr all ↦ all.reweighted.tree.as_many
-    ]
+    ∙ tuned_long measure (lowered groups goals may held.level) goals
+    (own_rows groups.rows goals may) tuned held.own
+    ∙ length-map-range_with_len
+    (weighed_row groups.rows (level_weights groups.rows goals may held.level)) 0
+    (length groups.rows)
 weights_long measure groups goals may (Unmet top) weights unmet held told =
     ap (length {A = ℕ}) told.0 ∙ length-map groups.rows (λ (r : Row). r.weight)
 
@@ -42,7 +52,7 @@ tune-requires-clause-may c =
 
 told_here : (measure : Measure) (groups asked : Groups) (goals : List ℕ) (may flags : List Bool)
     (tuned : Tuned) (weights : List ℕ) (unmet : ℕ) → groups ≡ asked → may ≡ flags
-    → IsTunedFromRoot measure groups goals may tuned → IsToldOfRoot groups tuned weights unmet
+    → IsTuned measure groups goals may tuned → IsToldOfRoot groups tuned weights unmet
     → IsFromRootTold measure asked goals flags weights unmet
 told_here measure groups asked goals may flags tuned weights unmet same_groups same_flags held
     told =

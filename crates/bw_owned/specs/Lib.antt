@@ -1,0 +1,12 @@
+-- The files of definitions.
+pub mod Allowed
+pub mod Formulas
+pub mod Harm
+pub mod Laws
+pub mod Least
+pub mod Limits
+pub mod Logarithm
+pub mod Pods
+pub mod Requests
+pub mod Shares
+pub mod Weights
