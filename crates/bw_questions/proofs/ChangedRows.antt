@@ -1,5 +1,5 @@
 -- The instance that other rows of the same parents and demands make.
-use Rattle.std.proofs.Common.{◌≡◌, ℕ, ◌<◌, ◌≤◌, length, refl, ap, sym, ◌∙◌, arith, inl, inr}
+use Rattle.std.proofs.Common.{◌≡◌, ℕ, ◌<◌, ◌≤◌, length, ap, sym, ◌∙◌, arith, inl, inr}
 use Rattle.std.proofs.Common.{Some, None}
 use Rattle.std.specs.Prelude.{map}
 use Rattle.std.specs.List.{range_with_len}
@@ -9,7 +9,7 @@ use Rattle.std.proofs.lemmas.List.FromFn.{get_or-map-range_with_len, length-map-
 use Rattle.bw_model.specs.declared.limits.TheConstants.{MIN_WEIGHT, MAX_WEIGHT}
 use Rattle.bw_model.specs.declared.row.Row.{Row}
 use Rattle.bw_model.specs.Groups.{Groups, IsInstance, AreTreeRows, no_row, parent_of, row_of}
-use Rattle.bw_model.specs.Groups.{demand_of, weight_of}
+use Rattle.bw_model.specs.Groups.{demand_of}
 use Rattle.bw_change_laws.specs.Tree.{IsSameTree}
 use Rattle.bw_change_laws.proofs.CallerLemmas.{depth_same, leaf_same}
 

@@ -23,7 +23,8 @@ use Rattle.bw_questions.specs.HeldRule.{everyone}
 use Rattle.bw_questions.specs.Passes.{all_weights}
 use Rattle.bw_questions.proofs.AllBusy.{IsBusied, asks_nothing, busied_everyone, fits_kept}
 use Rattle.bw_questions.proofs.AllBusy.{kept_fits}
-use Rattle.bw_questions.proofs.LeastLaw.{rule_same}
+use Rattle.bw_questions.proofs.LeastLaw.{goal_fits, rule_same}
+use Rattle.bw_questions.proofs.Paths.{above_le}
 use Rattle.bw_questions.proofs.Weighed.{demands_kept, limits_kept, tree_kept, weight_at}
 use Rattle.bw_questions.proofs.Weighed.{weight_past}
 use Rattle.bw_questions.proofs.Weighed.{weighed-IsInstance}
@@ -191,9 +192,13 @@ module _ (groups : Groups) (valid : IsInstance groups) (may : List Bool) where
 
     -- A goal above the most of its row is never guaranteed.
     pub never_kept : (h : ℕ) → h < length groups.rows → get_or most h 0 < get_or goals h 0
+        → ((k : ℕ) → h < k → k < length groups.rows → get_or goals k 0 ≤ get_or most k 0)
         → AreNeverMet Guaranteed groups goals may h
-    never_kept h below above = record {
+    never_kept h below above later = record {
       within = below;
+      lowest = λ k k_in under apart.
+          goal_fits groups valid most goals mosts_are k k_in
+          (later k (omega (arith, above_le groups.rows valid.tree h k under, apart)) k_in);
       never = λ others other met.
           let there = busied_everyone others other.valid in
           let inside : h < length others.rows = omega (arith, below, other.tree.as_many) in
@@ -276,6 +281,8 @@ module _ (groups : Groups) (valid : IsInstance groups) (may : List Bool) where
           → AreNeverMet Guaranteed groups goals may top
       unmet_busy top found = record {
         within = omega (arith, found.within, (busied_everyone groups valid).tree.as_many);
+        lowest = λ h below under apart.
+            goal_fits groups valid most goals mosts_are h below (enough h below);
         never = λ others other met.
             found.never (everyone others) (busy_reweighted others other)
             (reached_under others other top met);

@@ -12,7 +12,7 @@ use Rattle.bw_model.specs.Demand.{AreMaxTotals, want_of}
 use Rattle.bw_model.specs.Plan.{IsPlan, child_weights}
 use Rattle.bw_model.proofs.CallerLemmas.{AreMaxTotals-capped, capped, child_at, get_or-map}
 use Rattle.bw_model.proofs.CallerLemmas.{parent_lt, listed_child, parent_not_leaf, from_the_last}
-use Rattle.bw_model.proofs.CallerLemmas.{is_under-self, planned-IsPlan, strong}
+use Rattle.bw_model.proofs.CallerLemmas.{is_under-self, most_le_want, planned-IsPlan, strong}
 use Rattle.bw_plan.specs.Shared.{IsPlanning}
 use Rattle.bw_plan.proofs.CallerLemmas.{at_most, plan-IsPlanning}
 use Rattle.bw_change_laws.specs.Tree.{IsSameTree}
@@ -21,7 +21,7 @@ use Rattle.bw_change_laws.proofs.CallerLemmas.{leaf_same, step_same, under_same,
 use Rattle.bw_questions.specs.Passes.{AreAllNeeds, AreColumns, IsBeyond, IsLeastAt, IsNeed, IsPassed}
 use Rattle.bw_questions.specs.Passes.{MeetsAt, Suffices, of_children}
 use Rattle.bw_questions.specs.FromRoot.{AgreesAbove, AreReached, AreRowWeights, AreTops}
-use Rattle.bw_questions.specs.FromRoot.{IsLeastFromRoot, IsNeverReached, IsNoLighter}
+use Rattle.bw_questions.specs.FromRoot.{GoalFits, IsLeastFromRoot, IsNeverReached, IsNoLighter}
 use Rattle.bw_questions.specs.FromRoot.{IsReweightedAt}
 use Rattle.bw_questions.specs.declared.from_root.measure.Measure.TheVariants.{Planned}
 use Rattle.bw_questions.specs.FromRoot.{weighed}
@@ -61,6 +61,21 @@ module _ (a b : Groups) (va : IsInstance a) (vb : IsInstance b) (tree : IsSameTr
       ∙ sym (ap (λ l. capped l (want_of b most g)) (limits g)
       ∙ ap (capped (limit_of a g)) (want_same a b va vb tree most most g (demands g)
       (λ c c_in up. refl)))
+
+-- A goal that is no more than its row can be given fits.
+pub goal_fits : (groups : Groups) → IsInstance groups → (most goals : List ℕ)
+    → AreMaxTotals groups most → (h : ℕ) → h < length groups.rows
+    → get_or goals h 0 ≤ get_or most h 0 → GoalFits groups goals h
+goal_fits groups valid most goals mosts h below fits =
+    let rule = AreMaxTotals-capped groups valid.tree most mosts in
+    record {
+      limit = λ limit is.
+          let cut : get_or most h 0 ≡ capped (Some limit) (want_of groups most h) =
+          rule h below ∙ ap (λ l. capped l (want_of groups most h)) is in
+          omega (arith, fits, cut);
+      demand = λ leaf.
+          omega (arith, fits, rw leaf at (most_le_want groups valid.tree most rule h below));
+    }
 
 -- The greatest weights that rows may have, beside their mosts and goals.
 pub tops_columns : (groups : Groups) → IsInstance groups → (tops most goals : List ℕ)
@@ -204,6 +219,12 @@ module _ (groups : Groups) (valid : IsInstance groups) (tops most goals : List �
       → IsNeverReached groups goals may top
   never_reached top beyond = record {
     within = beyond.within;
+    lowest = λ h below under apart.
+        let after : top < h =
+        omega (arith, above_le groups.rows valid.tree top h under, apart) in
+        let need = (beyond.later h after below).0 in
+        goal_fits groups valid most goals columns.mosts h below
+        (omega (arith, need.goal, need.within));
     never = λ others is_other heavier reached.
         beyond.never (get_or reached.amounts top 0)
         (sufficient others is_other heavier reached.amounts reached.plan beyond.needs top

@@ -3,6 +3,7 @@ mod AllBusy
 mod AskingRows
 mod AtGroup
 mod Blame
+mod BusyPair
 mod BusyRows
 mod ByAll
 pub mod CallerLemmas
@@ -11,6 +12,7 @@ mod Counts
 mod CutRows
 mod ExactReadings
 mod FreeRows
+mod GoalRows
 mod Halving
 mod Help
 mod InTurn
@@ -22,9 +24,11 @@ mod Levels
 mod Lightened
 mod Limits
 mod LowerLimits
+mod LoweredWeights
 mod Meetings
 mod OneFromRoot
 mod OneReason
+mod OneTuned
 mod Parts
 mod Paths
 mod RaisedLimits

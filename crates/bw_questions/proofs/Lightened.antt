@@ -7,6 +7,7 @@ use Rattle.std.proofs.lemmas.List.{get_or_past}
 use Rattle.bw_model.specs.declared.row.Row.{Row}
 use Rattle.bw_model.specs.declared.limits.TheConstants.{MIN_WEIGHT}
 use Rattle.bw_model.specs.Groups.{Groups, IsInstance, no_row, weight_of}
+use Rattle.bw_change_laws.proofs.CallerLemmas.{leaf_same, under_same}
 use Rattle.bw_questions.specs.declared.from_root.measure.Measure.TheVariants.{Planned}
 use Rattle.bw_questions.specs.FromRoot.{AreFloors}
 use Rattle.bw_questions.specs.FromRoot.{AreRowWeights, IsFromRoot}
@@ -119,6 +120,20 @@ module _ (groups : Groups) (valid : IsInstance groups) (may : List Bool) (light 
   })
   tuned_light goals top never (Unmet group) found = record {
     within = omega (arith, found.within, is.reweighted.tree.as_many);
+    lowest = λ h below under apart.
+        let tree = is.reweighted.tree in
+        let fits = found.lowest h (omega (arith, below, tree.as_many))
+        (under_same groups.rows light.rows valid.tree is.reweighted.valid.tree tree group h ∙ under)
+        apart in
+        record {
+          limit = λ limit here. fits.limit limit (is.reweighted.limits h ∙ here);
+          demand = λ leaf.
+              omega (
+                arith,
+                fits.demand (leaf_same groups.rows light.rows tree h ∙ leaf),
+                is.reweighted.demands h,
+              );
+        };
     never = λ others other reached.
         found.never others (beside_light others other) (above_light others other) reached;
   }

@@ -8,139 +8,69 @@ use Rattle.bw_model.specs.Host.{Shape, capacity_of}
 use Rattle.bw_plan.specs.Laws.{HasOnePlan, ThereIsOnePlan}
 use Rattle.bw_change_laws.specs.Room.{IsRoomierAround, OthersRoomGivesNothing}
 use Rattle.bw_change_laws.specs.Tree.{IsSameTree}
-use Rattle.bw_change_laws.proofs.CallerLemmas.{leaf_same, limits_same, same_tree, under_same}
-use Rattle.bw_change_laws.proofs.CallerLemmas.{weights_same}
+use Rattle.bw_change_laws.proofs.CallerLemmas.{under_same}
 use Rattle.bw_questions.specs.Busy.{busy_rows}
 use Rattle.bw_questions.specs.FromRoot.{AreMet, IsKept, IsReweightedAt}
-use Rattle.bw_questions.specs.Guarantee.{IsGuaranteed}
 use Rattle.bw_questions.specs.HeldRule.{own_limit}
 use Rattle.bw_questions.specs.OtherLimits.{AreCuts, CanBeMet, cut_to}
 use Rattle.bw_questions.specs.OtherLimits.{is_free}
 use Rattle.bw_questions.specs.declared.from_root.measure.Measure.{Measure}
 use Rattle.bw_questions.specs.declared.from_root.measure.Measure.TheVariants.{Planned, Guaranteed}
-use Rattle.bw_questions.proofs.AllBusy.{asks_nothing}
-use Rattle.bw_questions.proofs.BusyRows.{AreBusy, are_busy, busy_demand, busy-IsInstance}
+use Rattle.bw_questions.proofs.BusyPair.{busy_demands, busy_groups, busy_limits, busy_long}
+use Rattle.bw_questions.proofs.BusyPair.{busy_tree, busy_under, busy_valid, busy_weights}
+use Rattle.bw_questions.proofs.BusyPair.{kept_beside, no_goal}
 use Rattle.bw_questions.proofs.CutRows.{as_many, cut_limit, cut_twice, cut-IsInstance, demands_kept}
 use Rattle.bw_questions.proofs.CutRows.{limit_here, limit_kept, limit_past, roomier, root_full}
 use Rattle.bw_questions.proofs.CutRows.{tree_kept, weights_kept}
 use Rattle.bw_questions.proofs.FreeRows.{near_bound, root_bound}
-use Rattle.bw_questions.proofs.LeastAmount.{least}
-
--- the groups in which each leaf that is not under a group asks for the most
-abbrev busy_groups : Groups → ℕ → Groups
-busy_groups groups group = record { shape = groups.shape; rows = busy_rows groups.rows group }
-
--- A row without a goal has a guarantee.
-no_goal : (groups : Groups) → IsInstance groups → ThereIsOnePlan → (q : ℕ)
-    → q < length groups.rows → (goals : List ℕ) → get_or goals q 0 ≡ 0 → IsKept groups goals q
-no_goal groups valid one q below goals none =
-    let are : AreBusy groups.rows q (busy_rows groups.rows q) = are_busy groups.rows q in
-    let busy : HasOnePlan (busy_groups groups q) =
-    one (busy_groups groups q) (busy-IsInstance groups valid q (busy_rows groups.rows q) are) in
-    record {
-      least = get_or busy.amounts q 0;
-      guarantee =
-          least groups valid q (busy_rows groups.rows q) are below busy.amounts busy.plan;
-      enough = omega (arith, none);
-    }
 
 -- Two instances of which one is roomier around a group, with equal demands.
 module _ (low high : Groups) (valid_low : IsInstance low) (valid_high : IsInstance high) (q : ℕ)
     (around : IsRoomierAround low high q)
     (demands : (h : ℕ) → demand_of high.rows h ≡ demand_of low.rows h) where
-  are_low : AreBusy low.rows q (busy_rows low.rows q)
-  are_low = are_busy low.rows q
-
-  are_high : AreBusy high.rows q (busy_rows high.rows q)
-  are_high = are_busy high.rows q
-
   tree : IsSameTree low.rows high.rows
   tree = around.no_less.tree
 
-  busy_low : IsInstance (busy_groups low q)
-  busy_low = busy-IsInstance low valid_low q (busy_rows low.rows q) are_low
-
-  busy_high : IsInstance (busy_groups high q)
-  busy_high = busy-IsInstance high valid_high q (busy_rows high.rows q) are_high
-
   demands_equal : (g : ℕ)
       → demand_of (busy_rows high.rows q) g ≡ demand_of (busy_rows low.rows q) g
-  demands_equal g = elim (cases_lt g (length low.rows)) [
-    | inl within ↦
-        let same : busy_demand high.rows q g ≡ busy_demand low.rows q g =
-        rw (
-          leaf_same low.rows high.rows tree g,
-          under_same low.rows high.rows valid_low.tree valid_high.tree tree q g,
-          demands g,
-        ) refl in
-        are_high.demands g (omega (arith, within, tree.as_many)) ∙ same
-        ∙ sym (are_low.demands g within)
-    | inr past ↦
-        asks_nothing (busy_groups high q) g
-        (omega (arith, past, tree.as_many, are_high.alike.one_each))
-        ∙ sym (asks_nothing (busy_groups low q) g (omega (arith, past, are_low.alike.one_each)))
-  ]
+  demands_equal = busy_demands low high valid_low valid_high q tree demands
 
   limits_low : (h : ℕ) → limit_of (busy_groups low q) h ≡ limit_of low h
-  limits_low = limits_same low (busy_rows low.rows q) are_low.alike
+  limits_low = busy_limits low valid_low q
 
   limits_high : (h : ℕ) → limit_of (busy_groups high q) h ≡ limit_of high h
-  limits_high = limits_same high (busy_rows high.rows q) are_high.alike
+  limits_high = busy_limits high valid_high q
 
-  -- a row under another of the busy groups is under it
   is_same : (a h : ℕ) → is_under (busy_rows low.rows q) a h ≡ is_under low.rows a h
-  is_same = under_same low.rows (busy_rows low.rows q) valid_low.tree busy_low.tree
-      (same_tree low.rows (busy_rows low.rows q) are_low.alike)
+  is_same = busy_under low valid_low q
 
   busy_around : IsRoomierAround (busy_groups low q) (busy_groups high q) q
-  busy_around =
-      let to_low = same_tree low.rows (busy_rows low.rows q) are_low.alike in
-      let to_high = same_tree high.rows (busy_rows high.rows q) are_high.alike in
-      record {
-        no_less = record {
-          tree = record {
-            as_many = to_high.as_many ∙ tree.as_many ∙ sym to_low.as_many;
-            parents = λ g. to_high.parents g ∙ tree.parents g ∙ sym (to_low.parents g);
-          };
-          demands = λ g. omega (arith, demands_equal g);
-          limits = λ g limit e.
-              let known = around.no_less.limits g limit (sym (limits_high g) ∙ e) in
-              (known.0, limits_low g ∙ known.1, known.2);
-        };
-        weights = λ h.
-            weights_same high.rows (busy_rows high.rows q) are_high.alike h ∙ around.weights h
-            ∙ sym (weights_same low.rows (busy_rows low.rows q) are_low.alike h);
-        above = λ h under.
-            limits_high h ∙ around.above h (sym (is_same h q) ∙ under) ∙ sym (limits_low h);
-        limits = λ h under.
-            limits_high h ∙ around.limits h (sym (is_same q h) ∙ under) ∙ sym (limits_low h);
-        demands = λ h under. demands_equal h;
-      }
+  busy_around = record {
+    no_less = record {
+      tree = busy_tree low high valid_low valid_high q tree demands;
+      demands = λ g. omega (arith, demands_equal g);
+      limits = λ g limit e.
+          let known = around.no_less.limits g limit (sym (limits_high g) ∙ e) in
+          (known.0, limits_low g ∙ known.1, known.2);
+    };
+    weights = λ h.
+        busy_weights high valid_high q h ∙ around.weights h ∙ sym (busy_weights low valid_low q h);
+    above = λ h under.
+        limits_high h ∙ around.above h (sym (is_same h q) ∙ under) ∙ sym (limits_low h);
+    limits = λ h under.
+        limits_high h ∙ around.limits h (sym (is_same q h) ∙ under) ∙ sym (limits_low h);
+    demands = λ h under. demands_equal h;
+  }
 
   -- A goal that is kept in the roomier groups is kept.
   kept_low : ThereIsOnePlan → OthersRoomGivesNothing → q < length low.rows → (goals : List ℕ)
       → IsKept high goals q → IsKept low goals q
-  kept_low one room below goals kept =
-      let lows : HasOnePlan (busy_groups low q) = one (busy_groups low q) busy_low in
-      let highs : HasOnePlan (busy_groups high q) = one (busy_groups high q) busy_high in
-      let inside : q < length high.rows = omega (arith, below, tree.as_many) in
-      let told : IsGuaranteed high q (get_or highs.amounts q 0) =
-      least high valid_high q (busy_rows high.rows q) are_high inside highs.amounts highs.plan in
-      record {
-        least = get_or lows.amounts q 0;
-        guarantee =
-            least low valid_low q (busy_rows low.rows q) are_low below lows.amounts lows.plan;
-        enough =
-            omega (
-              arith,
-              kept.enough,
-              kept.guarantee.none_less told.reached.0 told.reached.1 told.reached.2 told.reached.3,
-              told.reached.4,
-              room (busy_groups low q) (busy_groups high q) q lows.amounts highs.amounts busy_low
-                  busy_high busy_around (omega (arith, below, are_low.alike.one_each)) lows.plan
-                  highs.plan,
-            );
-      }
+  kept_low one room below goals =
+      kept_beside low high valid_low valid_high q tree demands one below goals
+      (λ xs ys low_plan high_plan.
+      room (busy_groups low q) (busy_groups high q) q xs ys (busy_valid low valid_low q)
+      (busy_valid high valid_high q) busy_around
+      (omega (arith, below, busy_long low valid_low q)) low_plan high_plan)
 
 module _ (groups : Groups) (valid : IsInstance groups) (goals : List ℕ) where
   -- A row with a goal at, above or below it is not free.
@@ -279,7 +209,7 @@ module _ (groups : Groups) (valid : IsInstance groups) (goals : List ℕ) where
                 (around h within some) (λ g. sym (demands_kept others lower g)) one room below
                 goals (kept h (omega (arith, within, rows_as_many)))
             | inr none ↦
-                no_goal (cut_to others lower) lower_valid one h below goals (omega (arith, none))
+                no_goal (cut_to others lower) lower_valid h one below goals (omega (arith, none))
           ]
 
     -- What can be met with some limits, can be met with lower limits of free rows.

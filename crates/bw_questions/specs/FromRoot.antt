@@ -5,7 +5,7 @@ use Rattle.std.specs.List.{range_with_len}
 use Rattle.bw_model.specs.declared.limits.TheConstants.{MIN_WEIGHT, MAX_WEIGHT}
 use Rattle.bw_model.specs.declared.row.Row.{Row}
 use Rattle.bw_model.specs.Groups.{Groups, IsInstance, parent_of, row_of, weight_of, demand_of}
-use Rattle.bw_model.specs.Groups.{limit_of, is_under}
+use Rattle.bw_model.specs.Groups.{limit_of, is_leaf, is_under}
 use Rattle.bw_model.specs.Plan.{IsPlan}
 use Rattle.bw_change_laws.specs.Tree.{IsSameTree}
 use Rattle.bw_questions.specs.Guarantee.{IsGuaranteed}
@@ -75,11 +75,22 @@ pub record IsLeastFromRoot (measure : Measure) (groups : Groups) (goals : List �
       → AreMet measure others goals → (h : ℕ) → AgreesAbove tuned others h
       → weight_of tuned.rows h ≤ weight_of others.rows h
 
+-- a goal within its row's limit and, of a leaf, within its demand
+pub record GoalFits (groups : Groups) (goals : List ℕ) (h : ℕ) : Type 0 where
+  pub limit : (limit : ℕ) → limit_of groups h ≡ Some limit → slice_index goals h ≤ limit
+  pub demand : is_leaf groups.rows h ≡ true → slice_index goals h ≤ demand_of groups.rows h
+
+-- the goal of each row below a group fits
+abbrev pub FitBelow : Groups → List ℕ → ℕ → Type 0
+FitBelow groups goals top = (h : ℕ) → h < length groups.rows → is_under groups.rows top h ≡ true
+    → h ≢ top → GoalFits groups goals h
+
 -- no weights of rows that may change, none less than those that stand, meet the goals of a group
--- and below it by the plan
+-- and below it by the plan, though each goal below it fits
 pub record IsNeverReached (groups : Groups) (goals : List ℕ) (may : List Bool) (top : ℕ) : Type 0
   where
     pub within : top < length groups.rows
+    pub lowest : FitBelow groups goals top
     pub never : (others : Groups) → IsReweightedAt groups others may → IsNoLighter groups others
         → AreReachedUnder others goals top → ⊥
 
@@ -101,10 +112,12 @@ pub record IsLeastOfAllFromRoot (measure : Measure) (groups : Groups) (goals : L
       → (h : ℕ) → AgreesAbove tuned others h
       → weight_of tuned.rows h ≤ weight_of others.rows h
 
--- no weights of rows that may change meet the goals of a group and below it
+-- No weights of rows that may change meet the goals of a group and below it, though each goal below
+-- below it fits. So of goals one above another that do not fit, the lowest is named.
 pub record AreNeverMet (measure : Measure) (groups : Groups) (goals : List ℕ) (may : List Bool)
     (top : ℕ) : Type 0 where
   pub within : top < length groups.rows
+  pub lowest : FitBelow groups goals top
   pub never : (others : Groups) → IsReweightedAt groups others may
       → ¬ AreMetUnder measure others goals top
 

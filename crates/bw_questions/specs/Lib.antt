@@ -11,6 +11,7 @@ pub mod Hunger
 pub mod Laws
 pub mod LeafReadings
 pub mod Least
+pub mod Lowered
 pub mod Needs
 pub mod OtherLimits
 pub mod Passes

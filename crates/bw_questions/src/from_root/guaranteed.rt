@@ -15,17 +15,19 @@ use bw_model::Instance;
 use bw_plan::there_is_one_plan;
 use std::alloc::{AllocError, Global};
 
-// The first row whose goal is above the most that it can be given. No weights change that most.
+// The last row whose goal is above the most that it can be given. No weights change that most.
 fn beyond(instance: &Instance, goals: &[u64], most: &[u64]) -> Option<u32>
     requires goals { length goals.now ≡ length instance.now.rows }
     requires most { length most.now ≡ length instance.now.rows }
     ensures some { IfSome result (λ h. (h < length instance.now.rows)
-        × (slice_index most.now h < slice_index goals.now h)) }
+        × (slice_index most.now h < slice_index goals.now h)
+        × ((k : ℕ) → h < k → k < length instance.now.rows
+        → slice_index goals.now k ≤ slice_index most.now k)) }
     ensures none { IfNone result ((h : ℕ) → h < length instance.now.rows
         → slice_index goals.now h ≤ slice_index most.now h) }
 {
     let count = instance.rows().len();
-    for h in 0..count {
+    for h in (0..count).rev() {
         if goals[h] > most[h] {
             return Some(h as u32);
         }

@@ -1,13 +1,13 @@
-//! The law of the least weights from the root down, and the numbers of a level.
+//! The law of the weights with which all goals are met, and the numbers of a level.
 ghost use Rattle.std.specs.Prelude.{◌≡◌};
-ghost use Rattle.bw_questions.specs.FromRoot.{ThereIsOneFromRoot};
+ghost use Rattle.bw_questions.specs.Lowered.{ThereIsOneTuned};
 
 use bw_split::limits::{GREATEST_LEVEL, STEPS};
 
-/// Law: an instance, its goals and the rows that may change have one answer of least weights from
-/// the root down.
+/// Law: an instance, its goals and the rows that may change have one answer of weights with which
+/// all goals are met.
 pub fn there_is_one_from_root()
-    ensures { ThereIsOneFromRoot }
+    ensures { ThereIsOneTuned }
 {}
 
 /// States the numbers of a level: a cost of one has 2^27 steps, and the greatest level is the cost

@@ -5,7 +5,7 @@ ghost use Rattle.bw_questions.specs.OtherLimits.{AreCuts, CanBeMet, IsGreatestRa
 ghost use Rattle.bw_questions.specs.OtherLimits.{raised_limit, raised_limits};
 
 use super::cut::{cut_to, full_limit};
-use crate::from_root::{Measure, Tuned, tune};
+use crate::from_root::{Measure, Tuned, tuned_from_root};
 use bw_change_laws::others_room_gives_nothing;
 use bw_model::Instance;
 use bw_plan::there_is_one_plan;
@@ -33,7 +33,7 @@ pub(crate) fn can_be_met(
 {
     let _rows = instance.rows();
     let cut = cut_to(alloc, instance, limits)?;
-    match tune(alloc, &cut, goals, may, measure)? {
+    match tuned_from_root(alloc, &cut, goals, may, measure)? {
         Tuned::Met(_) => Ok(true),
         Tuned::Unmet(_) => Ok(false),
     }

@@ -32,12 +32,14 @@ pub returns-in-Some : goal.returns-in-Some
 returns-in-Some c =
     let found : (c.in-Some.group < length c.args.instance.now.rows)
     × (get_or c.in_ok-gathered.gathered.most.items c.in-Some.group 0
-    < get_or c.args.goals.now c.in-Some.group 0) =
+    < get_or c.args.goals.now c.in-Some.group 0)
+    × ((k : ℕ) → c.in-Some.group < k → k < length c.args.instance.now.rows
+    → get_or c.args.goals.now k 0 ≤ get_or c.in_ok-gathered.gathered.most.items k 0) =
     rw (c.in-Some.is, c.as_slice.ensures.value) at c.beyond.ensures.some in
     never_kept c.args.instance.now c.rows-rows.ensures.valid c.args.may.now
     c.there_is_one_plan.ensures c.demands_inside_only_cut.ensures
     c.in_ok-gathered.gathered.most.items c.args.goals.now c.in_ok-gathered.ensures.mosts
-    c.in-Some.group found.0 found.1
+    c.in-Some.group found.0 found.1 found.2
 
 pub tuned_by_plan-requires-clause-goals : goal.tuned_by_plan-requires-clause-goals
 tuned_by_plan-requires-clause-goals c =

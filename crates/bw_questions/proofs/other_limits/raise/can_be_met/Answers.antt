@@ -1,23 +1,13 @@
 -- The goals of `can_be_met` that are answered by hand.
 use Rattle.std.proofs.Common.{◌≡◌, ℕ, List, Bool, length, ap, sym, ◌∙◌, subst}
 use Rattle.bw_model.specs.Groups.{Groups}
-use Rattle.bw_questions.specs.FromRoot.{AreMet, AreMetUnder, AreNeverMet, IsReweightedAt}
+use Rattle.bw_questions.specs.FromRoot.{AreNeverMet, IsReweightedAt}
 use Rattle.bw_questions.specs.OtherLimits.{CanBeMet, cut_to}
 use Rattle.bw_questions.specs.declared.from_root.measure.Measure.{Measure}
-use Rattle.bw_questions.specs.declared.from_root.measure.Measure.TheVariants.{Planned, Guaranteed}
 use Rattle.bw_questions.proofs.CutRows.{as_many}
 use Rattle.bw_questions.proofs.LowerLimits.{root_unlimited}
+use Rattle.bw_questions.proofs.OneTuned.{met_under}
 use Rattle.bw_questions.proofs.other_limits.raise.can_be_met.Goals as goal
-
--- All goals are met, so those of a group and below it are.
-met_under : (measure : Measure) (others : Groups) (goals : List ℕ) (top : ℕ)
-    → AreMet measure others goals → AreMetUnder measure others goals top
-met_under Planned others goals top reached = record {
-  amounts = reached.amounts;
-  plan = reached.plan;
-  met = λ h below under. reached.met h below;
-}
-met_under Guaranteed others goals top kept = λ h below under. kept h below
 
 not_met : (measure : Measure) (groups cut : Groups) (goals : List ℕ) (may : List Bool)
     (limits : List ℕ) (top : ℕ) → cut ≡ cut_to groups limits
@@ -32,14 +22,14 @@ cut_to-requires-clause-root c =
     root_unlimited c.args.instance.now c.rows-rows.ensures.valid c.args.goals.now
     c.args.limits.now c.requires.limits
 
-pub tune-requires-clause-goals : goal.tune-requires-clause-goals
-tune-requires-clause-goals c =
+pub tuned_from_root-requires-clause-goals : goal.tuned_from_root-requires-clause-goals
+tuned_from_root-requires-clause-goals c =
     c.requires.goals
     ∙ sym (ap (λ (g : Groups). length g.rows) c.in_ok-cut.ensures
     ∙ as_many c.args.instance.now c.args.limits.now)
 
-pub tune-requires-clause-may : goal.tune-requires-clause-may
-tune-requires-clause-may c =
+pub tuned_from_root-requires-clause-may : goal.tuned_from_root-requires-clause-may
+tuned_from_root-requires-clause-may c =
     c.requires.may
     ∙ sym (ap (λ (g : Groups). length g.rows) c.in_ok-cut.ensures
     ∙ as_many c.args.instance.now c.args.limits.now)
@@ -47,7 +37,7 @@ tune-requires-clause-may c =
 pub returns-clause-none : goal.returns-clause-none
 returns-clause-none c =
     let never : AreNeverMet c.args.measure c.in_ok-cut.cut c.args.goals.now c.args.may.now
-    c.in-Unmet.field-0 = rw c.in-Unmet.is at c.in_ok-tune.ensures in
+    c.in-Unmet.field-0 = rw c.in-Unmet.is at c.in_ok-tuned_from_root.ensures in
     λ told can.
     not_met c.args.measure c.args.instance.now c.in_ok-cut.cut c.args.goals.now c.args.may.now
     c.args.limits.now c.in-Unmet.field-0 c.in_ok-cut.ensures never can
