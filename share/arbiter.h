@@ -21,8 +21,9 @@
  *
  * Answers of all calls but arbiter_name, arbiter_version and arbiter_weight_of_shares: 0, or
  *   1 to 3    the host is refused (BadProcessors, BadPeriod, BadSlice)
- *   4 to 10   the rows are refused (TooMany, BadParent, BadWeight, TooDeep, InnerDemand, DemandTooLarge, RootLimited)
- *   11        the denominator of a demand is 0 (BadNumber)
+ *   4 to 10   the rows are refused (TooMany, BadParent, BadWeight, TooDeep, InnerDemand, DemandTooLarge, RootLimited); 9 also of a sum of slices
+ *   11        the denominator of a demand is 0, or no formula has the number (BadNumber)
+ *   12        a weight is out of range (WeightOutOfRange)
  *   13 to 15  a quota, burst or limit, an own period or a round is out of range (QuotaTooSmall, QuotaTooLarge, PeriodOutOfRange)
  *   20        the group is no row (NotFound)
  *   40 to 43  it is no certified text (BadLine, BadField, CutShort, Trailing)
@@ -36,8 +37,9 @@
  * arbiter_refused_row.
  *
  * arbiter_refused_row, arbiter_reading, arbiter_leaf_reading, arbiter_written, arbiter_slices, arbiter_period_limit,
- * arbiter_demand, arbiter_planned_host, arbiter_weight_of_shares, arbiter_version and arbiter_name ask for no memory: their
- * answers are exact.
+ * arbiter_demand, arbiter_planned_host, arbiter_weight_of_shares, arbiter_owned_weight, arbiter_owned_limit,
+ * arbiter_least_owned, arbiter_owned_number, arbiter_pod_amount, arbiter_greatest_part, arbiter_allowed, arbiter_lost,
+ * arbiter_version and arbiter_name ask for no memory: their answers are exact.
  */
 #ifndef ARBITER_H
 #define ARBITER_H
@@ -71,6 +73,22 @@ extern "C" {
 #define ARBITER_SHARES_LINEAR 1
 /* Later ones: 10 to the power of (l^2 + 125 l) / 612 - 7 / 34, rounded up, where l is the logarithm of the shares to the base 2. */
 #define ARBITER_SHARES_LOGARITHMIC 2
+/* More formulas of arbiter_owned_weight and arbiter_least_owned. Requests in thousandths of a CPU have the shares of kubelet:
+ * request * 1024 / 1000, rounded down, 2 to 262144. */
+#define ARBITER_REQUEST_LINEAR 3
+#define ARBITER_REQUEST_LOGARITHMIC 4
+/* CPUShares= and CPUWeight= of systemd: shares * 100 / 1024, rounded down, 1 to 10000; and the weight itself. */
+#define ARBITER_UNIT_SHARES 5
+#define ARBITER_UNIT_WEIGHT 6
+/* Formulas of arbiter_owned_limit: thousandths of a CPU (kubelet), NanoCpus and CpuQuota (docker), and microseconds of each
+ * second (systemd's CPUQuotaPerSecUSec). */
+#define ARBITER_THOUSANDTHS 1
+#define ARBITER_NANO_CPUS 2
+#define ARBITER_QUOTA 3
+#define ARBITER_PER_SECOND 4
+/* Kinds of arbiter_pod_amount. */
+#define ARBITER_INIT_CONTAINER 1
+#define ARBITER_SIDECAR 2
 
 /* Plans and certificates. */
 
@@ -222,18 +240,20 @@ uint32_t arbiter_least_processors(uint64_t processors, uint64_t period_us, uint6
                                   const uint64_t *demands, size_t demands_length, uint32_t group, uint64_t amount,
                                   uint64_t *least);
 
-/* Weights under which each row has its goal, the least from the root down. Goals may be of groups with children, of rows inside
- * one another, and of rows whose weight stays. No weight is less than in `weights`, unless no such weights meet all goals. Of
- * all weights that agree with them at each row above a row, and at the siblings of these, theirs of that row is the least. So
- * there is one answer. No plan is made: each group is split a few times for each raise of a weight.
+/* Weights under which each row has its goal. Goals may be of groups with children, of rows inside one another, and of rows
+ * whose weight stays. A weight is the goals' own if a goal is at its row or below it. Own weights are the least from the root
+ * down: of all that agree with them at each row above a row, and at the siblings of these, theirs of that row is the least.
+ * None is less than in `weights`, unless no such weights meet all goals. Other weights stay where these do. Else they are
+ * lowered to one level, the greatest that will do. So there is one answer. No plan is made: each group is split a few times for
+ * each raise of a weight. At most 16 levels are tried.
  * Reads:
  *   goals       slices that each row is to get at least, 0 for no goal
  *   may         not 0 where the weight may change, within 1 to 10000
  *   guaranteed  not 0 where goals are met whatever the others ask for, as arbiter_guarantee has it; 0 where the plan meets them
  * Writes:
  *   tuned  the weight of each row; `weights` where no weights meet all goals
- *   unmet  a row: no weights meet the goals of it and below it together, whatever it is given; ARBITER_NO_GOAL where all goals
- *          are met
+ *   unmet  a row: no weights of rows that may change meet the goals of it and below it together, whatever it is given;
+ *          ARBITER_NO_GOAL where all goals are met
  * Answers 0, or 50 where columns differ in length; 1 to 3 where the host is refused; 4 to 10 where the rows are refused. */
 uint32_t arbiter_tune(uint64_t processors, uint64_t period_us, uint64_t slice_us,
                       const uint32_t *parents, size_t parents_length, const uint64_t *weights, size_t weights_length,
@@ -541,6 +561,96 @@ uint32_t arbiter_planned_host(uint64_t processors, uint64_t period_us, uint64_t 
  *   shares      cpu.shares; below 2 they count as 2, above 262144 as 262144
  *   conversion  ARBITER_SHARES_LINEAR or ARBITER_SHARES_LOGARITHMIC */
 uint64_t arbiter_weight_of_shares(uint64_t shares, uint32_t conversion);
+
+/* What owners set. */
+
+/* The weight of a number that an owner set: a request, shares or a weight. A greater number has no lesser weight.
+ * Reads:
+ *   formula  ARBITER_SHARES_LINEAR to ARBITER_UNIT_WEIGHT
+ *   number   the number
+ * Writes:
+ *   weight  1 to 10000; 0 where logarithms do not tell it, which is of no number of shares
+ * Answers 0, or 11 where no formula has the number. */
+uint32_t arbiter_owned_weight(uint32_t formula, uint64_t number, uint64_t *weight);
+
+/* The limit of a number that an owner set: of thousandths or billionths of a CPU, microseconds of a period, or of each second.
+ * A quota or a period that the kernel does not take is the nearest one that it takes. The period of a rate is so long that the
+ * quota is 1000 microseconds.
+ * Reads:
+ *   formula        ARBITER_THOUSANDTHS to ARBITER_PER_SECOND
+ *   number         the number; 0 sets no limit, but for ARBITER_PER_SECOND
+ *   own_period_us  the own period in microseconds that is set beside it, 0 for 100000; not read for ARBITER_NANO_CPUS
+ * Writes:
+ *   quota   the quota, 1000 to 10^15 microseconds of each own period; ARBITER_NO_LIMIT where there is none
+ *   period  the own period, 1000 to 1000000 microseconds
+ * Answers 0, or 11 where no formula has the number. */
+uint32_t arbiter_owned_limit(uint32_t formula, uint64_t number, uint64_t own_period_us, uint64_t *quota, uint64_t *period);
+
+/* The least number of those that an owner can set whose weight is at least `weight`. At most 18 weights are worked out.
+ * Reads:
+ *   formula  ARBITER_SHARES_LINEAR to ARBITER_UNIT_WEIGHT
+ *   weight   the weight, 1 to 10000
+ * Writes:
+ *   least  the number; ARBITER_NO_LIMIT where logarithms do not tell a weight, which is of no number of shares
+ * Answers 0, or 11 where no formula has the number; 12 where the weight is out of range. */
+uint32_t arbiter_least_owned(uint32_t formula, uint64_t weight, uint64_t *least);
+
+/* The number that is written for a request in thousandths of a CPU. Of shares it is that of kubelet, of a request the request
+ * itself. `CPUWeight=` is 100 for each CPU, rounded up.
+ * Reads:
+ *   formula  ARBITER_SHARES_LINEAR to ARBITER_UNIT_WEIGHT
+ *   request  the request in thousandths of a CPU
+ * Writes:
+ *   number  the number
+ * Answers 0, or 11 where no formula has the number. */
+uint32_t arbiter_owned_number(uint32_t formula, uint64_t request, uint64_t *number);
+
+/* The most that the containers of a pod take at any time: of requests, of limits, or of another resource. They stand in the
+ * order in which they start. An init container ends before the next one starts, and a sidecar runs on.
+ * Reads:
+ *   kinds    ARBITER_INIT_CONTAINER, ARBITER_SIDECAR, or any other number for a container
+ *   amounts  the amount of each, in any one unit
+ * Writes:
+ *   amount  the amount of the pod; it stops at its greatest value
+ * Answers 0, or 50 where columns differ in length. */
+uint32_t arbiter_pod_amount(const uint8_t *kinds, size_t kinds_length, const uint64_t *amounts, size_t amounts_length,
+                            uint64_t *amount);
+
+/* The greatest amount of one container of a pod with which arbiter_pod_amount is at most `room`. Its own amount is not read.
+ * Reads:
+ *   kinds    those of arbiter_pod_amount
+ *   amounts  the amount of each, in any one unit
+ *   part     the place of the container, from 0
+ *   room     the most that the pod may take
+ * Writes:
+ *   greatest  the amount of the container; ARBITER_NO_LIMIT where the others alone take more
+ * Answers 0, or 50 where columns differ in length, or have no such place. */
+uint32_t arbiter_greatest_part(const uint8_t *kinds, size_t kinds_length, const uint64_t *amounts, size_t amounts_length,
+                               uint32_t part, uint64_t room, uint64_t *greatest);
+
+/* The nanoseconds that a limit allows in some time: the part of it that the quota is of its own period, rounded down, and the
+ * burst.
+ * Reads:
+ *   quota_us       the quota in microseconds of each own period
+ *   own_period_us  the own period in microseconds, above 0
+ *   burst_us       the burst in microseconds
+ *   passed_ns      the time in nanoseconds
+ * Writes:
+ *   allowed  the nanoseconds; they stop at their greatest value
+ * Answers 0, or 15 where the own period is 0. */
+uint32_t arbiter_allowed(uint64_t quota_us, uint64_t own_period_us, uint64_t burst_us, uint64_t passed_ns, uint64_t *allowed);
+
+/* The slices that rounds under limits served too little; 0 where limits did no harm. They do harm where the part of the plan
+ * that is served is more than a twentieth of the plan below that of rounds without limits. A plan of nothing is served.
+ * Reads:
+ *   free_used     slices used in rounds without limits, up to 2^60
+ *   free_planned  slices planned for these, up to 2^60
+ *   held_used     slices used in rounds under limits, up to 2^60
+ *   held_planned  slices planned for these, up to 2^60
+ * Writes:
+ *   lost  the slices
+ * Answers 0, or 9 where a sum is above 2^60. */
+uint32_t arbiter_lost(uint64_t free_used, uint64_t free_planned, uint64_t held_used, uint64_t held_planned, uint64_t *lost);
 
 /* Names. */
 

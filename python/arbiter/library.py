@@ -2,6 +2,7 @@
 from __future__ import annotations
 
 import ctypes
+import enum
 import os
 from array import array
 from collections.abc import Sequence
@@ -21,8 +22,18 @@ Rows: TypeAlias = Sequence[Row] | Columns
 # Most groups of a tree, the root among them.
 MOST_GROUPS = 16384
 CONVERSIONS = {"linear": 1, "logarithmic": 2}
+# Formulas by which a number that an owner set makes a weight: `cpu.shares` and a request in
+# thousandths of a CPU, by older and by newer container runtimes, and two settings of systemd.
+WeightFormula = enum.IntEnum("WeightFormula", "SHARES_LINEAR SHARES_LOGARITHMIC REQUEST_LINEAR"
+                             " REQUEST_LOGARITHMIC UNIT_SHARES UNIT_WEIGHT")
+# Formulas of a quota: of thousandths of a CPU by kubelet, of NanoCpus and CpuQuota by docker, and
+# of microseconds of each second by systemd.
+LimitFormula = enum.IntEnum("LimitFormula", "THOUSANDTHS NANO_CPUS QUOTA PER_SECOND")
+# Kinds of the containers of a pod.
+PartKind = enum.IntEnum("PartKind", "CONTAINER INIT_CONTAINER SIDECAR", start=0)
 # Bits of a number of each type.
 BITS = {U8: 8, U32: 32, U64: 64}
+MOST_WORD = 2**64 - 1
 # The reasons that name no group, by their numbers: rows share them.
 REASONS = tuple(map(Reason, Kind))
 # The numbers of faults that speak of a row of the tree.
@@ -128,10 +139,7 @@ class Library:
 
     def ask_host(self, name: str, host: Host, *read: Any, count: int = 0) -> list[Any]:
         """The writes of a call about a host, columns of so many entries among it."""
-        number, written = self.call(name, count, *self.host(host), *read)
-        if number:
-            raise self.refused(number)
-        return written
+        return self.told(name, *self.host(host), *read, count=count)
 
     def plan(self, host: Host, rows: Rows) -> list[int]:
         """The amounts of the plan, in slices of one period, one for each row."""
@@ -235,10 +243,12 @@ class Library:
 
         `goals` has the slices that each row is to get at least, 0 for none: by the plan or, where
         `guaranteed`, whatever the groups ask for that are not under it. `may` tells for each row
-        whether its weight may change, within 1 to 10000. The weights are the least from the root
-        down. None is less than the row has, unless no such weights meet all goals. If none do, the
-        answer is a row: its goal and those below it cannot be met together. Refused as a plan is,
-        and by 50 WrongLength if there is not one goal and one `may` for each row.
+        whether its weight may change, within 1 to 10000. Weights of rows with a goal at or below
+        them are the least from the root down. None is less than the row has, unless no such weights
+        meet all goals. Others stay where these do. Else they are lowered to one level, the greatest
+        that will do. If no weights do, the answer is a row: its goal and those below it cannot be
+        met together. Refused as a plan is, and by 50 WrongLength if there is not one goal and one
+        `may` for each row.
         """
         tuned, unmet = self.ask("tune", host, rows, goals, flag_column(may), int(bool(guaranteed)))
         return list(tuned) if unmet == c.NO_GOAL else int(unmet)
@@ -375,3 +385,59 @@ class Library:
         """
         weight, _ = self.call("weight_of_shares", 0, shares, CONVERSIONS[conversion])
         return weight
+
+    def told(self, name: str, *read: Any, count: int = 0) -> list[Any]:
+        """The writes of a call, columns of so many entries among it."""
+        number, written = self.call(name, count, *read)
+        if number:
+            raise self.refused(number)
+        return written
+
+    def owned_weight(self, formula: WeightFormula, number: int) -> int:
+        """The `cpu.weight` of a number that an owner set, which may be of any size."""
+        return int(self.told("owned_weight", formula, min(number, MOST_WORD))[0])
+
+    def owned_limit(self, formula: LimitFormula, number: int,
+                    period_us: int = 0) -> tuple[int | None, int]:
+        """The quota of a number that an owner set, None for no limit, and its period, both in
+        microseconds. `period_us` is the period that is set beside it, 0 for 100000. Both may be of
+        any size."""
+        quota, period = self.told("owned_limit", formula, *(min(each, MOST_WORD)
+                                                            for each in (number, period_us)))
+        return None if quota == c.NO_LIMIT else quota, period
+
+    def least_owned(self, formula: WeightFormula, weight: int) -> int:
+        """The least number of those that an owner can set whose weight is at least so much.
+
+        Refused by 12 WeightOutOfRange.
+        """
+        return int(self.told("least_owned", formula, weight)[0])
+
+    def owned_number(self, formula: WeightFormula, request: int) -> int:
+        """The number that is written for a request in thousandths of a CPU."""
+        return int(self.told("owned_number", formula, min(request, MOST_WORD))[0])
+
+    def pod_amount(self, kinds: Sequence[PartKind], amounts: Sequence[int]) -> int:
+        """The most that the containers of a pod take at any time, in the unit of their amounts."""
+        return int(self.told("pod_amount", kinds, amounts)[0])
+
+    def greatest_part(self, kinds: Sequence[PartKind], amounts: Sequence[int], part: int,
+                      room: int) -> int | None:
+        """The greatest amount of the container at a place with which the pod takes no more than
+        some room; None where the others alone take more. Its own amount is not read."""
+        greatest = self.told("greatest_part", kinds, amounts, part, room)[0]
+        return None if greatest == c.NO_LIMIT else int(greatest)
+
+    def allowed(self, quota: int, period_us: int, burst: int, passed_ns: int) -> int:
+        """The nanoseconds that a limit allows in some nanoseconds. Quota, own period and burst are
+        in microseconds."""
+        return int(self.told("allowed", quota, period_us, burst, passed_ns)[0])
+
+    def lost(self, free: tuple[int, int], held: tuple[int, int]) -> int:
+        """The slices that rounds under limits served too little, 0 where limits did no harm.
+
+        Both are the slices that were used and planned: in rounds without limits, and under them.
+        Harm is that the part of the plan that is served is more than a twentieth of the plan below
+        that of the rounds without limits. Refused by 9 DemandTooLarge.
+        """
+        return int(self.told("lost", *free, *held)[0])

@@ -196,6 +196,7 @@ GOALS = column("goals", U64, "slices that each row is to get at least, 0 for no 
 MAY = column("may", U8, "not 0 where the weight may change, within 1 to 10000")
 GUARANTEED = CallWord("guaranteed", U32, "not 0 where goals are met whatever the others ask for, as"
                   " arbiter_guarantee has it; 0 where the plan meets them")
+FORMULA = CallWord("formula", U32, "ARBITER_SHARES_LINEAR to ARBITER_UNIT_WEIGHT")
 PASSED = CallWord("passed_ns", U64, "nanoseconds of the round, above 0")
 
 LENGTHS = Refusal("50", "columns differ in length")
@@ -205,6 +206,7 @@ OF_PLAN = (LENGTHS, OF_HOST, OF_ROWS)
 NO_ROW = Refusal("20", "the group is no row")
 NO_TIME = Refusal("15", "no time passed")
 OWN_PERIOD = Refusal("15", "the own period is out of range")
+NO_FORMULA = Refusal("11", "no formula has the number")
 OF_CHECK = Refusal("51 to 58", "the amounts are not the plan by this certificate")
 
 PLANS = (
@@ -272,17 +274,20 @@ QUESTIONS = (
          (HOST, ROWS, GROUP, AMOUNT, result("least", U64, "1 to 64", "0", "no number does")),
          (*OF_PLAN, NO_ROW), is_plain=True),
     Call("tune", "weights that meet goals of any rows",
-         "Weights under which each row has its goal, the least from the root down. Goals may be of"
-         " groups with children, of rows inside one another, and of rows whose weight stays. No"
-         " weight is less than in `weights`, unless no such weights meet all goals. Of all weights"
-         " that agree with them at each row above a row, and at the siblings of these, theirs of"
-         " that row is the least. So there is one answer. No plan is made: each group is split a"
-         " few times for each raise of a weight.",
+         "Weights under which each row has its goal. Goals may be of groups with children, of rows"
+         " inside one another, and of rows whose weight stays. A weight is the goals' own if a goal"
+         " is at its row or below it. Own weights are the least from the root down: of all that"
+         " agree with them at each row above a row, and at the siblings of these, theirs of that"
+         " row is the least. None is less than in `weights`, unless no such weights meet all goals."
+         " Other weights stay where these do. Else they are lowered to one level, the greatest that"
+         " will do. So there is one answer. No plan is made: each group is split a few times for"
+         " each raise of a weight. At most 16 levels are tried.",
          (HOST, ROWS, GOALS, MAY, GUARANTEED,
           room("tuned", U64, "the weight of each row; `weights` where no weights meet all goals"),
           result("unmet",
-                 U64, "a row: no weights meet the goals of it and below it together, whatever"
-                 " it is given", "ARBITER_NO_GOAL", "all goals are met")), OF_PLAN),
+                 U64, "a row: no weights of rows that may change meet the goals of it and below"
+                 " it together, whatever it is given", "ARBITER_NO_GOAL", "all goals are met")),
+         OF_PLAN),
     Call("limit_others", "limits of others that allow such weights",
          "Limits with which weights meet the goals, where arbiter_tune has none. They are the"
          " greatest: one level for all rows that may be limited, and then each in row order from"
@@ -493,6 +498,81 @@ NUMBERS = (
                U32, "ARBITER_SHARES_LINEAR or ARBITER_SHARES_LOGARITHMIC")), answer=U64,
          allocates=False, file="shares_call"),
 )
+OWNED = (
+    Call("owned_weight", "the weight of a number that an owner set",
+         "The weight of a number that an owner set: a request, shares or a weight. A greater number"
+         " has no lesser weight.",
+         (FORMULA, CallWord("number", U64, "the number"),
+          result("weight", U64, "1 to 10000", "0", "logarithms do not tell it, which is of no"
+                                                   " number of shares")),
+         (NO_FORMULA,), allocates=False, is_plain=True),
+    Call("owned_limit", "the quota and the period of a number that an owner set",
+         "The limit of a number that an owner set: of thousandths or billionths of a CPU,"
+         " microseconds of a period, or of each second. A quota or a period that the kernel does"
+         " not take is the nearest one that it takes. The period of a rate is so long that the"
+         " quota is 1000 microseconds.",
+         (FORMULA._replace(about="ARBITER_THOUSANDTHS to ARBITER_PER_SECOND"),
+          CallWord("number", U64, "the number; 0 sets no limit, but for ARBITER_PER_SECOND"),
+          CallWord("own_period_us",
+                   U64, "the own period in microseconds that is set beside it, 0 for 100000; not"
+                        " read for ARBITER_NANO_CPUS"),
+          result("quota", U64, "the quota, 1000 to 10^15 microseconds of each own period",
+                 NO_LIMIT, "there is none"),
+          result("period", U64, "the own period, 1000 to 1000000 microseconds")),
+         (NO_FORMULA,), allocates=False),
+    Call("least_owned", "the least number that has a weight",
+         "The least number of those that an owner can set whose weight is at least `weight`. At"
+         " most 18 weights are worked out.",
+         (FORMULA, CallWord("weight", U64, "the weight, 1 to 10000"),
+          result("least", U64, "the number", NO_LIMIT,
+                 "logarithms do not tell a weight, which is of no number of shares")),
+         (NO_FORMULA, Refusal("12", "the weight is out of range")), allocates=False,
+         is_plain=True),
+    Call("owned_number", "the number that is written for a request",
+         "The number that is written for a request in thousandths of a CPU. Of shares it is that of"
+         " kubelet, of a request the request itself. `CPUWeight=` is 100 for each CPU, rounded up.",
+         (FORMULA, CallWord("request", U64, "the request in thousandths of a CPU"),
+          result("number", U64, "the number")),
+         (NO_FORMULA,), allocates=False, is_plain=True),
+    Call("pod_amount", "the most that the containers of a pod take at once",
+         "The most that the containers of a pod take at any time: of requests, of limits, or of"
+         " another resource. They stand in the order in which they start. An init container ends"
+         " before the next one starts, and a sidecar runs on.",
+         (column("kinds", U8, "ARBITER_INIT_CONTAINER, ARBITER_SIDECAR, or any other number for a"
+                              " container"),
+          column("amounts", U64, "the amount of each, in any one unit"),
+          result("amount", U64, "the amount of the pod; it stops at its greatest value")),
+         (LENGTHS,), allocates=False),
+    Call("greatest_part", "the greatest amount of one container for some room",
+         "The greatest amount of one container of a pod with which arbiter_pod_amount is at most"
+         " `room`. Its own amount is not read.",
+         (column("kinds", U8, "those of arbiter_pod_amount"),
+          column("amounts", U64, "the amount of each, in any one unit"),
+          CallWord("part", U32, "the place of the container, from 0"),
+          CallWord("room", U64, "the most that the pod may take"),
+          result("greatest", U64, "the amount of the container", NO_LIMIT,
+                 "the others alone take more")),
+         (Refusal("50", "columns differ in length, or have no such place"),), allocates=False),
+    Call("allowed", "the time that a limit allows",
+         "The nanoseconds that a limit allows in some time: the part of it that the quota is of its"
+         " own period, rounded down, and the burst.",
+         (CallWord("quota_us", U64, "the quota in microseconds of each own period"),
+          CallWord("own_period_us", U64, "the own period in microseconds, above 0"),
+          CallWord("burst_us", U64, "the burst in microseconds"),
+          CallWord("passed_ns", U64, "the time in nanoseconds"),
+          result("allowed", U64, "the nanoseconds; they stop at their greatest value")),
+         (Refusal("15", "the own period is 0"),), allocates=False, is_plain=True),
+    Call("lost", "the slices that limits served too little",
+         "The slices that rounds under limits served too little; 0 where limits did no harm. They"
+         " do harm where the part of the plan that is served is more than a twentieth of the plan"
+         " below that of rounds without limits. A plan of nothing is served.",
+         (CallWord("free_used", U64, "slices used in rounds without limits, up to 2^60"),
+          CallWord("free_planned", U64, "slices planned for these, up to 2^60"),
+          CallWord("held_used", U64, "slices used in rounds under limits, up to 2^60"),
+          CallWord("held_planned", U64, "slices planned for these, up to 2^60"),
+          result("lost", U64, "the slices")),
+         (Refusal("9", "a sum is above 2^60"),), allocates=False, is_plain=True),
+)
 NAMES = (
     Call("version", "the version of the library",
          "Answers how many characters the version of the library has: the text of ARBITER_VERSION"
@@ -510,8 +590,9 @@ NAMES = (
 FAULTS = {
     "1 to 3": "the host is refused (BadProcessors, BadPeriod, BadSlice)",
     "4 to 10": "the rows are refused (TooMany, BadParent, BadWeight, TooDeep, InnerDemand,"
-               " DemandTooLarge, RootLimited)",
-    "11": "the denominator of a demand is 0 (BadNumber)",
+               " DemandTooLarge, RootLimited); 9 also of a sum of slices",
+    "11": "the denominator of a demand is 0, or no formula has the number (BadNumber)",
+    "12": "a weight is out of range (WeightOutOfRange)",
     "13 to 15": "a quota, burst or limit, an own period or a round is out of range (QuotaTooSmall,"
                 " QuotaTooLarge, PeriodOutOfRange)",
     "20": "the group is no row (NotFound)",
@@ -527,6 +608,7 @@ SECTIONS: dict[str, tuple[Call, ...]] = {
     "Limits that hold a plan": ROUNDS,
     "Scripts and periods": PERIODS,
     "Slices from what operators write": NUMBERS,
+    "What owners set": OWNED,
     "Names": NAMES,
 }
 TABLE: tuple[Call, ...] = tuple(call for calls in SECTIONS.values() for call in calls)

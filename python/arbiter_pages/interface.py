@@ -14,6 +14,8 @@ SOURCE = "python/arbiter_pages/calls.py"
 C_TYPES = {U8: "uint8_t", U32: "uint32_t", U64: "uint64_t", CHAR: "char"}
 CODES = {U8: "B", U32: "I", U64: "Q", CHAR: "B"}
 HEADER_COLUMNS, PIPE_COLUMNS = 128, 100
+# Names of the pipe's program: what it reads and asks for memory, and what a call answers.
+PIPE_NAMES, PIPE_ANSWER = ("words", "alloc"), "refused"
 # The page with the tables of the calls, and the lines around these.
 PAGE = Path(__file__).resolve().parents[2] / "docs/EMBEDDING.md"
 BEGIN, END = "<!-- the calls, as `python -m arbiter_pages` prints them -->", "<!-- end -->"
@@ -152,14 +154,23 @@ def pipe_word(word: CallWord) -> str:
     return word.name if word.way == READ else f"&mut {word.name}"
 
 
+def check_names(call: Call) -> None:
+    """A fault where a word would hide what the pipe's program still needs: its input and memory,
+    and behind the call the number that it answers."""
+    for word in call.words:
+        if word.name in PIPE_NAMES or word.name == PIPE_ANSWER and word.way != READ:
+            raise ValueError(f"{call.name}: the pipe's program has a {word.name} of its own")
+
+
 def pipe_call(call: Call) -> str:
     """The call in the pipe's program, laid out as `rt fmt` does."""
+    check_names(call)
     given = ["alloc"] * call.allocates + list(map(pipe_word, call.words))
     name = f"arbiter_{call.name}"
-    line = f"    let number = {name}({', '.join(given)});"
+    line = f"    let {PIPE_ANSWER} = {name}({', '.join(given)});"
     if len(", ".join(given)) <= 60 and len(line) <= PIPE_COLUMNS:
         return line
-    return "\n".join([f"    let number = {name}(", *(f"        {each}," for each in given),
+    return "\n".join([f"    let {PIPE_ANSWER} = {name}(", *(f"        {each}," for each in given),
                       "    );"])
 
 
@@ -167,7 +178,7 @@ def pipe_told(call: Call) -> str:
     """The answer of the pipe's program: the number of the call, and all that it wrote."""
     told = [f".column({word.name}.as_slice())" if word.is_column else f".number({word.name})"
             for word in call.words if word.way != READ]
-    first = "Answer::new(alloc, number)"
+    first = f"Answer::new(alloc, {PIPE_ANSWER})"
     if len(told) < 3 and len("?".join([first, *told])) < 90:
         return "    " + "?".join([first, *told])
     return "\n".join([f"    {first}?", *(f"        {each}?" for each in told[:-1]),

@@ -13,6 +13,29 @@ from arbiter_pages.words import Word, environment
 
 DATE = "November 25, 2026"
 BEFORE_AFTER = "BEFORE [AFTER]"
+# The kinds of sources in words, in the order of --from; and the variables of the environment.
+KINDS = {
+    "script": "A script of arbiter(1). Its first line, `# arbiter run --processors N --period U"
+    " --slice U`, is the host.",
+    "toml": "A host file, with amounts such as 250m, 1.5cpu or 40%.",
+    "json": "The same in JSON.",
+    "cgroup": "A tree of cgroup v2, such as /sys/fs/cgroup, or a copy of its files.",
+    "kubernetes": "What `kubectl get pods -o json` prints, and a node's JSON beside it."
+    " k8s://[CONTEXT] asks the API server by `kubectl get --raw`, with --node for one node alone.",
+    "systemd": "What `systemctl show '*.slice' '*.service' '*.scope'` prints. systemd:// asks this"
+    " machine, twice where use is asked for (--read).",
+    "docker": "What `docker inspect` or `podman inspect` prints. docker:// and podman:// ask what"
+    " runs here.",
+    "slurm": "What `squeue --json` or `sacct --parsable2` print, and beside them `sstat"
+    " --parsable2` and `sinfo --json`. Newer versions have `scontrol show job --json` and `scontrol"
+    " show node --json`. Columns of sacct that are read: JobID, JobIDRaw, JobName, User, State,"
+    " AllocCPUS, Elapsed, TotalCPU, NodeList.",
+}
+ENVIRONMENT = {
+    "ARBITER_LIBRARY": "The C library, as of --library.",
+    "COLUMNS": "Columns of the answers, in place of the terminal's.",
+    "NO_COLOR": "If it is set, answers have no colours.",
+}
 
 
 def quoted(text: str) -> str:
@@ -85,7 +108,8 @@ def pages() -> dict[str, str]:
     made = environment()
     made.filters |= {"escaped": escaped, "capital": capital, "prose": prose, "head": head,
                      "argument": argument}
-    words = {"date": DATE, "helps": helps, "subcommands": every(), "others": sorted(
+    words = {"date": DATE, "helps": helps, "kinds": KINDS, "environment": ENVIRONMENT,
+             "subcommands": every(), "others": sorted(
         ["arbiter", "arbiterctl", *(f"arbiterctl-{each.name}" for each in every())])}
     subcommand = made.get_template("subcommand.1")
     return {"arbiterctl.1": made.get_template("arbiterctl.1").render(**words), **{

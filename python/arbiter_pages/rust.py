@@ -119,11 +119,11 @@ def value_type(word: CallWord) -> str:
 def plain(call: Call) -> str:
     """The public function of a plain call, which writes one number or one column."""
     (answer,) = (word for word in call.words if word.way != READ)
-    is_tree = ROWS in call.parts
+    is_tree, is_of_host = ROWS in call.parts, HOST in call.parts
     words = [word for word in call.own if word.way == READ]
-    parameters = ["host: Host", *["rows: &[Row]"] * is_tree,
+    parameters = [*["host: Host"] * is_of_host, *["rows: &[Row]"] * is_tree,
                   *(f"{word.name}: {value_type(word)}" for word in words)]
-    asked = ["host", *["&columns"] * is_tree,
+    asked = [*["host"] * is_of_host, *["&columns"] * is_tree,
              *(f"number_of({word.name})" if word.none else word.name for word in words),
              f"&mut {answer.name}"]
     lines = [filled(f"pub fn {call.name}(", parameters,

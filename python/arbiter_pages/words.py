@@ -53,8 +53,7 @@ def sections(each: Subcommand) -> dict[str, list[Word]]:
             titles.setdefault(ARGUMENTS, []).append(argument_of(action))
     for option in table.of(each.name):
         titles.setdefault(option.title.capitalize(), []).append(Word(
-            option.flags, option.metavar, option.words_of(each.name), option.help_of(each.name),
-            option.is_many))
+            option.flags, option.metavar, option.choices, option.help, option.is_many))
     return titles
 
 

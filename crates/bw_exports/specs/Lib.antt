@@ -2,6 +2,7 @@
 pub mod Checked
 pub mod Limited
 pub mod Names
+pub mod Owned
 pub mod PlannedHosts
 pub mod RefusedRow
 pub mod Script

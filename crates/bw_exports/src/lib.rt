@@ -1,6 +1,7 @@
 //! The planner as a library for C and for languages that call C. Each call has a file of its name.
 #![tactic(auto)]
 
+mod allowed_call;
 mod asking;
 mod book_call;
 mod certify_call;
@@ -10,19 +11,26 @@ mod demand_call;
 mod fault;
 mod figures_call;
 mod fit;
+mod greatest_part_call;
 mod guarantee_call;
 mod hold_call;
 mod leaf_reading_call;
 mod least_limit_call;
+mod least_owned_call;
 mod least_processors_call;
 mod least_weight_call;
 mod limit_others_call;
 mod limiting_call;
+mod lost_call;
 mod name_call;
+mod owned_limit_call;
+mod owned_number_call;
+mod owned_weight_call;
 mod period_limit_call;
 mod periods_call;
 mod plan_call;
 mod planned_host_call;
+mod pod_amount_call;
 mod reading_call;
 mod reasons_call;
 mod refused_row_call;

@@ -1,9 +1,9 @@
 //! `arbiter_weight_of_shares`: the weight of `cpu.shares`, called from C.
 ghost use Rattle.std.specs.Prelude.{◌≡◌, ◌≢◌, ◌<◌, ◌≤◌};
 ghost use Rattle.bw_model.specs.declared.limits.TheConstants.{MAX_WEIGHT};
-ghost use Rattle.bw_columns.specs.Shares.{linear_weight, IsUntold, IsLogarithmicWeight};
+ghost use Rattle.bw_owned.specs.Shares.{linear_weight, IsUntold, IsLogarithmicWeight};
 
-use bw_columns::{linear_weight, logarithmic_weight};
+use bw_owned::{linear_weight, logarithmic_weight};
 
 /// The conversion of runc before 1.3.2 and crun before 1.23.
 pub(crate) const SHARES_LINEAR: u32 = 1;

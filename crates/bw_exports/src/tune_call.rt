@@ -1,4 +1,4 @@
-//! `arbiter_tune`: the least weights from the root down, called from C.
+//! `arbiter_tune`: the weights with which all goals are met, called from C.
 ghost use Rattle.std.specs.Prelude.{◌≡◌, ◌<◌, ◌∷◌, [], length};
 ghost use Rattle.bw_columns.specs.Asked.{Answers, are_of_length, asked_host, asked_table};
 ghost use Rattle.bw_columns.specs.Asked.{groups_in, asked_number_where};
@@ -24,11 +24,14 @@ fn are_fit(count: usize, goals: &[u64], may: &[u8], tuned: &[u64]) -> bool
 /// 0 for a row whose weight may change.
 ///
 /// If the answer is 0, and there are such weights, `tuned` has the weight of each row, and `unmet`
-/// is the greatest number. No weight is less than that of `weights`, unless no such weights meet
-/// all goals. They are the least from the root down: of all weights that agree with them above a
-/// row and beside it there, theirs of that row is the least. If there are no such weights, `unmet`
-/// is a row, and no weights meet the goals of it and below it together, whatever it is given.
-/// `tuned` has `weights` then. A refusal leaves both unchanged.
+/// is the greatest number. Weights of rows with a goal at or below them are no less than those of
+/// `weights`, unless no such weights meet all goals. They are the least from the root down: of all
+/// weights that agree with them above a row and beside it there, theirs of that row is the least.
+/// Other weights stay where these do. Else they are lowered to one level, the greatest that will
+/// do. If there are no such weights, `unmet` is a row, and no weights meet the goals of it and
+/// below it together, whatever it is given. The goal of each row below it is within that row's
+/// limit and, of a leaf, within its demand. `tuned` has `weights` then. A refusal leaves both
+/// unchanged.
 ///
 /// # Errors
 /// The numbers of `arbiter_plan`, with 50 also if a column does not have the rows' length.

@@ -8,6 +8,7 @@ mod counters;
 mod ids;
 mod needed;
 mod parts;
+mod paths;
 mod readings;
 mod transcripts;
 mod weights;
@@ -22,6 +23,7 @@ pub use needed::{
     sums_are_needed,
 };
 pub use parts::{amounts_keep_shares, parts_are_within, parts_fill_the_limit};
+pub use paths::{line_numbers, path_numbers};
 pub use readings::{
     asked_covers_use, everything_has_a_reason, hunger_is_lack, leaf_asks_for_its_waiting,
     slices_cover_time, tasks_bound_use,

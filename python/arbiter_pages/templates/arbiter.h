@@ -63,6 +63,22 @@ extern "C" {
 #define ARBITER_SHARES_LINEAR 1
 /* Later ones: 10 to the power of (l^2 + 125 l) / 612 - 7 / 34, rounded up, where l is the logarithm of the shares to the base 2. */
 #define ARBITER_SHARES_LOGARITHMIC 2
+/* More formulas of arbiter_owned_weight and arbiter_least_owned. Requests in thousandths of a CPU have the shares of kubelet:
+ * request * 1024 / 1000, rounded down, 2 to 262144. */
+#define ARBITER_REQUEST_LINEAR 3
+#define ARBITER_REQUEST_LOGARITHMIC 4
+/* CPUShares= and CPUWeight= of systemd: shares * 100 / 1024, rounded down, 1 to 10000; and the weight itself. */
+#define ARBITER_UNIT_SHARES 5
+#define ARBITER_UNIT_WEIGHT 6
+/* Formulas of arbiter_owned_limit: thousandths of a CPU (kubelet), NanoCpus and CpuQuota (docker), and microseconds of each
+ * second (systemd's CPUQuotaPerSecUSec). */
+#define ARBITER_THOUSANDTHS 1
+#define ARBITER_NANO_CPUS 2
+#define ARBITER_QUOTA 3
+#define ARBITER_PER_SECOND 4
+/* Kinds of arbiter_pod_amount. */
+#define ARBITER_INIT_CONTAINER 1
+#define ARBITER_SIDECAR 2
 {% for title, calls in sections.items() %}
 
 /* {{ title }}. */

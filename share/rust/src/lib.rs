@@ -633,6 +633,41 @@ pub fn weight_of_shares(shares: u64, conversion: Conversion) -> u64 {
     raw::weight_of_shares(shares, conversion as u32)
 }
 
+/// The quota, None for no limit, and the period in microseconds of a number that an owner set.
+///
+/// `formula` is 1 to 4: thousandths of a CPU, `NanoCpus`, `CpuQuota`, and microseconds of each
+/// second. `own_period_us` is the period that was set beside it, 0 for 100000.
+///
+/// # Errors
+/// - 11: no formula has the number.
+pub fn owned_limit(formula: u32, number: u64, own_period_us: u64) -> Result<(Option<u64>, u64), Fault> {
+    let (mut quota, mut period) = (0, 0);
+    answered(raw::owned_limit(formula, number, own_period_us, &mut quota, &mut period), None)?;
+    Ok((Some(quota).filter(|number| *number != raw::NO_LIMIT), period))
+}
+
+/// The most that the containers of a pod take at any time, by their kinds and amounts in the order
+/// in which they start: 1 is an init container, 2 a sidecar.
+///
+/// # Errors
+/// - 50: the columns differ in length.
+pub fn pod_amount(kinds: &[u8], amounts: &[u64]) -> Result<u64, Fault> {
+    let mut amount = 0;
+    answered(raw::pod_amount(kinds, amounts, &mut amount), None)?;
+    Ok(amount)
+}
+
+/// The greatest amount of the container at a place with which a pod takes no more than some room; None where the others alone
+/// take more. Kinds and amounts are those of [`pod_amount`]. Its own amount is not read.
+///
+/// # Errors
+/// - 50: the columns differ in length, or have no such place.
+pub fn greatest_part(kinds: &[u8], amounts: &[u64], part: u32, room: u64) -> Result<Option<u64>, Fault> {
+    let mut greatest = 0;
+    answered(raw::greatest_part(kinds, amounts, part, room, &mut greatest), None)?;
+    Ok(Some(greatest).filter(|number| *number != raw::NO_LIMIT))
+}
+
 /// The version of the library.
 pub fn version() -> String {
     let mut room = [0; raw::NAME_ROOM];
@@ -1100,6 +1135,17 @@ mod tests {
         assert_eq!(planned_host(Host { processors: 1009, ..prime }), Err(fault(1, None)));
         assert_eq!(weight_of_shares(1024, Conversion::Linear), 39);
         assert_eq!(weight_of_shares(1024, Conversion::Logarithmic), 100);
+        assert_eq!(owned_weight(3, 1000), Ok(Some(39)));
+        assert_eq!(least_owned(4, 100), Ok(Some(989)));
+        assert_eq!(owned_limit(1, 1500, 0), Ok((Some(150000), 100000)));
+        assert_eq!(owned_limit(1, 0, 0), Ok((None, 100000)));
+        assert_eq!(owned_limit(5, 1, 0), Err(fault(11, None)));
+        assert_eq!(pod_amount(&[1, 2, 0], &[500, 100, 200]), Ok(500));
+        assert_eq!(greatest_part(&[1, 2, 0], &[500, 100, 200], 2, 500), Ok(Some(400)));
+        assert_eq!(greatest_part(&[1, 2, 0], &[500, 100, 200], 2, 499), Ok(None));
+        assert_eq!(owned_number(6, 1001), Ok(101));
+        assert_eq!(allowed(50000, 100000, 7, 3001), Ok(8500));
+        assert_eq!(lost(90, 100, 84, 100), Ok(1));
         assert_eq!(version(), env!("CARGO_PKG_VERSION"));
     }
 }

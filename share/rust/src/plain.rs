@@ -161,3 +161,96 @@ pub fn demand(host: Host, numerator: u64, denominator: u64) -> Result<u64, Fault
     answered(raw::demand(host, numerator, denominator, &mut slices), None)?;
     Ok(slices)
 }
+
+/// The weight of a number that an owner set: a request, shares or a weight. A greater number has no lesser weight.
+///
+/// `formula`: ARBITER_SHARES_LINEAR to ARBITER_UNIT_WEIGHT.
+///
+/// `number`: the number.
+///
+/// Gives 1 to 10000; none where logarithms do not tell it, which is of no number of shares.
+///
+/// # Errors
+/// - 11: no formula has the number.
+pub fn owned_weight(formula: u32, number: u64) -> Result<Option<u64>, Fault> {
+    let mut weight = 0;
+    answered(raw::owned_weight(formula, number, &mut weight), None)?;
+    Ok(Some(weight).filter(|number| *number != 0))
+}
+
+/// The least number of those that an owner can set whose weight is at least `weight`. At most 18 weights are worked out.
+///
+/// `formula`: ARBITER_SHARES_LINEAR to ARBITER_UNIT_WEIGHT.
+///
+/// `weight`: the weight, 1 to 10000.
+///
+/// Gives the number; none where logarithms do not tell a weight, which is of no number of shares.
+///
+/// # Errors
+/// - 11: no formula has the number.
+/// - 12: the weight is out of range.
+pub fn least_owned(formula: u32, weight: u64) -> Result<Option<u64>, Fault> {
+    let mut least = 0;
+    answered(raw::least_owned(formula, weight, &mut least), None)?;
+    Ok(Some(least).filter(|number| *number != raw::NO_LIMIT))
+}
+
+/// The number that is written for a request in thousandths of a CPU. Of shares it is that of kubelet, of a request the
+/// request itself. `CPUWeight=` is 100 for each CPU, rounded up.
+///
+/// `formula`: ARBITER_SHARES_LINEAR to ARBITER_UNIT_WEIGHT.
+///
+/// `request`: the request in thousandths of a CPU.
+///
+/// Gives the number.
+///
+/// # Errors
+/// - 11: no formula has the number.
+pub fn owned_number(formula: u32, request: u64) -> Result<u64, Fault> {
+    let mut number = 0;
+    answered(raw::owned_number(formula, request, &mut number), None)?;
+    Ok(number)
+}
+
+/// The nanoseconds that a limit allows in some time: the part of it that the quota is of its own period, rounded down, and
+/// the burst.
+///
+/// `quota_us`: the quota in microseconds of each own period.
+///
+/// `own_period_us`: the own period in microseconds, above 0.
+///
+/// `burst_us`: the burst in microseconds.
+///
+/// `passed_ns`: the time in nanoseconds.
+///
+/// Gives the nanoseconds; they stop at their greatest value.
+///
+/// # Errors
+/// - 15: the own period is 0.
+pub fn allowed(quota_us: u64, own_period_us: u64, burst_us: u64, passed_ns: u64) -> Result<u64, Fault> {
+    let mut allowed = 0;
+    answered(raw::allowed(quota_us, own_period_us, burst_us, passed_ns, &mut allowed), None)?;
+    Ok(allowed)
+}
+
+/// The slices that rounds under limits served too little; 0 where limits did no harm. They do harm where the part of the
+/// plan that is served is more than a twentieth of the plan below that of rounds without limits. A plan of nothing is
+/// served.
+///
+/// `free_used`: slices used in rounds without limits, up to 2^60.
+///
+/// `free_planned`: slices planned for these, up to 2^60.
+///
+/// `held_used`: slices used in rounds under limits, up to 2^60.
+///
+/// `held_planned`: slices planned for these, up to 2^60.
+///
+/// Gives the slices.
+///
+/// # Errors
+/// - 9: a sum is above 2^60.
+pub fn lost(free_used: u64, free_planned: u64, held_used: u64, held_planned: u64) -> Result<u64, Fault> {
+    let mut lost = 0;
+    answered(raw::lost(free_used, free_planned, held_used, held_planned, &mut lost), None)?;
+    Ok(lost)
+}

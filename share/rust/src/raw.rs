@@ -113,6 +113,16 @@ extern "C" {
     fn arbiter_planned_host(processors: u64, period_us: u64, slice_us: u64, planned_processors: *mut u64,
                             planned_period_us: *mut u64, planned_slice_us: *mut u64) -> u32;
     fn arbiter_weight_of_shares(shares: u64, conversion: u32) -> u64;
+    fn arbiter_owned_weight(formula: u32, number: u64, weight: *mut u64) -> u32;
+    fn arbiter_owned_limit(formula: u32, number: u64, own_period_us: u64, quota: *mut u64, period: *mut u64) -> u32;
+    fn arbiter_least_owned(formula: u32, weight: u64, least: *mut u64) -> u32;
+    fn arbiter_owned_number(formula: u32, request: u64, number: *mut u64) -> u32;
+    fn arbiter_pod_amount(kinds: *const u8, kinds_length: usize, amounts: *const u64, amounts_length: usize,
+                          amount: *mut u64) -> u32;
+    fn arbiter_greatest_part(kinds: *const u8, kinds_length: usize, amounts: *const u64, amounts_length: usize, part: u32,
+                             room: u64, greatest: *mut u64) -> u32;
+    fn arbiter_allowed(quota_us: u64, own_period_us: u64, burst_us: u64, passed_ns: u64, allowed: *mut u64) -> u32;
+    fn arbiter_lost(free_used: u64, free_planned: u64, held_used: u64, held_planned: u64, lost: *mut u64) -> u32;
     fn arbiter_version(version: *mut u8, version_length: usize) -> u32;
     fn arbiter_name(number: u32, name: *mut u8, name_length: usize) -> u32;
 }
@@ -498,6 +508,62 @@ pub(crate) fn weight_of_shares(shares: u64, conversion: u32) -> u64 {
     // SAFETY: as the head of this file says
     unsafe {
         arbiter_weight_of_shares(shares, conversion)
+    }
+}
+
+pub(crate) fn owned_weight(formula: u32, number: u64, weight: &mut u64) -> u32 {
+    // SAFETY: as the head of this file says
+    unsafe {
+        arbiter_owned_weight(formula, number, weight)
+    }
+}
+
+pub(crate) fn owned_limit(formula: u32, number: u64, own_period_us: u64, quota: &mut u64, period: &mut u64) -> u32 {
+    // SAFETY: as the head of this file says
+    unsafe {
+        arbiter_owned_limit(formula, number, own_period_us, quota, period)
+    }
+}
+
+pub(crate) fn least_owned(formula: u32, weight: u64, least: &mut u64) -> u32 {
+    // SAFETY: as the head of this file says
+    unsafe {
+        arbiter_least_owned(formula, weight, least)
+    }
+}
+
+pub(crate) fn owned_number(formula: u32, request: u64, number: &mut u64) -> u32 {
+    // SAFETY: as the head of this file says
+    unsafe {
+        arbiter_owned_number(formula, request, number)
+    }
+}
+
+pub(crate) fn pod_amount(kinds: &[u8], amounts: &[u64], amount: &mut u64) -> u32 {
+    // SAFETY: as the head of this file says
+    unsafe {
+        arbiter_pod_amount(kinds.as_ptr(), kinds.len(), amounts.as_ptr(), amounts.len(), amount)
+    }
+}
+
+pub(crate) fn greatest_part(kinds: &[u8], amounts: &[u64], part: u32, room: u64, greatest: &mut u64) -> u32 {
+    // SAFETY: as the head of this file says
+    unsafe {
+        arbiter_greatest_part(kinds.as_ptr(), kinds.len(), amounts.as_ptr(), amounts.len(), part, room, greatest)
+    }
+}
+
+pub(crate) fn allowed(quota_us: u64, own_period_us: u64, burst_us: u64, passed_ns: u64, allowed: &mut u64) -> u32 {
+    // SAFETY: as the head of this file says
+    unsafe {
+        arbiter_allowed(quota_us, own_period_us, burst_us, passed_ns, allowed)
+    }
+}
+
+pub(crate) fn lost(free_used: u64, free_planned: u64, held_used: u64, held_planned: u64, lost: &mut u64) -> u32 {
+    // SAFETY: as the head of this file says
+    unsafe {
+        arbiter_lost(free_used, free_planned, held_used, held_planned, lost)
     }
 }
 

@@ -1,0 +1,15 @@
+//! The number of groups on a path, which definitions of trees go by, and the width of a marked
+//! line.
+ghost use Rattle.std.specs.Prelude.{◌≡◌};
+ghost use Rattle.bw_commands.specs.declared.marked.TheConstants.{WIDE};
+ghost use Rattle.bw_model.specs.declared.limits.TheConstants.{MAX_PATH};
+
+/// Law: a path has up to 65 groups, both ends included.
+pub fn path_numbers()
+    ensures { MAX_PATH ≡ 65 }
+{}
+
+/// Law: a line of up to 32 bytes comes with the places of its blanks.
+pub fn line_numbers()
+    ensures { WIDE ≡ 32 }
+{}
