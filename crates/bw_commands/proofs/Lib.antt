@@ -3,6 +3,8 @@ mod Faults
 mod Refusals
 mod Words
 mod Marks
+mod PlainLines
+mod FourBytes
 mod Totals
 mod Within
 mod PathLists

@@ -6,10 +6,11 @@ use Rattle.std.proofs.Common.{sym, ap, ◌∙◌, arith, inl, inr, subst}
 use Rattle.std.proofs.Math.ListN.{get_or-eq_default}
 use Rattle.std.proofs.Math.Nat.{pow-succ'}
 use Rattle.std.proofs.lemmas.Nat.{shr-shr, div-mul-add, pow_below, or_shifted, shl_whole}
+use Rattle.std.proofs.lemmas.Nat.{mod-mul-add}
 use Rattle.std.proofs.lemmas.Nat.Bits.{bit_at-trailing_ones}
 use Rattle.std.proofs.lemmas.Bool.{cases_lt, false≢true}
 use Rattle.std.proofs.lemmas.List.{length-map, get_or-map, take-append-drop, take_all, drop-drop}
-use Rattle.std.proofs.lemmas.List.{drop-map, take-map, length-take, length-drop}
+use Rattle.std.proofs.lemmas.List.{drop-map, take-map, length-take, length-drop, take-take}
 use Rattle.std.proofs.lemmas.List.Sums.{position_or_len_is}
 use Rattle.std.proofs.lemmas.Simd.{bit_mask_l, mask_l-lt, leading_from_mask_l, trailing_mask_l}
 use lib.Count.{count_trailing_zeros}
@@ -138,3 +139,20 @@ blanks_of-end text w n room few =
     ∙ ap blanks_of (drop-drop (w - n) (length text - w) text
     ∙ ap (λ j. drop j text)
     (let at : length text - w + (w - n) ≡ length text - n = omega arith in at))
+
+-- the places of the blanks of the first n bytes, from those of the first w
+pub blanks_of-front : (text : List ℕ) (w n : ℕ) → w ≤ length text → n ≤ w
+    → blanks_of (chunk 0 w text) % 2 ^ n ≡ blanks_of (take n text)
+blanks_of-front text w n room few =
+    let bs = map is_blank (take w text) in
+    let long : length bs ≡ w = length-map (take w text) is_blank
+    ∙ (let all : length (take w text) ≡ w = omega (arith, length-take w text) in all) in
+    let size : length (take n bs) ≡ n = omega (arith, length-take n bs, long) in
+    let low : mask_l (take n bs) < 2 ^ n =
+    subst (λ k. mask_l (take n bs) < 2 ^ k) size (mask_l-lt (take n bs)) in
+    let parts : mask_l bs ≡ mask_l (drop n bs) * 2 ^ n + mask_l (take n bs) =
+    ap mask_l (sym (take-append-drop n bs)) ∙ mask_l-append (take n bs) (drop n bs)
+    ∙ ap (λ k. mask_l (drop n bs) * 2 ^ k + mask_l (take n bs)) size in
+    ap (λ m. m % 2 ^ n) parts ∙ mod-mul-add (mask_l (drop n bs)) (2 ^ n) (mask_l (take n bs)) low
+    ∙ ap mask_l (take-map is_blank n (take w text)
+    ∙ ap (map is_blank) (take-take n w text few))

@@ -25,7 +25,7 @@ position_or_len_is_word p xs =
           (omega (arith, prefix_len-le-length (λ x. not (p x)) xs))
     ]
 
-blank-lt : (b : ℕ) → is_blank b ≡ true → b < 128
+pub blank-lt : (b : ℕ) → is_blank b ≡ true → b < 128
 blank-lt b e = elim (eqb_tells b 32) [
   | inl h ↦ omega (arith, h.1)
   | inr h ↦ elim (eqb_tells b 9) [

@@ -5,6 +5,7 @@ pub mod Lines
 pub mod Word
 pub mod Command
 pub mod Parsed
+pub mod Plain
 pub mod Answers
 pub mod GroupLines
 pub mod PathList

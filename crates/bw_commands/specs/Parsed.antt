@@ -1,5 +1,5 @@
 -- The command that a value of the program's enums stands for.
-use Rattle.std.specs.Prelude.{Result, Ok, Err}
+use Rattle.std.specs.Prelude.{ℕ, List, Result, Ok, Err}
 use Rattle.bw_commands.specs.Command as spec
 use Rattle.bw_commands.specs.declared.command.Change.{Change}
 use Rattle.bw_commands.specs.declared.command.Change.TheVariants.{Mkdir, Rmdir, Demand, Write}
@@ -9,6 +9,7 @@ use Rattle.bw_commands.specs.declared.command.Question.TheVariants.{Report}
 use Rattle.bw_commands.specs.declared.command.Command.{Command}
 use Rattle.bw_commands.specs.declared.command.Command.TheVariants as line
 use Rattle.bw_commands.specs.declared.fault.ScriptFault.{ScriptFault}
+use Rattle.bw_commands.specs.declared.marked.Marked.{Marked}
 
 -- the command of a change
 abbrev pub change_of : Change → spec.Command
@@ -36,3 +37,7 @@ meaning_of (line.Question question) = question_of question
 abbrev pub request_of : Result Command ScriptFault → Result spec.Command ScriptFault
 request_of (Ok command) = Ok (meaning_of command)
 request_of (Err fault) = Err fault
+
+-- the text of a line whose blanks are marked
+abbrev pub marked_text : Marked → List ℕ
+marked_text line = line.text.now

@@ -7,6 +7,7 @@ ghost use Rattle.bw_commands.specs.Word.{first_word, after_word, end_of};
 
 use crate::fault::ScriptFault;
 use crate::marked::{LEAST_MARKED, MOST_MARKED, Marked, WIDE};
+use crate::plain::plain_command;
 use crate::word::split_word;
 use bw_text::is_word;
 
@@ -113,15 +114,42 @@ impl<'a> Command<'a> {
         ensures { request_of result ≡ command_of_line line.now }
     {
         if LEAST_MARKED <= line.len() && line.len() <= MOST_MARKED {
-            return Command::of_marked(Marked::new(line));
+            return Command::parse_marked(Marked::new(line));
         }
         Command::of_any(line)
     }
 
+    /// Reads the command of a line whose blanks are marked, as `of_text` does.
+    ///
+    /// # Errors
+    ///
+    /// `BadCommand`, as of `of_bytes`.
+    #[inline(always)]
+    pub fn of_marked(line: Marked<'a>) -> Result<Command<'a>, ScriptFault>
+        ensures { request_of result ≡ request_of_kept (kept_of line.entry.text.now) }
+    {
+        let _text = line.text();
+        Command::parse_marked(line)
+    }
+
     // The command that the words of a line name whose blanks are marked.
+    #[inline(always)]
+    fn parse_marked(line: Marked<'a>) -> Result<Command<'a>, ScriptFault>
+        ensures { request_of result ≡ command_of_line line.entry.text.now }
+    {
+        if line.text().len() < LEAST_MARKED {
+            return Command::of_marked_words(line);
+        }
+        match plain_command(line) {
+            Some(command) => Ok(command),
+            None => Command::of_marked_words(line),
+        }
+    }
+
+    // The command of a line whose blanks are marked, word by word.
     #[tactic(auto, unfolding(crate::specs::Command::command_of_line))]
     #[inline(always)]
-    fn of_marked(line: Marked<'a>) -> Result<Command<'a>, ScriptFault>
+    fn of_marked_words(line: Marked<'a>) -> Result<Command<'a>, ScriptFault>
         ensures { request_of result ≡ command_of_line line.entry.text.now }
     {
         let (verb, rest) = line.split_word();

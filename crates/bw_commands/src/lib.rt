@@ -6,8 +6,10 @@ mod answers;
 mod change;
 mod command;
 mod fault;
+mod heads;
 mod lines;
 mod marked;
+mod plain;
 mod reader;
 mod reading;
 mod refusal;
@@ -17,6 +19,7 @@ mod word;
 
 pub use command::{Change, Command, LINE_BYTES, Question};
 pub use fault::ScriptFault;
+pub use marked::{Marked, WIDE};
 pub use reader::ScriptReader;
 pub use reading::{ReadScript, RefusedLine, read_script};
 pub use refusal::{REFUSAL_BYTES, put_error};

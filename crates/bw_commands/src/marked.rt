@@ -8,6 +8,7 @@ ghost use Rattle.std.specs.Simd.Lanes.{chunk};
 ghost use Rattle.bw_commands.specs.Word.{blanks_of, blank_len_of, word_len_of};
 ghost use Rattle.bw_commands.specs.Word.{first_word, after_word, end_of};
 
+use crate::heads::begins_with;
 use bw_text::places_among;
 
 // Bytes of a narrow load, and of a middle one.
@@ -42,6 +43,9 @@ impl<'a> Marked<'a> {
     ghost use Rattle.std.specs.Prelude.{◌≡◌, ◌≤◌, length, take, drop};
     ghost use Rattle.std.specs.Str.{IsCharBoundary};
     ghost use Rattle.bw_commands.specs.Word.{word_len_of, first_word, after_word, end_of};
+    ghost use Rattle.std.specs.Prelude.{◌<◌, List, ℕ, true, MatchOption, IfSome, IsSome};
+    ghost use Rattle.std.specs.Prelude.{◌++◌, ◌-◌, slice_index};
+    ghost use Rattle.bw_commands.specs.Plain.{IsWord, BeginsWith};
 
     /// Marks the blanks of a text.
     pub fn new(text: &'a str) -> Marked<'a>
@@ -68,6 +72,22 @@ impl<'a> Marked<'a> {
         Marked {
             text: end,
             blanks: last >> (WIDE - end.len()),
+        }
+    }
+
+    /// Marks the blanks of the first bytes of a text, by one load.
+    #[inline(always)]
+    pub fn at_front(text: &'a str, len: usize) -> Marked<'a>
+        requires some { WIDE ≤ length text.now }
+        requires few { len ≤ WIDE }
+        requires boundary { IsCharBoundary text.now len }
+        ensures { result.text.now ≡ take len text.now }
+    {
+        let near = blanks_at::<WIDE>(text.as_bytes(), 0);
+        let (front, _) = text.split_at(len);
+        Marked {
+            text: front,
+            blanks: near & ((1 << len) - 1),
         }
     }
 
@@ -101,6 +121,69 @@ impl<'a> Marked<'a> {
         let (front, text) = self.text.split_at(place);
         let blanks = self.blanks >> place;
         (front, Marked { text, blanks })
+    }
+
+    /// The first word and what stands behind the blank after it, if the text begins with these.
+    #[inline(always)]
+    pub fn front_word(self) -> Option<(&'a str, Marked<'a>)>
+        ensures found { IfSome result
+            (λ p. BeginsWith self.entry.text.now p.0.now p.1.text.now) }
+        ensures only { (word rest : List ℕ) → BeginsWith self.entry.text.now word rest
+            → IsSome result }
+    {
+        if self.blanks == 0 {
+            return None;
+        }
+        let len = self.word_len();
+        if len == 0 {
+            return None;
+        }
+        let (word, _) = self.text().split_at(len);
+        let (_, rest) = self.split_at(len + 1);
+        Some((word, rest))
+    }
+
+    /// The first word and what stands behind it, if the text begins with a word.
+    #[inline(always)]
+    pub fn word_and_text(self) -> Option<(&'a str, &'a str)>
+        ensures { MatchOption result (word_len_of self.entry.text.now ≡ 0)
+            (λ p. (0 < word_len_of self.entry.text.now)
+            × (p.0.now ≡ take (word_len_of self.entry.text.now) self.entry.text.now)
+            × (p.1.now ≡ drop (word_len_of self.entry.text.now) self.entry.text.now)) }
+    {
+        let len = self.word_len();
+        if len == 0 {
+            return None;
+        }
+        let (word, rest) = self.split_at(len);
+        Some((word, rest.text))
+    }
+
+    /// Whether the text is a word.
+    #[inline(always)]
+    pub fn is_word(self) -> bool
+        ensures word { result ≡ true → IsWord self.entry.text.now }
+        ensures only { IsWord self.entry.text.now → result ≡ true }
+    {
+        self.blanks == 0 && !self.text.is_empty()
+    }
+
+    /// Returns the text behind these bytes, if it begins with them. The last of them is a space.
+    #[inline(always)]
+    pub fn behind(self, front: &'static str) -> Option<Marked<'a>>
+        requires least { 4 ≤ length front.now }
+        requires most { length front.now ≤ LEAST_MARKED }
+        requires room { LEAST_MARKED ≤ length self.text.now }
+        requires space { slice_index front.now (length front.now - 1) ≡ 32 }
+        ensures { MatchOption result
+            ((rest : List ℕ) → self.entry.text.now ≡ front.now ++ rest → ⊥)
+            (λ m. self.entry.text.now ≡ front.now ++ m.text.now) }
+    {
+        if !begins_with(self.text.as_bytes(), front.as_bytes()) {
+            return None;
+        }
+        let (_, rest) = self.split_at(front.len());
+        Some(rest)
     }
 
     /// The first word, and what stands after it.

@@ -20,13 +20,18 @@ use std::thread::Threads;
 
 // A pod has a quota of ten slices and a burst of five. It leaves seven of one period, and may draw
 // fifteen in the next.
-static ONE_HOST: [(&str, &str); 25] = [
+static ONE_HOST: [(&str, &str); 34] = [
     ("mkdir pod", "ok"),
     ("mkdir pod/x", "ok"),
     ("mkdir job", "ok"),
     ("demand pod/x 20", "ok"),
     ("demand job 20", "ok"),
     ("plan", "20 .\n10 pod\n10 pod/x\n10 job"),
+    ("write job cpu.weight 300", "ok"),
+    ("plan", "20 .\n5 pod\n5 pod/x\n15 job"),
+    ("write job cpu.weight 0", "error 12 WeightOutOfRange"),
+    ("plan", "20 .\n5 pod\n5 pod/x\n15 job"),
+    ("write job cpu.weight 100", "ok"),
     ("demand job 4", "ok"),
     ("plan", "20 .\n16 pod\n16 pod/x\n4 job"),
     ("total", "total 20\nlimit 20 .\ndemand 0"),
@@ -46,6 +51,10 @@ static ONE_HOST: [(&str, &str); 25] = [
     ("total", "total 19\nlimit 15 pod\ndemand 4"),
     ("write pod cpu.max.burst 0", "ok"),
     ("total", "total 14\nlimit 10 pod\ndemand 4"),
+    ("write pod cpu.max 50000 200000", "ok"),
+    ("total", "total 9\nlimit 5 pod\ndemand 4"),
+    ("write pod cpu.max max", "ok"),
+    ("total", "total 20\nlimit 20 .\ndemand 0"),
 ];
 
 fn assert_answers<R: AllocGlobal + Threads + Wait + Clock + RandomSource + Abort + Sync>(
@@ -125,6 +134,8 @@ fn assert_changes(rt: &impl Abort, hierarchy: &mut Hierarchy) -> Result<(), Faul
     hierarchy.set_demand("a/b", 7)?;
     assert_in_step(rt, hierarchy)?;
     hierarchy.write_file("a", "cpu.max", b"50000")?;
+    assert_in_step(rt, hierarchy)?;
+    hierarchy.write_file("a/b", "cpu.weight", b"300")?;
     assert_in_step(rt, hierarchy)?;
     assert!(rt; hierarchy.set_demand("a", 7).is_err());
     hierarchy.set_demand("a/b", 0)?;

@@ -30,6 +30,7 @@ fn command_of(line: Piece<'_>) -> Result<Command<'_>, ScriptFault>
     match line {
         Piece::Text(text) => Command::of_text(text),
         Piece::Bytes(bytes) => Command::of_bytes(bytes),
+        Piece::Line(line) => Command::of_marked(line),
     }
 }
 

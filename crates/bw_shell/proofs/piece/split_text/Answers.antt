@@ -1,12 +1,12 @@
--- The goals of `Piece::split_line` that are answered by hand.
+-- The goal of `split_text` that is answered by hand.
 use Rattle.std.proofs.Common.{rules, ◌<◌, ◌∙◌, ap, length, slice_index, subst, sym}
 use Rattle.std.proofs.lemmas.Str.{IsCharBoundary-after_ascii}
 use Rattle.bw_shell.proofs.LineLemmas.{first_of_drop}
-use Rattle.bw_shell.proofs.piece.Piece.split_line.Goals as goal
+use Rattle.bw_shell.proofs.piece.split_text.Goals as goal
 
 pub range_from-requires : goal.range_from-requires
 range_from-requires c =
-    let text = c.in-Text.text.now in
+    let text = c.args.text.now in
     let behind = c.range_from-behind.result.now in
     let some : 0 < length behind = search rules in
     let low : slice_index text c.args.end < 128 = search rules in

@@ -1,0 +1,28 @@
+-- The goals of `demand_of` that are answered by hand.
+use Rattle.std.proofs.Common.{rules, ◌≡◌, ◌∙◌, ℕ, List, Ok, refl, sym, ap, subst}
+use Rattle.std.proofs.lemmas.Bool.{false≢true}
+use Rattle.bw_commands.specs.Command as command
+use Rattle.bw_commands.specs.Plain.{IsWord}
+use Rattle.bw_commands.proofs.PlainLines.{demand_from, behind_is}
+use Rattle.bw_commands.proofs.plain.demand_of.Goals as goal
+
+pub returns-in_err-path-clause-answers : goal.returns-in_err-path-clause-answers
+returns-in_err-path-clause-answers c path word p w is =
+    absurd (false≢true (c.in_err-path.ensures.only path word (p, (32, refl, is))))
+
+pub returns-then-not-is_word-clause-answers : goal.returns-then-not-is_word-clause-answers
+returns-then-not-is_word-clause-answers c path word p w is =
+    let rest = c.args.rest.text.now in
+    let number = c.in_ok-path.number.text.now in
+    let same : number ≡ word =
+    behind_is rest c.in_ok-path.path.now number path word c.in_ok-path.ensures.found p is in
+    sym c.if-not-is_word.true ∙ c.is_word.ensures.only (subst IsWord (sym same) w)
+
+pub returns-clause-known : goal.returns-clause-known
+returns-clause-known c =
+    let rest = c.args.rest.text.now in
+    let path = c.in_ok-path.path.now in
+    let number = c.in_ok-path.number.text.now in
+    let is_word : IsWord number = search rules in
+    demand_from rest path number c.in_ok-path.ensures.found is_word
+    ∙ ap (λ (l : List ℕ). Ok (command.Demand path l)) (sym c.text.ensures)
