@@ -1,5 +1,6 @@
 """Children of the command: one deadline over all that they print, a bound on its bytes, and nothing
 that they began holds the command up."""
+import gc
 import os
 import resource
 import signal
@@ -48,18 +49,26 @@ def is_gone(process):
 
 
 def opened_and_begun():
-    """How many descriptors this process has, and its children, also those that ended."""
+    """The descriptors of this process with what each leads to, and its children, also those that
+    ended. What an earlier test left in a cycle is closed first."""
+    gc.collect()
+    opened = set()
+    for name in os.listdir("/proc/self/fd"):
+        with suppress(FileNotFoundError):
+            opened.add((name, os.readlink(f"/proc/self/fd/{name}")))
     begun = Path(f"/proc/self/task/{os.getpid()}/children")
-    return len(os.listdir("/proc/self/fd")), begun.read_text(encoding="ascii").split()
+    return opened, set(begun.read_text(encoding="ascii").split())
 
 
 @contextmanager
 def soon():
-    """Fails where what is done takes long, or leaves a descriptor or a child of this process."""
-    began, before = time.monotonic(), opened_and_begun()
+    """Fails where what is done takes long, or leaves a descriptor or a child of this process. One
+    that was there before may go meanwhile."""
+    before, began = opened_and_begun(), time.monotonic()
     yield
     assert time.monotonic() - began < SOON
-    assert opened_and_begun() == before
+    opened, begun = opened_and_begun()
+    assert (opened - before[0], begun - before[1]) == (set(), set())
 
 
 def test_what_it_prints():
