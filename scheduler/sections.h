@@ -77,6 +77,9 @@ static __always_inline u32 do_arrive(struct on_cpu *here)
             return NOBODY;
         }
     }
+    /* (a clock counts within its leaf: who comes from another one begins at the clock of this) */
+    if (row != here->about_row)
+        task->clock = 0;
     task->row = here->about_row;
     arrive(here, here->about, here->runtime);
     here->stage = here->then;

@@ -48,11 +48,11 @@ def newest_kernel():
 
 @pytest.fixture(scope="module", name="traced_runs")
 def runs_with_traces(program, newest):
-    """The scenarios, their runs in one guest, and the traces of the scheduler's steps."""
+    """The scenarios, their runs by one load in a guest, and the trace of the scheduler's steps."""
     use(program.path)
     found = {name: scenario.read(SCENARIOS / f"{name}.script") for name in NAMES}
-    lines, traces = traced.traces(newest, machine.Setting(4), list(found.values()), SPAN)
-    return found, {run.key: run for run in readings.runs(lines)}, traces
+    lines, trace = traced.traces(newest, machine.Setting(4), list(found.values()), SPAN)
+    return found, {run.key: run for run in readings.runs(lines)}, trace
 
 
 @pytest.mark.parametrize("name", NAMES)
@@ -63,12 +63,13 @@ def test_the_plan_is_served(traced_runs, name):
     root, *groups = outcome.lines
     assert [(line.path, line.off) for line in groups if abs(line.off) > MOST_OFF] == []
     assert root.had >= LEAST_SERVED * root.share
-    assert any("ended after 1 plans; out of turn 0" in line for line in runs[name].told)
+    assert any(f"ended after {len(NAMES)} plans; out of turn 0" in line
+               for line in runs[NAMES[-1]].told)
 
 
 def test_each_pick_is_one_that_the_rule_allows(traced_runs):
-    """All of a trace where each task may run on each CPU."""
-    trace = traced_runs[2]["two-three"]
+    """All of the first plan, where each task may run on each CPU."""
+    trace = traced.of_first_plan(traced_runs[2])
     if not traced.DISPATCH.is_file():
         pytest.skip(f"no {traced.DISPATCH}")
     assert traced.replayed(trace) == f"allowed: {trace.count('pick ')} picks"
@@ -76,8 +77,9 @@ def test_each_pick_is_one_that_the_rule_allows(traced_runs):
 
 
 def test_picks_before_a_bound_task(traced_runs):
-    """Others go before the pinned task, which waits for its CPU. No other pick leaves the rule."""
-    found = outside.Replay(traced_runs[2]["two-pinned"]).found
+    """Others go before the pinned task of the second plan, which waits for its CPU. No other pick
+    leaves the rule, in both plans."""
+    found = outside.Replay(traced_runs[2]).found
     assert not found[outside.WRONG] and found[outside.ALLOWED] > 500 and found[outside.BOUND]
 
 

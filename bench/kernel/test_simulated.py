@@ -52,7 +52,7 @@ def made(tmp_path_factory):
         pytest.skip("no gcc")
     found = tmp_path_factory.mktemp("simulated") / "simulated"
     subprocess.run(["gcc", "-O2", "-Wall", "-Wextra", "-Werror", f"-I{TOP / 'scheduler'}", "-o",
-                    str(found), str(SOURCE)], check=True, timeout=120)
+                    str(found), str(SOURCE)], check=True, timeout=600)
     return found
 
 
@@ -60,7 +60,7 @@ def lines_of(program, options, seed, seconds, cpus, groups):
     """The lines that the model prints."""
     words = [program, *options, seed, 1000 * seconds, cpus, *groups]
     return subprocess.run([*map(str, words)], check=True, capture_output=True, text=True,
-                          timeout=120).stdout.splitlines(keepends=True)
+                          timeout=600).stdout.splitlines(keepends=True)
 
 
 def promised(cpus, groups):
@@ -124,7 +124,50 @@ def pod(containers: int) -> Iterable[str]:
 
 
 HALF = f"a,100,0,2,{ALWAYS}:g=1000"
+# How far off the plan a group of the rows of docs/LINUX.md may be.
+OFF = 1
+
+
+def points(*parts: float) -> dict[int, tuple[float, float]]:
+    """What the groups should have."""
+    return {row: (part, OFF) for row, part in enumerate(parts, 1)}
+
+
+def runner(part: float, amount: int) -> str:
+    """A group of a build farm: two jobs at a time, each a new task."""
+    return f"f,{amount},0,2,20000,1,0,-1:g={10 * part}"
+
+
+# The scenarios of bench/kernel/scenarios, with the amounts and guarantees of their plans.
+ROWS = {
+    "four-pods": Case(4, (f"a,100,0,1,{ALWAYS}:g=500", f"a,150,0,1,{ALWAYS}:g=1500",
+                          f"a,75,0,2,{ALWAYS}:g=750", f"a,25,0,1,{ALWAYS}:g=250",
+                          f"a,100,0,4,{ALWAYS}:g=1000"), points(100, 100, 75, 25, 100)),
+    "four-kube": Case(4, ("l,250000,0", f"a,172,200000,3,{ALWAYS}:g=1220:in=1",
+                          "p,12,50000,1,30000,70000,0,-1:g=80:in=1", f"a,116,0,2,{ALWAYS}:g=800",
+                          "p,10,0,1,10000,90000,0,-1:g=80", "p,65,0,6,66666,33334,0,-1:g=410",
+                          "p,8,0,1,5000,95000,0,-1:g=80", "p,133,0,1,20000,80000,0,-1:g=1330"),
+                      points(172.46, 11.69, 115.69, 10, 65.15, 5, 20)),
+    "four-farm": Case(4, tuple(runner(part, round(part)) for part in
+                               (53.33, 53.33, 53.33, 106.67, 106.67, 26.67)),
+                      points(53.33, 53.33, 53.33, 106.67, 106.67, 26.67)),
+    "four-web": Case(4, ("w,240,0,4,3000,7000,0,-1:g=2400", f"a,140,0,4,{ALWAYS}:g=800",
+                         f"a,140,0,2,{ALWAYS}:g=800"), points(120, 140, 140), delay={1: 0.1}),
+    "two-eight": Case(2, (f"a,100,0,1,{ALWAYS}:g=1000", "p,100,0,8,25000,75000,0,-1:g=1000"),
+                      points(100, 100)),
+    "two-flip": Case(2, ("t,100,0,2,1000000,1000000,0,-1:g=1000", f"a,50,0,2,{ALWAYS}:g=500",
+                         f"a,50,0,1,{ALWAYS}:g=500"), points(50, 75, 75)),
+    "two-nice": Case(2, (f"a,134,0,1,{ALWAYS}:g=1340:nice=19", f"+a,134,0,1,{ALWAYS}",
+                         f"a,33,0,2,{ALWAYS}:g=330", f"a,33,0,1,{ALWAYS}:g=330"),
+                     points(133.33, 33.33, 33.33)),
+    "two-turns": Case(2, ("t,67,0,2,100000,100000,0,-1:g=670",
+                          "t,67,0,2,100000,100000,100000,-1:g=670", f"a,66,0,2,{ALWAYS}:g=660"),
+                      points(50, 50, 100)),
+    "eight-mixed": Case(8, tuple(f"a,80,0,{tasks},{ALWAYS}:g=800"
+                                 for tasks in (1, 2, 3, 1, 1, 1, 2, 3, 1, 1)), points(*[80] * 10)),
+}
 CASES = {
+    **ROWS,
     # crowds that are bound to CPUs
     **{f"{count} bound tasks beside idle CPUs": Case(
         4, ("w,200,0,1,3000,7000,0,mc:g=2000", f"a,200,0,{count},0,0,0,m3:g=2000"),
@@ -219,3 +262,15 @@ def test_what_others_cannot_do(program, name):
     case = CASES[name]
     lines = lines_of(program, ["-q", *case.options], 1, case.seconds, case.cpus, case.groups)
     assert broken(case, found_in(lines)) == []
+
+
+@pytest.mark.parametrize("name", ROWS)
+def test_rows_are_by_the_rule(program, name):
+    """Each pick and wake of these hosts is the rule's, new plans amid."""
+    case = CASES[name]
+    lines = lines_of(program, case.options, 1, 3, case.cpus, case.groups)
+    trace = "".join(line for line in lines if not line.startswith(FOUND))
+    found = outside.Replay(trace).found
+    assert not found[outside.WRONG] and found[outside.ALLOWED] > 500
+    if traced.DISPATCH.is_file():
+        assert traced.replayed(trace) == f"allowed: {trace.count('pick ')} picks"

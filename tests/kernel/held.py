@@ -90,9 +90,11 @@ def nearest(path: str, limits: dict[str, int]) -> str:
 
 
 def scheduler_lines(scenario: Scenario, amounts: dict[str, int], guarantees: dict[str, int],
-                    limits: dict[str, int], has_trace: bool = False) -> tuple[str, str]:
-    """The lines of a guest's script that load the scheduler with a plan, and that which ends it.
-    Limits are nanoseconds of 100 ms. With a trace each step of the rule is told."""
+                    limits: dict[str, int], has_trace: bool = False, is_first: bool = True,
+                    is_last: bool = True) -> tuple[str, str]:
+    """The lines of a guest's script that give the scheduler a plan, and those that end the run. The
+    first run loads it, which takes most of a guest's time, and the last one ends it. Limits are
+    nanoseconds of 100 ms. With a trace each step of the rule is told, of all runs by the last."""
     slices = scenario.processors * scenario.period // scenario.slice
     plan = "; ".join([f"echo plan {slices}", *(
         f"echo limit {number_in(path)} {limits[path]} 0"
@@ -101,16 +103,17 @@ def scheduler_lines(scenario: Scenario, amounts: dict[str, int], guarantees: dic
         f"echo leaf {number_in(path)} {amounts[path]} {guarantees[path]}"
         f" {number_in(nearest(path, limits))}" for path in scenario.leaves), "echo end"])
     trace = "--trace /steps " if has_trace else ""
-    early = (f"rm -f /plan.in; mkfifo /plan.in\n/arbiter-scheduler {trace}{layout.HOME} < /plan.in"
-             " > /plan.out 2>&1 &\nscheduler=$!\nexec 9> /plan.in\n"
-             f"{{ {plan}; }} >&9\n"
-             "until grep -q -v ready /plan.out; do sleep 0.2; done")
+    # (no child of the shell, which waits for its children at the end of each run)
+    load = (f"rm -f /plan.in; mkfifo /plan.in; : > /plan.out\n(/arbiter-scheduler {trace}"
+            f"{layout.HOME} < /plan.in > /plan.out 2>&1 & echo $! > /plan.id)\nexec 9> /plan.in\n")
+    early = (load * is_first + f"plans=$(grep -c -e plan -e arbiter /plan.out)\n{{ {plan}; }} >&9\n"
+             "until [ $(grep -c -e plan -e arbiter /plan.out) -gt $plans ]; do sleep 0.2; done")
+    end = (f" /guest until $((last + {SECOND // 4})); scheduler=$(cat /plan.id);"
+           " kill $scheduler; while kill -0 $scheduler 2> /dev/null; do sleep 0.1; done;"
+           " sed 's/^/scheduler /' /plan.out" + "; sed 's/^/step /' /steps" * has_trace)
     # (a scheduler that has ended closes the pipe: its last line has to be told still)
-    beside = ("(trap '' PIPE; /guest until $last; echo read >&9;"
-              f" /guest until $((last + {SECOND // 4}));"
-              " kill $scheduler; while kill -0 $scheduler 2> /dev/null; do sleep 0.1; done;"
-              " sed 's/^/scheduler /' /plan.out" + "; sed 's/^/step /' /steps" * has_trace
-              + ") &\nexec 9>&-")
+    beside = (f"(trap '' PIPE; /guest until $last; echo read >&9;{end * is_last}) &"
+              + "\nexec 9>&-" * is_last)
     return early, beside
 
 
@@ -138,10 +141,11 @@ def hold_lines(scenario: Scenario, ended_by: tuple[int, str]) -> tuple[str, str]
     return early, beside
 
 
-def scheduler_program(folder: Path) -> bytes:
-    """The scheduler's loader, compiled for a guest, which has no libraries."""
-    packages.said(["make", "-C", str(SCHEDULER), f"OUT={folder}", "LDFLAGS=-static"])
-    return (folder / "arbiter-scheduler").read_bytes()
+def scheduler_files(folder: Path, name: str = "arbiter-scheduler") -> interpreter.Files:
+    """The scheduler's loader under a name of the guest, with its libraries: not every libelf.a of
+    Debian can be linked."""
+    packages.said(["make", "-C", str(SCHEDULER), f"OUT={folder}"])
+    return interpreter.program(name, folder / "arbiter-scheduler")
 
 
 def hold_program(folder: Path, archive: Path) -> bytes:
@@ -197,10 +201,10 @@ def lines_of(kernel: packages.Kernel, board: machine.Board, setting: machine.Set
     with tempfile.TemporaryDirectory(prefix="arbiter-hold-") as name:
         more = {"hold": (0o100755, hold_program(Path(name), archive))} if archive else {}
         if is_scheduled:
-            more["arbiter-scheduler"] = (0o100755, scheduler_program(Path(name)))
+            # (beside Python where its package has it)
+            place = "usr/sbin/arbiter-scheduler" if has_python else "arbiter-scheduler"
+            more |= scheduler_files(Path(name), place)
     if has_python:
-        # (where its package has it)
-        more = {**interpreter.files(), "usr/sbin": (0o040755, b""),
-                "usr/sbin/arbiter-scheduler": more["arbiter-scheduler"]}
+        more = {**interpreter.files(), **more}
     memory = 1024 if has_python else 512 if is_scheduled else 256
     return machine.run(kernel, board, setting, work, more, memory)

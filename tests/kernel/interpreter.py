@@ -6,7 +6,7 @@ C library.
 from __future__ import annotations
 
 import re
-from collections.abc import Iterator
+from collections.abc import Iterable, Iterator
 from pathlib import Path
 
 from kernel import packages
@@ -52,12 +52,22 @@ def named() -> Iterator[tuple[str, Path]]:
     yield f"{HOME}/arbiter/libarbiter.so.1", LIBRARY
 
 
-def files() -> Files:
-    """The files with their folders, as an initramfs takes them."""
+def as_files(pairs: Iterable[tuple[str, Path]]) -> Files:
+    """Files with their folders, as an initramfs takes them."""
     found: Files = {}
-    for name, path in named():
+    for name, path in pairs:
         name = name.lstrip("/")
         for folder in reversed(Path(name).parents[:-1]):
             found.setdefault(str(folder), (0o040755, b""))
         found[name] = (0o100755, path.read_bytes())
     return found
+
+
+def files() -> Files:
+    """Python with `arbiterctl` and its packages."""
+    return as_files(named())
+
+
+def program(name: str, path: Path) -> Files:
+    """A program with the libraries that it loads."""
+    return as_files([(name, path), *((str(each), each) for each in sorted(libraries([path])))])

@@ -6,6 +6,7 @@
    A GROUP is `KIND,AMOUNT,LIMIT_US,TASKS,ON_US,OFF_US,PHASE_US,CPU` and words behind colons: the
    next row. Its tasks always want (`a`), work for ON_US of a CPU and sleep for OFF_US (`w`), do so
    as a new task each time (`f`), or want for ON_US of each ON_US and OFF_US from PHASE_US on (`t`).
+   Or they work for ON_US of each such period, and what it did not serve is dropped (`p`).
    They keep to a CPU, to the CPUs of a mask (`mHEX`), or to none if it is -1. The limit is in 100
    ms, 0 for none. Words are `g=` the guarantee in thousandths of a CPU, `nice=`, and `in=`: the
    group with a limit that it is in. Such a one is `l,LIMIT_US,IN`, the first of them number 1.
@@ -70,8 +71,8 @@ struct job {
     bool is_bound;
     enum way way;
     u64 weight, mask, on, off, phase;
-    /* Its processor time, what it still works for, and when it wakes.  */
-    u64 runtime, left, wakes_at;
+    /* Its processor time, what it still works for, when it wakes, and when its period ends.  */
+    u64 runtime, left, wakes_at, due;
     /* When it woke, if it has not run since then, and when it came into its queue.  */
     u64 woke, ready;
 };
@@ -105,7 +106,7 @@ static struct job jobs[MOST_JOBS];
 static struct core cores[MOST_CORES];
 static struct seen rows_seen[MOST_ROWS], groups_seen[MOST_GROUPS];
 static u32 job_count, core_count, row_count = 1, group_count = 1, budget_count = 1;
-static u64 now, counted, seed, first_wake = NONE;
+static u64 now, counted, seed, first_wake = NONE, first_due = NONE;
 /* The options -p, -j, -o.  */
 static u64 plan_every = NONE, jitter, overrun;
 
@@ -307,7 +308,8 @@ static void end_work(u32 cpu) {
     struct job *job = cores[cpu].job;
     u64 both = job->on + job->off;
 
-    job->wakes_at = job->kind != 't' ? now + job->off : now + both - place_in_turn(job);
+    job->wakes_at = job->kind == 't' ? now + both - place_in_turn(job)
+                    : job->kind == 'p' ? job->due : now + job->off;
     job->wakes_at += chance(20) * MICRO;
     if (job->wakes_at < first_wake)
         first_wake = job->wakes_at;
@@ -369,6 +371,7 @@ static void give_plan(void) {
 
 static u64 next_event(u64 beat) {
     u64 next = beat < first_wake ? beat : first_wake;
+    next = first_due < next ? first_due : next;
     for (u32 cpu = 0; cpu < core_count; cpu++) {
         struct core *core = &cores[cpu];
         u64 kick = core->is_taken ? NONE : core->kick;
@@ -378,6 +381,30 @@ static u64 next_event(u64 beat) {
         next = first < next ? first : next;
     }
     return next > now ? next : now;
+}
+
+/* A period of a task ends.  */
+static void set_due(struct job *job) {
+    u64 both = job->on + job->off;
+
+    job->due = now - now % both + both;
+    if (job->due < first_due)
+        first_due = job->due;
+}
+
+/* What a period did not serve is dropped.  */
+static void renew_jobs(void) {
+    if (first_due > now)
+        return;
+    first_due = NONE;
+    for (u32 at = 0; at < job_count; at++) {
+        struct job *job = &jobs[at];
+        if (job->kind != 'p' || job->way == ASLEEP)
+            continue;
+        if (job->due <= now)
+            job->left = job->on;
+        set_due(job);
+    }
 }
 
 static void wake_jobs(void) {
@@ -397,6 +424,8 @@ static void wake_jobs(void) {
         job->left = job->on;
         if (job->kind == 'f')
             task_at(job->number)->clock = 0;
+        if (job->kind == 'p')
+            set_due(job);
         rows_seen[job->row].wants++;
         enqueue(job, job->cpu, true);
     }
@@ -465,6 +494,7 @@ static void simulate(u64 until) {
         }
         if (is_tick_first)
             ticks();
+        renew_jobs();
         wake_jobs();
         if (!is_tick_first)
             ticks();

@@ -18,7 +18,7 @@ from collections.abc import Sequence
 from pathlib import Path
 from typing import Any
 
-from kernel import held, layout, machine, packages
+from kernel import held, interpreter, layout, machine, packages
 
 SHIFT, SECONDS = 4, 2
 SECOND = 1000000000
@@ -34,12 +34,12 @@ PHASES = ("alone", "weights", "slices", "scheduler", "counted")
 SLICES = "/sys/kernel/debug/sched/base_slice_ns"
 
 
-def costs_program(folder: Path) -> bytes:
-    """costs.c, compiled for a guest."""
+def costs_program(folder: Path) -> interpreter.Files:
+    """costs.c, compiled for a guest, with its libraries."""
     source = Path(held.__file__).with_name("costs.c")
-    packages.said(["gcc", "-O2", "-Wall", "-Wextra", "-Werror", "-static", "-o",
-                   str(folder / "costs"), str(source), "-lbpf", "-lelf", "-lz"])
-    return (folder / "costs").read_bytes()
+    packages.said(["gcc", "-O2", "-Wall", "-Wextra", "-Werror", "-o", str(folder / "costs"),
+                   str(source), "-lbpf"])
+    return interpreter.program("costs", folder / "costs")
 
 
 def phase(name: str, leaves: int, cpus: int, nap: int) -> list[str]:
@@ -67,7 +67,8 @@ def work(leaves: int, cpus: int, nap: int) -> str:
              f" echo $((100 + i % 19 * 100)) > {layout.HOME}/$i/cpu.weight; done",
              *(line for name in PHASES[:3] for line in phase(name, leaves, cpus, nap))]
     lines += [f"( echo plan {20 * leaves}; for i in $(seq {leaves}); do"
-              f" echo leaf $(stat -c %i {layout.HOME}/$i) $((1 + i % 19)) $((1 + i % 19)) 0; done; echo end;"
+              f" echo leaf $(stat -c %i {layout.HOME}/$i) $((1 + i % 19)) $((1 + i % 19)) 0; done;"
+              " echo end;"
               f" sleep 1000 ) | /arbiter-scheduler {layout.HOME} > /plan.out 2>&1 &",
               "until grep -q -v ready /plan.out; do sleep 0.2; done"]
     lines += [line for name in PHASES[3:] for line in phase(name, leaves, cpus, nap)]
@@ -103,8 +104,7 @@ def read(lines: Sequence[str]) -> dict[str, Any]:
 def shown(kernel: packages.Kernel, leaves: int, cpus: int, nap: int) -> dict[str, Any]:
     """What it costs with so many leaves."""
     with tempfile.TemporaryDirectory(prefix="arbiter-costs-") as name:
-        more = {"costs": (0o100755, costs_program(Path(name))),
-                "arbiter-scheduler": (0o100755, held.scheduler_program(Path(name)))}
+        more = {**costs_program(Path(name)), **held.scheduler_files(Path(name))}
     lines = machine.run(kernel, machine.Board(cpus), machine.Setting(SHIFT),
                         work(leaves, cpus, nap), more, 1024)
     return {"cpus": cpus, "leaves": leaves, "nap": nap, **read(lines)}

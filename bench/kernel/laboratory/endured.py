@@ -18,7 +18,7 @@ from collections.abc import Sequence
 from pathlib import Path
 from typing import Any
 
-from kernel import faults, held, layout, machine, packages
+from kernel import faults, held, interpreter, layout, machine, packages
 from kernel.scenario import parse
 
 TREE = "mkdir a\nwrite a cpu.weight 300\nmkdir b\nmkdir b/c\nmkdir d\n"
@@ -36,7 +36,7 @@ STATE = "/sys/kernel/sched_ext/state"
 MAKE = "make"
 
 
-def programs(folder: Path) -> dict[str, tuple[int, bytes]]:
+def programs(folder: Path) -> interpreter.Files:
     """The loader, one of a scheduler that picks nobody, and the program that attaches it again."""
     source, made = folder / "scheduler", folder / "out"
     shutil.copytree(held.SCHEDULER, source)
@@ -44,15 +44,15 @@ def programs(folder: Path) -> dict[str, tuple[int, bytes]]:
     text = main_file.read_text(encoding="ascii")
     if text.count(PICKS) != 1:
         raise faults.KernelFault(f"{main_file}: no line {PICKS.strip()}")
-    packages.said([MAKE, "-C", str(source), f"OUT={made}", "LDFLAGS=-static"])
-    packages.said(["gcc", "-O2", "-Wall", "-Wextra", "-Werror", "-static", f"-I{source}",
-                   f"-I{made}", "-o", str(folder / "cycles"),
-                   str(Path(held.__file__).with_name("cycles.c")), "-lbpf", "-lelf", "-lz"])
+    packages.said([MAKE, "-C", str(source), f"OUT={made}"])
+    packages.said(["gcc", "-O2", "-Wall", "-Wextra", "-Werror", f"-I{source}", f"-I{made}", "-o",
+                   str(folder / "cycles"), str(Path(held.__file__).with_name("cycles.c")),
+                   "-lbpf", "-lelf", "-lz"])
     main_file.write_text(text.replace(PICKS, PICKS_NOBODY), encoding="ascii")
-    packages.said([MAKE, "-C", str(source), f"OUT={folder}/stalls", "LDFLAGS=-static"])
-    return {"arbiter-scheduler": (0o100755, (made / "arbiter-scheduler").read_bytes()),
-            "stalled-scheduler": (0o100755, (folder / "stalls/arbiter-scheduler").read_bytes()),
-            "cycles": (0o100755, (folder / "cycles").read_bytes())}
+    packages.said([MAKE, "-C", str(source), f"OUT={folder}/stalls"])
+    return {**interpreter.program("arbiter-scheduler", made / "arbiter-scheduler"),
+            **interpreter.program("stalled-scheduler", folder / "stalls/arbiter-scheduler"),
+            **interpreter.program("cycles", folder / "cycles")}
 
 
 def loaded(program: str) -> list[str]:

@@ -133,14 +133,16 @@ class Job:
         """An instruction takes 2^shift ns."""
         return SHIFT if self.way.is_hold else self.scenario.board.shift
 
-    def script(self) -> str:
-        """The script of the guest."""
+    def script(self, is_first: bool = True, is_last: bool = True) -> str:
+        """The script of the guest. The first of some runs loads the scheduler, the last one ends
+        it."""
         early, beside = "", loop_line(self.scenario, self.way) if self.way.is_loop else ""
         if self.way.is_hold:
             early, beside = hold_lines(self.scenario, ENDS[self.repeat % len(ENDS)])
         elif self.way.is_scheduled:
             early, beside = scheduler_lines(self.scenario, entitled(self.scenario),
-                                            guaranteed(self.scenario), own_limits(self.scenario))
+                                            guaranteed(self.scenario), own_limits(self.scenario),
+                                            is_first=is_first, is_last=is_last)
         return layout.script(held_by(self.scenario, self.way), self.span, beside, early)
 
 
@@ -152,9 +154,12 @@ def span_of(way: Way, options: argparse.Namespace, repeat: int) -> layout.Span:
 
 def ran(kernel: packages.Kernel, jobs: Sequence[Job], setting: machine.Setting
         ) -> Iterator[dict[str, Any]]:
-    """Boots one guest for jobs of one board, and compares them with their plans."""
+    """Boots one guest for jobs of one board, and compares them with their plans. Where all are by
+    the scheduler it is loaded once."""
+    loads = not all(job.way.is_scheduled and not job.way.is_hold for job in jobs)
     lines = lines_of(kernel, jobs[0].scenario.board, setting,
-                     [begun(job.script(), job.key(kernel)) for job in jobs],
+                     [begun(job.script(loads or job is jobs[0], loads or job is jobs[-1]),
+                            job.key(kernel)) for job in jobs],
                      ARCHIVE if any(job.way.is_loop and not job.way.is_hold for job in jobs)
                      else None, any(job.way.is_scheduled for job in jobs),
                      any(job.way.is_hold for job in jobs))

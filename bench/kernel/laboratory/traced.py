@@ -26,17 +26,28 @@ TOP = Path(__file__).resolve().parents[3]
 DISPATCH = TOP / "crates/dispatch/out/dispatch"
 SPAN = layout.Span(seconds=5, settle=1, has_grid=False)
 SECONDS = 120
+# The step that begins a plan.
+LEVEL = "level\n"
 
 
 def traces(kernel: packages.Kernel, setting: machine.Setting, found: Sequence[Scenario],
-           span: layout.Span = SPAN) -> tuple[list[str], dict[str, str]]:
-    """Boots a guest for scenarios of one board. Returns its lines, and the traces by name."""
+           span: layout.Span = SPAN) -> tuple[list[str], str]:
+    """Boots a guest for scenarios of one board, and loads the scheduler once. Returns its lines,
+    and the trace of all plans."""
     scripts = []
     for each in found:
         early, beside = held.scheduler_lines(each, entitled(each), guaranteed(each),
-                                             own_limits(each), True)
+                                             own_limits(each), True, each is found[0],
+                                             each is found[-1])
         scripts.append(held.begun(layout.script(each, span, beside, early), each.name))
-    return held.traces_in(held.lines_of(kernel, found[0].board, setting, scripts, None, True))
+    told = held.lines_of(kernel, found[0].board, setting, scripts, None, True)
+    lines, steps = held.traces_in(told)
+    return lines, "".join(steps.values())
+
+
+def of_first_plan(trace: str) -> str:
+    """The steps of a trace before its second plan."""
+    return LEVEL.join(trace.split(LEVEL)[:2])
 
 
 def replayed(trace: str) -> str:
@@ -53,9 +64,8 @@ def replayed(trace: str) -> str:
 def shown(kernel: packages.Kernel, found: Sequence[Scenario]) -> Iterator[tuple[str, str, str]]:
     """The name, the trace and what is said of it, of each scenario in a guest of its own."""
     for each in found:
-        setting = machine.Setting(each.board.shift)
-        yield from ((name, trace, replayed(trace))
-                    for name, trace in traces(kernel, setting, [each])[1].items())
+        trace = traces(kernel, machine.Setting(each.board.shift), [each])[1]
+        yield each.name, trace, replayed(trace)
 
 
 def main(words: Sequence[str]) -> int:
