@@ -13,7 +13,7 @@ from arbiter_host import options as table
 from arbiter_host.base import names
 from arbiter_host.base.faults import HostFault, NoLibrary, missing_module
 from arbiter_host.base.output import drop_output, say, tell
-from arbiter_host.subcommands import SUMMARIES, Subcommand, find
+from arbiter_host.subcommands import NAMES, Subcommand, find, listed
 
 if TYPE_CHECKING:
     from arbiter import Unavailable
@@ -51,16 +51,16 @@ def parser_of_all() -> Parser:
                         help="print the version and what the library is made of, and end")
     commands = parser.add_subparsers(required=True, metavar="COMMAND", prog="arbiterctl",
                                      parser_class=Listed)
-    for name, summary in SUMMARIES.items():
-        commands.add_parser(name, help=summary)
+    for name in listed():
+        commands.add_parser(name, help=table.texts(name)["summary"])
     return parser
 
 
 def parsed(words: Sequence[str]) -> argparse.Namespace:
     """The options of the words. Options may stand between the sources."""
     name = next((word for word in words if not word.startswith("-")), "")
-    at = words.index(name) if name in SUMMARIES else len(words)
-    if name not in SUMMARIES or not {"-h", "--help", "-V", "--version"}.isdisjoint(words[:at]):
+    at = words.index(name) if name in NAMES else len(words)
+    if name not in NAMES or not {"-h", "--help", "-V", "--version"}.isdisjoint(words[:at]):
         parser_of_all().parse_args(words)
     each = find(name)
     parser = parser_of(each)

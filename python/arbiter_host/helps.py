@@ -7,7 +7,7 @@ from collections.abc import Iterable, Mapping
 from contextlib import suppress
 from typing import Any
 
-from arbiter_host import __version__, options
+from arbiter_host import __version__
 from arbiter_host.base.names import shown
 
 ABOUT = ("Plans for the groups of a real host, each accepted by the proved check before it is"
@@ -21,11 +21,6 @@ STATUSES = {
     5: "an alert was raised",
     6: "nothing was found: no setting, no host, or no group of that name",
     7: "hold has no group left to hold, since limits help none",
-}
-ENVIRONMENT = {
-    "ARBITER_LIBRARY": "The C library, as of --library.",
-    "COLUMNS": "Columns of the answers, in place of the terminal's.",
-    "NO_COLOR": "If it is set, answers have no colours.",
 }
 
 
@@ -73,12 +68,6 @@ def library_made() -> list[str]:
         return []
     return ["a clone; its library is proved" if found.of_clone() else
             "a clone without a proved library; a checked build, which proves nothing, answers"]
-
-
-def kinds() -> dict[str, str]:
-    """The description of a source, by its kind."""
-    from arbiter_host.sources.register import READERS  # (man pages alone have them)
-    return {kind: READERS[kind].about for kind in options.KINDS}
 
 
 def statuses() -> str:

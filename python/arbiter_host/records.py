@@ -7,8 +7,8 @@ from dataclasses import replace
 from typing import Any
 
 from arbiter_host import options as table
-from arbiter_host.base import names, units
-from arbiter_host.base.faults import HostFault, UsageFault
+from arbiter_host.base import units
+from arbiter_host.base.faults import UsageFault, naming
 from arbiter_host.sources import times
 from arbiter_host.sources.source_options import SourceOptions, UseOptions
 
@@ -18,10 +18,8 @@ OF_SAMPLES = ("map", "unit")
 
 def time_option(word: str, option: str) -> int:
     """The microseconds of an option."""
-    try:
+    with naming(option, UsageFault):
         return units.parse_time(word)
-    except HostFault as fault:
-        raise UsageFault(f"{option}: {names.shown(fault.message)}") from fault
 
 
 def host_of(options: argparse.Namespace) -> SourceOptions:

@@ -9,6 +9,7 @@ import sys
 import pytest
 from hypothesis import HealthCheck, settings
 
+import chances
 from places import PACKAGE
 
 sys.path[:0] = [str(PACKAGE), *(str(PACKAGE.parent / name) for name in ("tests", "bench/kernel"))]
@@ -17,6 +18,11 @@ SECONDS = 300
 # A busy machine is no failure of a case.
 settings.register_profile("busy", deadline=None, suppress_health_check=[HealthCheck.too_slow])
 settings.load_profile("busy")
+
+
+def pytest_configure(config):
+    """Sets the most random cases, before a test is read."""
+    chances.most = config.getoption("fuzz_runs")
 
 
 @pytest.fixture(scope="session")

@@ -1,6 +1,7 @@
 """Makes the files of a fleet, and asks it without the command."""
 import random
 
+import reading
 from arbiter_host.fleet import hosts, questions
 from arbiter_host.fleet.work import Action, Job
 from arbiter_host.sources.source_options import SourceOptions
@@ -44,7 +45,7 @@ def make_demands(folder, count, samples):
 def of(path, **words):
     """The fleet of a path; None where it is one host."""
     data = None if path.is_dir() else path.read_bytes()
-    return hosts.fleet_in(SourceOptions(**words), [(str(path), data)])
+    return hosts.fleet_in(SourceOptions(**words), [(str(path), data)], reading.Planner)
 
 
 def asked(path, calls, action=Action.PLAN, workers=0, **words):

@@ -14,6 +14,7 @@ from arbiter_host.base.faults import HostFault
 from arbiter_host.setting import apply
 from arbiter_host.setting.apply import By, Change, Settings
 from arbiter_host.sources import cgroups, readings
+from chances import cases
 from hypothesis import HealthCheck, given, settings
 from hypothesis import strategies as st
 
@@ -218,7 +219,7 @@ class Kernel(safe_files.Root):
         self.left = None if self.left is None else self.left - 1
 
 
-@settings(max_examples=60, deadline=None, suppress_health_check=list(HealthCheck))
+@settings(max_examples=cases(60), deadline=None, suppress_health_check=list(HealthCheck))
 @given(pairs=st.lists(st.tuples(SETTINGS, SETTINGS), min_size=1, max_size=3),
        stop=st.integers(0, 9), late=st.booleans())
 def test_interrupted_anywhere_and_undone(tmp_path_factory, pairs, stop, late):
@@ -314,7 +315,7 @@ def test_group_that_goes_while_others_are_undone(folder):
     assert holds(folder / "t", "b") == OLD
 
 
-@settings(max_examples=100, deadline=None, suppress_health_check=list(HealthCheck))
+@settings(max_examples=cases(100), deadline=None, suppress_health_check=list(HealthCheck))
 @given(data=st.one_of(st.binary(max_size=100), st.builds(
     lambda value: json.dumps({"arbiter_undo": 1, "root": "/nowhere", "groups": value}).encode(),
     st.lists(st.dictionaries(st.sampled_from(["folder", "weight", "quota", "period", "burst"]),

@@ -624,8 +624,8 @@ def test_page(ctl, folder):
 
 
 def test_pictures_of_the_page(engine):
-    """What is off by less than a slice has none. The others have one scale, or say that they have
-    their own. The path that all share stands above them."""
+    """What is off by less than a slice has none beside others. The others have one scale, or say
+    that they have their own. The path that all share stands above them."""
     model = Model(TWO)
     for name in ("t", "t/a", "t/b", "t/c", "t/d"):
         model.add(Group(name))
@@ -638,6 +638,24 @@ def test_pictures_of_the_page(engine):
     assert names == ["a not explained", "b not explained",
                      "c not explained own scale, to 0.05: the others go to 0.8"]
     assert text.count("Below t:") == 2 and text.count("t/a") == 1
+
+
+def test_pictures_where_nothing_is_off(engine):
+    """Those of the groups that used most. The begin of each interval stands where it is: the
+    second of two begins in the middle of 52 to 428."""
+    model = Model(TWO)
+    for name in ("t", *(f"t/{letter}" for letter in "abcdef")):
+        model.add(Group(name))
+    cells = {f"t/{letter}": cell(used, used) for letter, used in zip(
+        "abcdef", (10, 400, 300, 20, 500, 270))}
+    found = [Interval(f"{at} s", Fraction(5), model, cells, {}, None) for at in (0, 5)]
+    text = answer.page(answer.ranked(intervals.Audit(found, intervals.plan(engine, model))), "x")
+    assert "in CPUs, the greatest use first: nothing is off by a slice</h2>" in text
+    names = [re.sub("<.*?>", " ", each).split()[0]
+             for each in re.findall("<figcaption>(.*?)</figcaption>", text)]
+    assert names == ["e", "b", "c", "f"]
+    at = re.findall(r'<text x="([0-9.]+)"[^>]*middle[^>]*>([0-9]) s<', text)
+    assert at[0][1] == "0" and 52 < float(at[0][0]) < 70 and at[1] == ("240", "5")
 
 
 def told_of(names, cells=2):

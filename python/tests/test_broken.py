@@ -12,6 +12,7 @@ from arbiter_host.base.owned import Setting
 from arbiter_host.base.plan import plan
 from arbiter_host.fleet import hosts
 from arbiter_host.sources import cgroups, hostfile, readings, samples, script
+from chances import cases
 from hypothesis import HealthCheck, example, given, settings
 from hypothesis import strategies as st
 
@@ -25,7 +26,7 @@ TOML = (b'[host]\ncpus = 16\nperiod = "100ms"\n[groups."a/b"]\nweight = 200\nmax
         b'demand = "1.5cpu"\nburst = 5\ntasks = 3\ntitle = "x"\n')
 SCRIPT = b"# arbiter run --processors 4\nmkdir a\nwrite a cpu.max 5000 9000\ndemand a 4\nperiod\n"
 CSV = b"Time,web\n2026-01-05 10:00:00,0.5\n10:05,1.5\n"
-MANY = settings(max_examples=150, deadline=None, suppress_health_check=list(HealthCheck))
+MANY = settings(max_examples=cases(150), deadline=None, suppress_health_check=list(HealthCheck))
 
 
 @st.composite
@@ -123,7 +124,8 @@ def test_kubernetes(engine, data):
 def test_cluster(engine, data):
     """Each node of a cluster is one host, whatever its pods say; pods that wait have a shape."""
     items = holds(engine, lambda: hosts.items_of("F", data))
-    fleet = holds(engine, lambda: hosts.of_cluster("F", items)) if items else None
+    fleet = holds(engine, lambda: hosts.of_cluster("F", items,
+                                                    lambda: engine.library)) if items else None
     for host in fleet.hosts if fleet else ():
         planned(engine, holds(engine, lambda: reading.pods([("F", host.data)], HOST,
                                                               engine.library)))
@@ -170,7 +172,7 @@ FILES = ["cpu.weight", "cpu.max", "cpu.max.burst", "cpu.stat", "cpu.pressure", "
          "cgroup.subtree_control", "cgroup.controllers"]
 
 
-@settings(max_examples=80, deadline=None, suppress_health_check=list(HealthCheck))
+@settings(max_examples=cases(80), deadline=None, suppress_health_check=list(HealthCheck))
 @given(texts=st.dictionaries(st.sampled_from(FILES), st.one_of(
     st.binary(max_size=40), broken(b"50000 100000\n"), broken(b"usage_usec 500\nnr_periods 3\n")),
     max_size=8))

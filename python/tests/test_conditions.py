@@ -215,10 +215,11 @@ def test_pods_that_wait(ctl):
 
 
 PORT = {"containerPort": 8}
+# Labels of namespaces are in no JSON of pods.
+OF_TEAMS = {"topologyKey": "zone", "namespaceSelector": {"matchLabels": {"team": "a"}}}
 SPREAD = "topologySpreadConstraints"
 UNJUDGED = (
-    (affinity("podAffinity", {"topologyKey": "zone"}), "pod affinity"),
-    (affinity("podAntiAffinity", {"topologyKey": "zone"}), "pod anti-affinity"),
+    (affinity("podAffinity", OF_TEAMS), "pod affinity"),
     ({SPREAD: [{"whenUnsatisfiable": "DoNotSchedule"}]}, "topology spread"),
     ({SPREAD: [{"whenUnsatisfiable": "ScheduleAnyway"}]}, ""),
     ({"volumes": [{"name": "v", "persistentVolumeClaim": {"claimName": "v"}}]}, "volumes"),
@@ -232,6 +233,8 @@ UNJUDGED = (
     ({"tolerations": [{"key": "n", "operator": "Gt", "value": "7"}]}, "tolerations"),
     ({"affinity": {"nodeAffinity": {REQUIRED: {"nodeSelectorTerms": [
         {"matchExpressions": [{"key": "zone", "operator": "Like"}]}]}}}}, "node affinity"),
+    # (the last: pods behind it are told that it may keep them away)
+    (affinity("podAntiAffinity", OF_TEAMS), "pod anti-affinity"),
 )
 
 
@@ -257,7 +260,7 @@ def test_what_is_not_looked_at_is_told(ctl, folder):
 
 def test_what_others_refuse_is_not_looked_at(ctl):
     """A pod that is there may keep others away. The memory of a node that tells none is unknown."""
-    here = pod("here", affinity("podAntiAffinity", {"topologyKey": "host"}))
+    here = pod("here", affinity("podAntiAffinity", OF_TEAMS))
     here["spec"]["nodeName"], here["status"]["phase"] = "a", "Running"
     given = listed(node("a"), node("b", spec={"unschedulable": True}), here, pod("p", memory="1Gi"))
     out, _ = ctl.run("explain", "-", "--workers", "0", "-o", "json", given=given)
@@ -297,7 +300,7 @@ def test_replicas_are_placed_one_after_another(ctl, folder):
 
 @pytest.mark.parametrize("replicas", [0, -1, True, "3", 10001])
 def test_replicas_that_are_no_number(folder, replicas):
-    with pytest.raises(HostFault, match="F: replicas: 1 to 10000"):
+    with pytest.raises(HostFault, match="F: replicas, or parallelism: 1 to 10000"):
         replicas_in("F", deployment(folder, replicas).read_bytes())
 
 

@@ -12,9 +12,9 @@ import pytest
 import yaml
 from arbiter_host import exports
 from arbiter_host import options
+from arbiter_host.base import units
 from arbiter_host.base.atomic_files import Document
 from arbiter_host.base.faults import HostFault
-from arbiter_host.exports import compose
 from places import PACKAGE
 
 FIXTURES = PACKAGE / "tests/fixtures"
@@ -149,7 +149,7 @@ def test_shares_of_each_weight(calls):
     """The least shares of a weight give it back; log has no shares for some small weights."""
     for conversion, name in (("linear", "linear"), ("log", "logarithmic")):
         for weight in (1, 2, 3, 39, 100, 137, 5000, 10000):
-            shares = compose.shares_of(calls, weight, conversion)
+            shares = units.least_of(calls, units.OF_SHARES[conversion], weight)
             if shares is not None:
                 assert calls.weight_of_shares(shares, name) == weight
                 assert shares == 2 or calls.weight_of_shares(shares - 1, name) < weight
@@ -503,4 +503,4 @@ def test_all_or_none(folder, monkeypatch):
 
 def test_each_form_is_tested():
     """The forms of the command are those of this file."""
-    assert set(options.FORMS["apply"]) == {"text", "dropin", "kubectl", "compose", "slurm"}
+    assert set(options.forms("apply")) == {"text", "dropin", "kubectl", "compose", "slurm"}

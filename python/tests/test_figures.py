@@ -245,6 +245,16 @@ def test_units_that_are_frozen_or_keep_to_cpus(properties, wanted):
     assert (model.groups["a.slice/b.service"].demand, model.groups["a.slice"].keeps_to) == wanted
 
 
+@pytest.mark.parametrize("cpus, told", [("0-1,8", True), ("17", True), ("0-3", False),
+                                        ("3", False)])
+def test_units_that_keep_to_cpus_of_other_numbers(cpus, told):
+    """A host of 4 CPUs may count them from 0, and then it has no CPU 4."""
+    text = f"Id=a.slice\nControlGroup=/a.slice\nAllowedCPUs={cpus}\n"
+    model = reading.units([("u", text.encode())], Host(4, 1000000, 1000), "busy")
+    notes = [note for note in model.notes if note.startswith("bound to CPUs from number 4 on: a.s")]
+    assert len(notes) == told
+
+
 def tree_of(folder, **files):
     """A tree of two groups, of which the second has these files."""
     trees.root2(folder / "t")

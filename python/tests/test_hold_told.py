@@ -382,10 +382,10 @@ def of_round(held, **groups):
     # a guess that is 'served' is one too
     (90, {"a": (90, 100, False, True)}, ["a"], "who is hungry is mostly a guess here"),
 ])
-def test_groups_to_which_limits_do_harm(free, last, paths, why):
+def test_groups_to_which_limits_do_harm(calls, free, last, paths, why):
     """They are judged by so many rounds in which some were held, and not by others. After that
     the rounds are judged anew."""
-    harm, last = Harm(200), of_round(1, **last)
+    harm, last = Harm(calls, 200), of_round(1, **last)
     # (nobody lacked anything in the first two rounds)
     first = [of_round(held, a=(used, 100, True, False))
              for held, used in ((0, 9), (0, 9), (1, free))]
@@ -394,21 +394,21 @@ def test_groups_to_which_limits_do_harm(free, last, paths, why):
         assert [harm.take(last).paths for _ in range(MOST_ROUNDS - 1)] == [[]] * (MOST_ROUNDS - 1)
         found = harm.take(last)
         assert sorted(found.paths) == paths and found.why.startswith(why) and len(found.told()) > 9
-    few = Harm(200)
+    few = Harm(calls, 200)
     assert [each for each in (few.take({**last, "held": 0}) for _ in range(2 * MOST_ROUNDS))
             if each.paths] == []
 
 
-def test_groups_that_went_are_in_question_no_more():
+def test_groups_that_went_are_in_question_no_more(calls):
     """And no other in their place."""
-    harm, there = Harm(200), {"b": (10, 10, True, True), "c": (50, 50, True, False)}
+    harm, there = Harm(calls, 200), {"b": (10, 10, True, True), "c": (50, 50, True, False)}
     for _ in range(MOST_ROUNDS):
         assert harm.take(of_round(1, a=(100, 100, True, True), **there)).paths == []
     assert harm.take(of_round(1, **there)).paths == []
 
 
-def test_many_groups_are_told_in_one_line():
-    harm = Harm(200)
+def test_many_groups_are_told_in_one_line(calls):
+    harm = Harm(calls, 200)
     groups = {f"g\x1b{number}": (9, 9, True, True) for number in range(8)}
     found = [harm.take(of_round(1, **groups)) for _ in range(MOST_ROUNDS + 1)][-1]
     assert found.told().startswith("g\\x1b0, g\\x1b1, ") and " and 3 more: held no" in found.told()

@@ -17,6 +17,7 @@ from arbiter_host.base.model import Group, Model
 from arbiter_host.setting import apply
 from arbiter_host.setting.apply import By, Change, Settings
 from arbiter_host.sources import cgroups, hostfile, script
+from chances import cases
 from hypothesis import HealthCheck, example, given, settings
 from hypothesis import strategies as st
 
@@ -46,7 +47,7 @@ def read(top):
 
 # Names
 
-@settings(max_examples=300, deadline=None)
+@settings(max_examples=cases(300), deadline=None)
 @given(raw=NAMES)
 @example(raw=b"a\nb").via("a newline")
 @example(raw=b"a%0Ab").via("the escape of one")
@@ -77,7 +78,7 @@ def test_all_names_of_one_and_two_bytes():
             assert found is not None and os.fsencode(found) == raw
 
 
-@settings(max_examples=200, deadline=None)
+@settings(max_examples=cases(200), deadline=None)
 @given(one=NAMES, other=NAMES)
 @example(one=b"a\nb", other=b"a%0Ab")
 @example(one=b"\x01" * 254, other=b"\x01" * 255)
@@ -87,7 +88,7 @@ def test_two_names_stay_two(one, other):
     assert (found[0] == found[1]) == (one == other)
 
 
-@settings(max_examples=200, deadline=None)
+@settings(max_examples=cases(200), deadline=None)
 @given(text=st.text(st.characters(), min_size=1, max_size=20))
 @example("a%0ab").via("not as an import writes it")
 @example("a%41").via("a letter that needs no escape")
@@ -105,7 +106,7 @@ def test_a_name_by_hand_means_one_group_or_none(text):
     assert raw not in ("", ".", "..") and "/" not in raw and "\0" not in raw
 
 
-@settings(max_examples=40, deadline=None, suppress_health_check=list(HealthCheck))
+@settings(max_examples=cases(40), deadline=None, suppress_health_check=list(HealthCheck))
 @given(raws=st.lists(NAMES.filter(lambda raw: len(raw) < 80), min_size=1, max_size=6, unique=True))
 @example(raws=[b"a\nb", b"a%0Ab"])
 def test_the_way_through_a_script(tmp_path_factory, engine, raws):

@@ -2,8 +2,8 @@
 import re
 
 import pytest
-from arbiter_pages import calls
-from arbiter_pages.calls import READ, TABLE, U8, Part
+from arbiter_pages import calls, interface
+from arbiter_pages.calls import READ, TABLE, U8, U64, Part
 from places import PACKAGE
 
 EXPORTS = PACKAGE.parent / "crates/bw_exports/src"
@@ -56,3 +56,17 @@ def test_records_are_one_type():
     for part in parts:
         assert [word.type for word in part.words] == [each.type for each in part.record.fields]
     assert {each.name for each in calls.records()} < {part.record.name for part in parts}
+
+
+@pytest.mark.parametrize("word, is_refused", [
+    (calls.result("refused", U64, "it"), True), (calls.room("refused", U64, "it"), True),
+    (calls.column("words", U64, "it"), True), (calls.CallWord("alloc", U64, "it"), True),
+    (calls.CallWord("refused", U64, "it"), False), (calls.result("number", U64, "it"), False)])
+def test_a_word_that_hides_a_name_of_the_pipe(word, is_refused):
+    """One that is only read is read before the call answers."""
+    call = TABLE[0]._replace(name="some", parts=(word,))
+    if is_refused:
+        with pytest.raises(ValueError, match=f"^some: the pipe's program has a {word.name} of its"):
+            interface.pipe_call(call)
+    else:
+        assert interface.pipe_call(call).startswith("    let refused = arbiter_some(")

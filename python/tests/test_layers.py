@@ -2,7 +2,7 @@
 import ast
 import re
 
-from arbiter_host.subcommands import SUMMARIES
+from arbiter_host.subcommands import NAMES
 from places import PACKAGE
 
 # From the lowest on: the folders of the package, and its modules beside them.
@@ -79,7 +79,7 @@ def compared(path):
 def test_words_of_the_command_line_end_in_its_layer():
     """Below, no module asks which subcommand runs, and none takes what argparse makes."""
     assert [(name, word) for name, path in MODULES.items() if LAYER[head(name)] < len(LAYERS) - 1
-            for word in compared(path) if word in {*SUMMARIES, "argparse"}] == []
+            for word in compared(path) if word in {*NAMES, "argparse"}] == []
 
 
 def test_features_know_no_feature():
@@ -112,7 +112,7 @@ def test_page_has_the_folders():
 def test_rules_are_there():
     """Each function and test that a Python row of the rules names is in its file."""
     named = re.findall(r"`([\w/]+\.py):(\w+)`", PAGE[PAGE.index("## Rules"):])
-    assert len(named) >= 10
+    assert len(named) >= 8
     tests = (PACKAGE / "tests", PACKAGE.parent / "tests/kernel")
     for file, name in named:
         folders = tests if file.startswith("test_") else (PACKAGE / "arbiter_host",)

@@ -122,18 +122,18 @@ def test_forms_of_sources(ctl, sources, folder, kind):
     path = path_in(ctl, source)
     more = {"diff": ["--set", f"{path}.weight=3"], "tune": ["--goal", f"{path}=0.1"]}
     for subcommand in READING:
-        forms = [f"{form}={folder}/{subcommand}.{form}" for form in options.FORMS[subcommand]]
-        for outputs in (forms, [options.FORMS[subcommand][0]]):
+        forms = [f"{form}={folder}/{subcommand}.{form}" for form in options.forms(subcommand)]
+        for outputs in (forms, [options.forms(subcommand)[0]]):
             ended = ctl.ended(subcommand, *source, *more.get(subcommand, ()), *(
                 word for each in outputs for word in ("-o", each)))
             assert ended.returncode in (0, 1, 2, 6) and b"Traceback" not in ended.stderr
             assert raw(ended.stdout.decode() + ended.stderr.decode()) == [], outputs
     made = {path.name for path in folder.iterdir()}
     assert {f"{each}.{form}" for each in ("explain", "diff", "export")
-            for form in options.FORMS[each]} <= made
+            for form in options.forms(each)} <= made
     for file in folder.iterdir():
         assert raw(file.read_bytes().decode()) == [], file
-    for form in options.FORMS["export"]:
+    for form in options.forms("export"):
         assert json.loads(ctl.run("explain", "-o", "json", folder / f"export.{form}")[0])["groups"]
 
 
@@ -172,7 +172,7 @@ def check_forms_in_time(ctl, tree, folder):
     """Each form of what reads a tree more than once."""
     for words in (
             ["audit", tree, "--cpus", "2", "--read", "2x500ms", "-o", "text", *(
-                word for form in options.FORMS["audit"][1:]
+                word for form in options.forms("audit")[1:]
                 for word in ("-o", f"{form}={folder}/out/{form}"))],
             ["top", tree, "--cpus", "2", "--want", "busy", "--read", "2x50ms", "-o", "json", "-o",
              f"openmetrics={folder}/out/top", "--alert", "*:lack>1m", "--command", "cat"],
@@ -197,8 +197,8 @@ def test_forms_of_changes(ctl, sources, folder):
             *(["apply", *sources["pods"], "--set", "*nginx*.request=50m", "-o", f"{form}={folder}"]
               for form in ("kubectl", "dropin")),
             *(["replay", *sources["host"], "--used", used, "-o", form]
-              for form in options.FORMS["replay"]),
-            *(["place", node, "--pod", pods, "-o", form] for form in options.FORMS["place"]),
+              for form in options.forms("replay")),
+            *(["place", node, "--pod", pods, "-o", form] for form in options.forms("place")),
             ["explain", folder, "--pod", pods])):
         ended = ctl.ended(*words)
         assert b"Traceback" not in ended.stderr, (number, ended.stderr)

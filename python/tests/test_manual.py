@@ -15,12 +15,12 @@ import pytest
 import trees
 from arbiter_host import helps
 from arbiter_host import options
-from arbiter_host.subcommands import SUMMARIES, every
-from arbiter_pages import words
+from arbiter_host.subcommands import every, listed
+from arbiter_pages import manual, words
 from arbiter_pages.__main__ import SHARE, files
 from places import PACKAGE
 
-NAMES = list(SUMMARIES)
+NAMES = listed()
 BASH = SHARE / "completions/arbiterctl.bash"
 PROGRAM_BASH = SHARE / "completions/arbiter.bash"
 
@@ -87,8 +87,8 @@ def test_main_page(ctl):
     said = ctl.run("--help")[0]
     for each in every():
         assert each.name in said and each.summary.replace("`", "'")[1:] in page
-    assert tuple(helps.kinds()) == options.KINDS
-    for kind in helps.kinds():
+    assert tuple(manual.KINDS) == options.KINDS
+    for kind in manual.KINDS:
         assert f" {kind} " in page
 
 

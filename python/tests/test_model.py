@@ -7,6 +7,7 @@ from arbiter import Host, Row
 from arbiter_host.base.faults import HostFault
 from arbiter_host.base.model import Group, Model, checked, planned
 from arbiter_host.base.plan import Engine, plan
+from chances import cases
 from hypothesis import HealthCheck, given, settings
 from hypothesis import strategies as st
 
@@ -89,7 +90,7 @@ def models(draw):
     return model
 
 
-@settings(max_examples=60, deadline=None, suppress_health_check=list(HealthCheck))
+@settings(max_examples=cases(60), deadline=None, suppress_health_check=list(HealthCheck))
 @given(model=models())
 def test_reasons_hold(engine, model):
     """Each reason is true of the amounts."""

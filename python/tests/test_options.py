@@ -12,7 +12,7 @@ from arbiter_host.base.faults import UsageFault
 from arbiter_host.fleet import report
 from arbiter_host.sources import times
 from arbiter_host.sources.register import READERS
-from arbiter_host.subcommands import SUMMARIES
+from arbiter_host.subcommands import NAMES, Subcommand, listed
 
 FIXTURES = Path(__file__).parent / "fixtures"
 
@@ -33,11 +33,18 @@ def test_size():
 
 
 def test_rows_are_of_subcommands_that_are_there():
-    """Texts and defaults of a subcommand belong to one that has the option."""
-    for each in table.TABLE:
-        for words in (each.helps, each.defaults, each.kinds_of):
-            assert set(words) <= set(each.subcommands), each.name
-        assert set(each.kinds) <= set(table.ALL), each.name
+    """Texts, kinds and defaults of a subcommand belong to an option that it takes. Each option has
+    a text, and each word of a subcommand's file is read."""
+    assert [*table.texts("options")] == [each.dest for each in table.TABLE]
+    for name in NAMES:
+        said = table.texts(name)
+        assert set(said) <= {*Subcommand._fields, "order", "run", "forms", "takes", "options",
+                             "kinds", "choices", "defaults"} - {"name"}, name
+        assert {each.dest for each in table.of(name)} == set(said["takes"]), name
+        for own in ("options", "kinds", "choices", "defaults"):
+            assert set(said.get(own, ())) <= set(said["takes"]), name
+        assert all(set(each.kinds) <= set(table.ALL) for each in table.of(name)), name
+        assert ("output" in said["takes"]) == bool(table.forms(name)), name
 
 
 def test_words_are_those_of_what_they_choose():
@@ -45,8 +52,13 @@ def test_words_are_those_of_what_they_choose():
     assert set(table.STATES) == set(explain.ONLY) and set(table.SORTS) == set(explain.SORTS)
     assert set(table.UNITS) == set(text.UNIT_WORDS) and set(table.KINDS) == set(READERS)
     assert set(table.RANKS) == set(report.RULES) and table.WANTS == demands.WANTS
-    assert set(table.FORMS) <= set(SUMMARIES) and len(SUMMARIES) == 12
-    assert {each for option in table.TABLE for each in option.subcommands} == set(SUMMARIES)
+    assert {each.dest for name in NAMES for each in table.of(name)} == {
+        each.dest for each in table.TABLE}
+
+
+def test_each_subcommand_has_its_place():
+    """Twelve, in the order of the list."""
+    assert [table.texts(name)["order"] for name in listed()] == list(range(1, 13))
 
 
 def test_every_dest_has_its_value():
@@ -66,6 +78,8 @@ def test_every_dest_has_its_value():
     ("explain", ["--sort", "lack"], "hosts", "--sort: it has no effect on many hosts"),
     ("explain", ["-n", "prod"], "docker", "--namespace: it has no effect on "),
     ("explain", ["--used", "f"], "systemd", "--used: it has no effect on "),
+    ("explain", ["--used", "/"], "cgroup", "--used: it has no effect on "),
+    ("explain", ["--used", "/"], "script", "--used: it has no effect on "),
     ("explain", ["--range", "7d"], "kubernetes", "--range: it needs --used with a url"),
     ("recommend", ["--map", "a=b"], "docker", "--map: it needs --used with a file or folder or"),
 ])
@@ -94,6 +108,7 @@ def test_reading_once_takes_no_read(ctl, folder):
     ("explain", ["--node", "n1", "-n", "prod", "--node-weights", "log"], "kubernetes"),
     ("explain", ["--used", "http://127.0.0.1:9090", "--range", "7d"], "docker"),
     ("explain", ["--used", "/", "--read", "10x1s"], "kubernetes"),
+    ("explain", ["--used", "/", "--read", "10x1s"], "systemd"),
     ("explain", ["--read", "10x1s"], "cgroup"), ("top", ["--read", "x5s"], "toml"),
     ("replay", ["--used", "day.csv", "--step", "30m", "--map", "a=b"], "toml"),
     ("diff", ["--workers", "2", "--set", "web.weight=1"], "hosts"),

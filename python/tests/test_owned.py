@@ -18,6 +18,7 @@ from arbiter_host.base.plan import plan
 from arbiter_host.sources import change
 from arbiter_host.tune import single_settings
 from arbiter_host.tune.goals import Goals, goals_of
+from chances import cases
 from hypothesis import HealthCheck, given, settings
 from hypothesis import strategies as st
 
@@ -340,7 +341,7 @@ def nodes(draw):
     return json.dumps({"kind": "List", "items": [*pods, node]}).encode()
 
 
-@settings(max_examples=8, deadline=None,
+@settings(max_examples=cases(8), deadline=None,
           suppress_health_check=[HealthCheck.function_scoped_fixture])
 @given(data=nodes(), slices=st.integers(1, 60).map(lambda each: 10 * each))
 def test_no_lesser_request_reaches(engine, data, slices):

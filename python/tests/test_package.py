@@ -9,14 +9,14 @@ from pathlib import Path
 import arbiter
 import arbiter_host
 import pytest
-from arbiter_host.subcommands import SUMMARIES
+from arbiter_host.subcommands import listed
 from places import PACKAGE
 
 FOLDERS = ("arbiter", "arbiter_host", "arbiter_pages")
 SOURCES = [path for folder in FOLDERS for path in sorted((PACKAGE / folder).rglob("*.py"))]
 SOURCES.append(PACKAGE / "arbiterctl")
 TESTS = sorted((PACKAGE / "tests").glob("*.py"))
-SUBCOMMANDS = list(SUMMARIES)
+SUBCOMMANDS = listed()
 MOST_LINES, MOST_COLUMNS = 40, 100
 
 

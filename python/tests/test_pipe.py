@@ -8,6 +8,7 @@ import shutil
 import signal
 import subprocess
 import sys
+import threading
 from array import array
 
 import arbiter
@@ -21,15 +22,22 @@ HOSTS = (Host(), Host(2, 100000, 1000), Host(64, 1000000, 1000), Host(3, 20000, 
 NO_HOSTS = (Host(0), Host(65), Host(1, 999, 1000), Host(1, 100000, 3000), Host(1, 100000, 0))
 # What no call is: they hold, make or read what the calls answer.
 NO_CALLS = {"call", "host", "ask", "ask_host", "refused", "of_rows", "of_group", "of_host",
-            "is_proved"}
+            "is_proved", "told"}
 MOST = 2**64 - 1
+# Seconds in which a busy machine compiles the checked build.
+COMPILED = 1800
 
 
 @pytest.fixture(scope="module")
-def command():
-    """The words that run the checked build. It is compiled unless this user has kept it."""
+def kit():
+    """The kit, which compiles."""
     if not shutil.which("rt"):
         pytest.skip("the checked build needs the Rattle kit")
+
+
+@pytest.fixture(scope="module")
+def command(kit):
+    """The words that run the checked build. It is compiled unless this user has kept it."""
     words = found.checked()
     assert words, "no checked build of the calls"
     return words
@@ -115,6 +123,26 @@ def of_tree(library, host, rows, chance):
         yield call, (host, rows, group, amount)
 
 
+def of_owned():
+    """Each call about what owners set, with its words."""
+    for formula in arbiter.WeightFormula:
+        yield from (("owned_weight", (formula, number))
+                    for number in (0, 1, 2, 3, 100, 1024, 10000, 262144, MOST))
+        yield from (("least_owned", (formula, weight)) for weight in (0, 1, 2, 100, 10000, 10001))
+        yield from (("owned_number", (formula, request)) for request in (0, 1, 1000, 10**6, MOST))
+    yield from (("owned_limit", (formula, number, period)) for formula in arbiter.LimitFormula
+                for number in (0, 1, 500, 10**9, MOST) for period in (0, 999, 100000, 10**7))
+    for kinds, amounts in (((), ()), ((1, 2, 0), (500, 100, 200)), ((1,), (1, 2)),
+                           ((0, 0), (MOST, 1))):
+        yield "pod_amount", (kinds, amounts)
+        yield from (("greatest_part", (kinds, amounts, part, room)) for part in (0, 2)
+                    for room in (0, 500, MOST))
+    yield from (("allowed", (50000, period, 7, passed)) for period in (0, 100000)
+                for passed in (0, 3001, MOST))
+    yield from (("lost", ((90, 100), (used, planned))) for used in (84, 85, MOST)
+                for planned in (0, 100))
+
+
 def of_no_tree():
     """Each other call, with its words."""
     text = (EXAMPLES / "two-groups.certified").read_bytes()
@@ -141,6 +169,7 @@ def of_no_tree():
                     (b"", b"\n",
                      b"mkdir a\nmkdir a\nwrite a cpu.max 5000 100000\ndemand a 7\nperiod",
                      b"mkdir \xc3\xa4\n\xff\nno\n" + b"x" * 5000))
+    yield from of_owned()
     yield from (("weight_of_shares", (shares, conversion))
                 for conversion in arbiter.library.CONVERSIONS
                 for shares in (0, 1, 2, 3, 512, 1023, 1024, 1025, 262143, 262144, MOST))
@@ -238,7 +267,11 @@ def test_the_process_ends_with_its_calls(command):
     with concurrent.futures.ProcessPoolExecutor(1, multiprocessing.get_context("fork")) as pool:
         assert pool.submit(os.getpid).result(60) != os.getpid()
     assert process.poll() is None and calls.arbiter_weight_of_shares(1024, 2) == 100
+    last = [calls]
     del calls
+    ended = threading.Thread(target=last.clear, daemon=True)
+    ended.start()
+    ended.join(60)
     assert process.returncode == -signal.SIGKILL
     said = subprocess.run([sys.executable, "-c", "import sys; from arbiter import pipe\n"
                            "print(pipe.Calls(sys.argv[1:]).process().pid)\n"
@@ -272,7 +305,7 @@ def test_what_is_no_call(command, line):
 
 
 @pytest.fixture(scope="module")
-def clone(tmp_path_factory, command):
+def clone(tmp_path_factory, kit):
     """The sources of this clone alone, as a fresh one has them: nothing is built."""
     top = tmp_path_factory.mktemp("clone")
     for name in ("python", "scripts", "crates", "examples"):
@@ -288,7 +321,7 @@ def run_in(clone, *words):
     environment = {key: word for key, word in os.environ.items() if key != "ARBITER_LIBRARY"}
     ended = subprocess.run([sys.executable, "python/arbiterctl", *words], cwd=clone,
                            env={**environment, "LC_ALL": "C", "COLUMNS": "120"},
-                           capture_output=True, timeout=300, check=False)
+                           capture_output=True, timeout=COMPILED, check=False)
     return ended.returncode, ended.stdout.decode(), ended.stderr.decode()
 
 

@@ -12,6 +12,7 @@ from arbiter_host.base import plain_files, svg
 from arbiter_host.base.faults import HostFault
 from arbiter_host.base.model import Group, Model
 from arbiter_host.sources import samples
+from chances import cases
 from hypothesis import HealthCheck, given, settings
 from hypothesis import strategies as st
 from places import PACKAGE
@@ -57,7 +58,7 @@ def test_the_length_of_a_sample(ctl):
     assert at["06:00"]["bursts"] > 0 and at["07:00"]["bursts"] == 0
 
 
-@settings(max_examples=30, deadline=None, suppress_health_check=list(HealthCheck))
+@settings(max_examples=cases(30), deadline=None, suppress_health_check=list(HealthCheck))
 @given(quota=st.integers(1, 30), burst=st.integers(0, 30), before=st.integers(0, 40),
        after=st.integers(0, 40), periods=st.integers(1, 60))
 def test_repeated_periods_are_periods(engine, quota, burst, before, after, periods):
@@ -81,19 +82,23 @@ def test_repeated_periods_are_periods(engine, quota, burst, before, after, perio
             assert cell.limit == sum(each.limit for each in part)
 
 
-def test_a_row_at_a_time_is_the_form_of_tables(engine):
-    """A limit and none, names that are escaped and quoted, amounts of several periods."""
+def test_samples_as_csv():
+    """A limit and none, names that are escaped and quoted, amounts as means of three periods."""
     cells = [series.SampleCell(at, 2 * at, None if at % 2 else 9, 3, at, 0, 1, 0, 5)
              for at in range(4)]
     found = series.Series(["a,b", "x\x1b", "1", "-"], {"g/\u202e": cells, ".": cells[::-1]},
-                          Host(2, 100000, 7000))
-    for unit in ("cpu", "m", "%", "us", "slices"):
-        table = series.records(found, unit)
-        assert series.csv_of(table) == table.csv()
-    rows = rows_of(series.csv_of(series.records(found, "us")))
-    # (a mean of three periods of 7000 microseconds)
-    assert [(each["gets"], each["limit"]) for each in rows[:4:2]] == [("0", "21000"),
-                                                                      ("2333.3", "")]
+                          Host(2, 100000, 5000))
+    assert series.records(found, "slices").csv() == (
+        "sample,group,gets,wants,limit,periods,throttled,throttled_not_by_limit,bursts,starved,"
+        "withheld_usec\n"
+        '"a,b",g/\\u202e,0,0,3,3,0,0,1,0,5\n"a,b",.,1,2,,3,3,0,1,0,5\n'
+        "x\\x1b,g/\\u202e,0.3,0.7,,3,1,0,1,0,5\nx\\x1b,.,0.7,1.3,3,3,2,0,1,0,5\n"
+        "1,g/\\u202e,0.7,1.3,3,3,2,0,1,0,5\n1,.,0.3,0.7,,3,1,0,1,0,5\n"
+        "-,g/\\u202e,1,2,,3,3,0,1,0,5\n-,.,0,0,3,3,0,0,1,0,5\n")
+    rows = rows_of(series.records(found, "us").csv())
+    # (a mean of three periods, in slices of 5000 microseconds)
+    assert [(each["gets"], each["limit"]) for each in rows[:4:2]] == [("0", "15000"),
+                                                                      ("1666.7", "")]
 
 
 def demands_of(data, path="f.csv"):

@@ -9,6 +9,7 @@ from arbiter_host.base import units
 from arbiter_host.base.model import Group, Model
 from arbiter_host.base.plan import guarantees, plan
 from arbiter_host.tune import single_settings, tune
+from chances import cases
 from hypothesis import HealthCheck, given, settings
 from hypothesis import strategies as st
 
@@ -101,7 +102,7 @@ def models(draw):
     return model
 
 
-SOME = settings(max_examples=40, deadline=None,
+SOME = settings(max_examples=cases(40), deadline=None,
                 suppress_health_check=[HealthCheck.function_scoped_fixture])
 
 

@@ -18,6 +18,7 @@ from arbiter_host.base.faults import HostFault
 from arbiter_host.base.model import Group, Model
 from arbiter_host.base.plan import plan
 from arbiter_host.sources import cgroups, hostfile, kubernetes, readings, script
+from chances import cases
 from hypothesis import HealthCheck, given, settings
 from hypothesis import strategies as st
 from places import PACKAGE
@@ -82,7 +83,7 @@ def answered(program, text):
     return refused, [line.split(" ")[:5] for line in found[1:]]
 
 
-@settings(max_examples=150, deadline=None, suppress_health_check=list(HealthCheck))
+@settings(max_examples=cases(150), deadline=None, suppress_health_check=list(HealthCheck))
 @given(text=scripts())
 def test_script_is_read_as_the_program_reads_it(program, engine, text):
     """The same refused lines by the same numbers, and the same rows and amounts at the end."""
@@ -207,7 +208,7 @@ def same_model(engine, one, two):
         path: (of(each), each.burst) for path, each in two.groups.items()}
 
 
-@settings(max_examples=80, deadline=None)
+@settings(max_examples=cases(80), deadline=None)
 @given(model=models())
 def test_script_round_trip(model, engine):
     read = reading.lines(script.write(model, engine.library).encode(), "F", engine)
@@ -217,7 +218,7 @@ def test_script_round_trip(model, engine):
 
 @pytest.mark.parametrize("kind, writer", [
     ("toml", hostfile.write_toml), ("json", hostfile.write_json)])
-@settings(max_examples=60, deadline=None)
+@settings(max_examples=cases(60), deadline=None)
 @given(model=models())
 def test_host_file_round_trip(engine, kind, writer, model):
     same_model(engine, model, reading.host_file(writer(model).encode(), "F", kind))
@@ -494,13 +495,16 @@ def test_files_of_powershell(ctl, folder, form):
 
 
 def test_what_is_no_source_has_no_plan(ctl):
-    """A table that kubectl prints is no script of a host without groups, unless it is called one.
-    """
+    """Lines that no source has are no script of a host without groups, unless they are called one.
+    A table that kubectl prints is told by its name."""
     given = b"NAMESPACE   NAME\nkube-system coredns\n"
+    out, err = ctl.run("explain", "-", given=given, status=1)
+    assert out == "" and err.endswith("arbiterctl: -: a table: kubectl prints JSON by -o json\n")
+    given = b"namespace name\nkube-system coredns\n"
     out, err = ctl.run("explain", "-", given=given, status=1)
     assert out == "" and err.endswith(
         "arbiterctl: -: no source that is known (--help names them): as a script it has 2 refused"
-        " lines and no group, the first: -:1: error 80 BadCommand: NAMESPACE   NAME\n")
+        " lines and no group, the first: -:1: error 80 BadCommand: namespace name\n")
     assert "0.00 of 1.00 CPUs" in ctl.run("explain", "-", "--from", "script", given=given)[0]
     assert "0.00 of 1.00 CPUs" in ctl.run("explain", "-", given=b"# none\n")[0]
 
@@ -609,10 +613,11 @@ def test_pods_by_cgroupfs(engine):
 def test_quality_without_a_status():
     """kubelet's rule gives the same classes as the status."""
     found = json.loads(fixture("pods.json")[1])
-    wanted = [kubernetes.pod_of(each, []).quality for each in found["items"]]
+    wanted = [kubernetes.pod_of(each, reading.Planner(), []).quality for each in found["items"]]
     for each in found["items"]:
         del each["status"]["qosClass"]
-    assert [kubernetes.pod_of(each, []).quality for each in found["items"]] == wanted
+    assert [kubernetes.pod_of(each, reading.Planner(), []).quality
+            for each in found["items"]] == wanted
 
 
 def resources(request=None, limit=None, memory=None):
@@ -649,7 +654,7 @@ def test_limits_of_a_pod_itself(engine):
 ])
 def test_quality_of_pods_with_amounts_of_their_own(own, container, wanted):
     found = {"metadata": {"name": "p"}, "spec": {**own, "containers": [{"name": "c", **container}]}}
-    assert kubernetes.pod_of(found, []).quality == wanted
+    assert kubernetes.pod_of(found, reading.Planner(), []).quality == wanted
 
 
 @pytest.mark.parametrize("policy, state, is_there", [
@@ -698,7 +703,7 @@ def test_static_pods_stand_by_the_identifier_of_kubelet(engine):
     assert model.groups["kubepods/burstable/kube-system:etcd-n1"].place == (
         "kubepods.slice/kubepods-burstable.slice/kubepods-burstable-pod7c9f.slice")
     del found["metadata"]["annotations"]["kubernetes.io/config.mirror"]
-    assert kubernetes.pod_of(found, []).uid == "0a-1b"
+    assert kubernetes.pod_of(found, reading.Planner(), []).uid == "0a-1b"
 
 
 def member(limit, is_sidecar=False):
@@ -721,12 +726,14 @@ def member(limit, is_sidecar=False):
 def test_limits_of_pods_with_init_containers(begin, own, wanted):
     """kubelet's rule for `cpu.max` of a pod whose one container has a limit of 1000m."""
     spec = {"initContainers": begin, "containers": [member("1")], "resources": own}
-    assert kubernetes.pod_of({"metadata": {"name": "p"}, "spec": spec}, []).amounts.limit == wanted
+    pod = {"metadata": {"name": "p"}, "spec": spec}
+    assert kubernetes.pod_of(pod, reading.Planner(), []).amounts.limit == wanted
 
 
 def test_no_sidecar_covers_a_container():
     spec = {"initContainers": [member("200m", True)], "containers": [member("1"), member(None)]}
-    assert kubernetes.pod_of({"metadata": {"name": "p"}, "spec": spec}, []).amounts.limit is None
+    pod = {"metadata": {"name": "p"}, "spec": spec}
+    assert kubernetes.pod_of(pod, reading.Planner(), []).amounts.limit is None
 
 
 def test_pods_of_several_nodes(engine):
@@ -836,16 +843,16 @@ def test_memory_is_compared_as_kubelet_does(request_, limit, wanted):
     memory = {"requests": {**found, **({} if request_ is None else {"memory": request_})},
               "limits": {**found, "memory": limit}}
     pod = {"metadata": {"name": "p"}, "spec": {"containers": [{"name": "c", "resources": memory}]}}
-    assert kubernetes.pod_of(pod, []).quality == wanted
+    assert kubernetes.pod_of(pod, reading.Planner(), []).quality == wanted
 
 
 def test_a_request_of_no_memory():
     pod = {"metadata": {"name": "p"}, "spec": {"containers": [
         {"name": "c", "resources": {"requests": {"memory": "0"}}}]}}
-    assert kubernetes.pod_of(pod, []).quality == "BestEffort"
+    assert kubernetes.pod_of(pod, reading.Planner(), []).quality == "BestEffort"
     pod["spec"]["containers"][0]["resources"] = {"limits": {"memory": "lots"}}
     with pytest.raises(HostFault, match="default/p: 'lots' is no quantity of memory"):
-        kubernetes.pod_of(pod, [])
+        kubernetes.pod_of(pod, reading.Planner(), [])
 
 
 @pytest.mark.parametrize("item, words", [

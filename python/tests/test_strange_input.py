@@ -163,3 +163,57 @@ def test_a_part_that_is_no_amount_is_no_part_of_a_sum():
     with pytest.raises(HostFault, match="'.Inf' is no number"):
         list(history.demands("cpu", FOUR))
     assert dict(history.samples[1].cells) == {"p": "1"}
+
+
+# Lists in lists, and amounts that nobody can mean
+
+def listed(*each):
+    return {"kind": "List", "apiVersion": "v1", "items": list(each)}
+
+
+def test_lists_in_a_list_are_one():
+    """As `jq -s` puts what kubectl prints in turn, and as an API server has lists of one kind."""
+    one, two = node(4, 4000), pod("a", ("1", None))
+    bare = {key: each for key, each in two.items() if key != "kind"}
+    for content in ([listed(one), listed(two)], [[one], [two]], listed(listed(one), listed(two)),
+                    listed({"kind": "NodeList", "items": [one]},
+                           {"kind": "PodList", "items": [bare]})):
+        model = reading.pods([("p", json.dumps(content).encode())], FOUR, None)
+        assert "kubepods/burstable/n:a/c0" in model.groups and model.notes == []
+    with pytest.raises(HostFault, match="^p: item 1: item 1 is a list in a list of lists: jq -s "):
+        reading.pods([("p", json.dumps([[[two]]]).encode())], FOUR, None)
+
+
+def test_lists_of_containers_in_a_list():
+    """As `jq -s` puts what `docker inspect` prints of one container after the other."""
+    raw = [{"Id": name * 64, "Name": f"/{name}", "HostConfig": {}} for name in "12"]
+    model = reading.docker([("d", json.dumps([[each] for each in raw]).encode())], FOUR, None)
+    assert list(model.groups) == ["system.slice", "system.slice/1", "system.slice/2"]
+    with pytest.raises(HostFault, match="^d: no containers as `docker inspect` prints them$"):
+        reading.docker([("d", b"[[[]]]")], FOUR, None)
+
+
+def test_a_list_of_metrics_beside_pods():
+    """As metrics-server has it: the items of a list need not say what they are."""
+    used = {"kind": "PodMetricsList", "apiVersion": "metrics.k8s.io/v1beta1", "items": [
+        {"metadata": {"namespace": "n", "name": "a"},
+         "containers": [{"name": "c0", "usage": {"cpu": "123m"}}]}]}
+    files = [("p", items(node(4, 4000), pod("a", ("1", None)))), ("m", json.dumps(used).encode())]
+    model = reading.pods(files, FOUR, None, want="usage")
+    assert model.groups["kubepods/burstable/n:a/c0"].demand == 123
+
+
+@pytest.mark.parametrize("request_, limit, is_told", [
+    ("700m", "500m", True), ("500m", "500m", False), ("501m", "0.5", True), ("1", None, False)])
+def test_a_request_above_its_limit(request_, limit, is_told):
+    """Kubernetes takes no such pod; a file that a hand wrote may have one."""
+    model = reading.pods([("p", items(node(4, 4000), pod("a", (request_, limit))))], FOUR, None)
+    words = f"n/a/c0: its request {request_} is above its limit 500m, which Kubernetes refuses"
+    assert model.notes == ([words] if is_told else [])
+
+
+@pytest.mark.parametrize("value", ['"0"', "0", '"0m"', "0.0", '"0%"'])
+def test_a_limit_of_nothing(value):
+    """Docker has 0 for no limit. Here it would stop the group."""
+    with pytest.raises(HostFault, match='^F: a: max: .*0.* would stop it: "max" is no limit$'):
+        reading.host_file(f"[groups.a]\nmax = {value}\n".encode())

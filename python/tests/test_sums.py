@@ -11,6 +11,11 @@ from fractions import Fraction
 
 import pytest
 import trees
+from arbiter import Host
+from arbiter_host.audit import answer, intervals
+from arbiter_host.audit.intervals import Interval
+from arbiter_host.base.model import Group, Model
+from test_audit import cell
 from test_cluster import cluster, node, pending, running
 from test_figures import random_node
 
@@ -150,6 +155,64 @@ def test_a_change_of_many_hosts(ctl, seed):
     fleet = found["fleet"]
     assert abs(Fraction(str(fleet["after_cpus"])) - Fraction(str(fleet["before_cpus"])) - rise
                ) < Fraction(1, 10**5)
+
+
+@pytest.mark.parametrize("seed", range(2))
+def test_hosts_for_a_pod(ctl, folder, seed):
+    """Hosts that take a pod, and those that cannot, are all. The ones that are whole are counted by
+    rows. Each has left what all get less than its capacity."""
+    items, page = random_cluster(random.Random(seed)), folder / "page"
+    (folder / "c.json").write_bytes(cluster(*items))
+    (folder / "pod.json").write_text(json.dumps(pending("new", "700m")))
+    text, _ = ctl.run("place", folder / "c.json", "--pod", folder / "pod.json", "--workers", "0",
+                      "--want", "busy", "--all", "-o", "text", "-o", f"json={folder / 'data'}",
+                      "-o", f"html={page}")
+    hosts = json.loads((folder / "data").read_text())["hosts"]
+    pods = {each["host"]: each["pods"][0] for each in hosts}
+    taken = {host: each for host, each in pods.items() if "why" not in each}
+    whole, of = map(int, re.search("loss to others: ([0-9]+) of ([0-9]+)", text).groups())
+    cannot = re.search("that cannot take it: ([0-9]+)", text)
+    assert of == len(hosts) == len(taken) + int(cannot[1] if cannot else 0)
+    assert whole == sum(each["gets"] == each["wants"] and not each["lost"]
+                        for each in taken.values())
+    for each in hosts:
+        if each["host"] in taken:
+            pod = taken[each["host"]]
+            served = each["before"]["served"] + pod["gets"] - pod["lost"]
+            assert pod["left"] == each["capacity"] - served
+            assert pod["lost"] == sum(by for _, by in pod["losers"]) or pod["losing"] > 5
+    title = f"Where {folder / 'pod.json'} would go, the best first"
+    rows = {row[0]: row[1:4] for row in table(text, title)[1:]}
+    assert {host: [f"{each[key] * 1e-3:.2f}" for key in ("gets", "wants", "lost")]
+            for host, each in taken.items()} == rows
+    on_page = [row for row in cells(page.read_text(), title) if row.get("gets")]
+    assert [[row[key] for key in ("gets", "wants", "others lose")] for row in on_page] == [
+        *rows.values()]
+
+
+@pytest.mark.parametrize("seed", range(3))
+def test_groups_of_an_audit(engine, seed):
+    """What rows used and were planned, as means, is what the bars of the page say."""
+    chance, model = random.Random(seed), Model(Host(8, 1000000, 1000))
+    names = [f"g{at}" for at in range(chance.randint(2, 9))]
+    for name in names:
+        model.add(Group(name))
+    found = [Interval(f"{at} s", Fraction(1), model, {
+        name: cell(chance.randint(0, 900), chance.randint(0, 900)) for name in names}, {}, None)
+             for at in range(4)]
+    audit = answer.ranked(intervals.Audit(found, intervals.plan(engine, model)))
+    page, rows = answer.page(audit, "x"), answer.answer(audit)
+    said = dict(re.findall("<dt>(planned|used)</dt><dd>(.*?)</dd>", page))
+    for key, column in (("plan", "planned"), ("used", "used")):
+        exact = sum((getattr(each.cells[name], column) for each in found for name in names),
+                    Fraction(0)) / 4000
+        assert abs(Fraction(said[column]) - exact) <= Fraction(1, 2000)
+        shown = [Fraction(row[key]) for row in cells(page) if row.get(key)]
+        assert len(shown) == len(names)
+        assert abs(sum(shown) - exact) <= Fraction(len(names), 2000)
+        data = sum(each["mean"][f"{key}_cpus"] for each in json.loads(rows.forms()["json"]())[
+            "groups"])
+        assert abs(data - float(exact)) < 1e-5
 
 
 # The true node

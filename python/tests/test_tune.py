@@ -23,6 +23,7 @@ from arbiter_host.sources import change, kubernetes, selection
 from arbiter_host.tune import (goals as goals_, other_limits, single_settings, tune, tune_settings,
                                tune_weights)
 from arbiter_host.tune.goals import Clash
+from chances import cases
 from hypothesis import HealthCheck, given, settings
 from hypothesis import strategies as st
 
@@ -127,8 +128,7 @@ def test_goals_that_cannot_be_met(ctl, folder):
     assert found["conflict"] == {"group": ".", "together": ["a", "b"], "asked_millicpu": 1200,
                                  "served_millicpu": 1000}
     out, _ = ctl.run("tune", three(folder), "--goal", "a=600m", "--goal", "b=600m", status=6)
-    assert ("no raise of weights that may change meets these goals together by today's demands"
-            ) in out
+    assert "no weights that may change meet these goals together by today's demands" in out
     assert "asked for in all: 1.20; served in all: 1.00" in out
 
 
@@ -139,8 +139,8 @@ def test_goals_that_clash_in_a_group(ctl, folder):
              "--set", "sys.max=400m"]
     out, _ = ctl.run("tune", deep(folder), *words, status=6)
     lines = [line.split() for line in out.split("\n")]
-    assert ("no raise of weights that may change meets these goals together in sys by today's"
-            " demands, in CPUs" in out)
+    assert ("no weights that may change meet these goals together in sys by today's demands, in"
+            " CPUs" in out)
     assert ["0.30", "0.40", "2.00", "sys"] in lines and "user" not in out
     assert "asked for in all: 0.45; sys can be given 0.40 at most" in out
     found = json.loads(ctl.run("tune", deep(folder), *words, "-o", "json", status=6)[0])
@@ -152,7 +152,7 @@ def test_more_than_is_asked(ctl, folder):
     """No weight gives a group more than it asks for, and a line says so."""
     out, _ = ctl.run("tune", host_file(folder, ("a", 100, 300), ("b", 100, 300)), "--goal",
                      "a=400m", status=6)
-    assert "no raise of weights that may change meets this goal by today's demands, in CPUs" in out
+    assert "no weights that may change meet this goal by today's demands, in CPUs" in out
     assert "asked for in all: 0.40; a can be given 0.30 at most" in out
     assert "a asks for less: no setting gives it more than it asks for" in out
 
@@ -230,6 +230,50 @@ def test_less_weight(ctl, folder):
         [950, 50], LOWER_HALF)
 
 
+def farm(folder, bg, runner):
+    """8 CPUs of 20 slices each, of which one group and four runners want all."""
+    return host_file(folder, ("bg", bg, 8000), *((f"r{at}", runner, 8000) for at in range(4)),
+                     cpus=8)
+
+
+def test_a_weight_beside_the_goals(ctl, folder):
+    """Four runners have all 160 slices where slice 40 of each, 79/w, costs less than bg's first,
+    1/v. With 10000 that is so up to 126, and with 126 from 9955 on.
+
+    With 10000 each has 38 where that slice, 75/10000, costs less than bg's slice 9, 17/v: 2266.
+    """
+    found = asked(ctl, farm(folder, 200, 100), "r*=2cpu")
+    assert changes(found["weights"]) == {"bg": ("200", "126"), **{
+        f"r{at}": ("100", "9955") for at in range(4)}}
+    assert found["weights"]["told"] == tune_weights.LEVEL
+    found = asked(ctl, farm(folder, 10000, 10000), "r*=1900m")
+    assert changes(found["weights"]) == {"bg": ("10000", "2266")}
+    assert found["weights"]["then_millicpu"] == [1900] * 4
+
+
+def test_weights_beside_groups_above_come_last(ctl, folder):
+    """sys stays. web has 60 slices of it where sys has 60: its slice 60 costs 119/100, and user's
+    slice 41 81/68. Then web's slice 60 costs 119/w, and db's first 1/68: 8092.
+
+    A goal that db's weight alone meets lowers that of no other: web's slice 40 costs 79/100, and
+    db's slice 11 21/v.
+    """
+    words = ["-g", "sys/*", "-g", "user"]
+    found = asked(ctl, deep(folder), "web=600m", words=words)
+    assert changes(found["weights"]) == {"sys/web": ("100", "8092"), "sys/db": ("100", "68"),
+                                         "user": ("100", "68")}
+    found = asked(ctl, deep(folder), "web=400m", words=["-g", "db", "-g", "user"])
+    assert changes(found["weights"]) == {"sys/db": ("100", "26")}
+
+
+def test_a_quota_is_no_weight_of_others(ctl, folder):
+    """b is lowered first: a's slice 90 costs 179/100, and b's slice 11 21/v, more up to 11."""
+    (folder / "u.show").write_text(unit("a.service", "[not set]") + unit("b.service", 200))
+    found = asked(ctl, folder / "u.show", "a.service=900m", words=["--cpus", "1", "-g", "b.*"])
+    assert changes(found["settings"]) == {"b.service": ("200", "11")}
+    assert found["settings"]["set"] == ["b.service.CPUWeight=11"]
+
+
 def test_others_keep_half(ctl, folder):
     """user keeps 25 of 50 slices, and db 13 of 25.
 
@@ -295,7 +339,7 @@ def test_groups_that_may_not_change(ctl, folder):
     """Beside db no weight gives web all 60 slices of sys, whose own weight stays."""
     out, _ = ctl.run("tune", deep(folder), "--goal", "web=600m", "-g", "sys/*",
                      status=6)
-    assert "no raise of weights that may change meets this goal by today's demands" in out
+    assert "no weights that may change meet this goal by today's demands" in out
     assert "nor were limits of other groups found with which they are met" in out
     assert "the settings of sys stay as they are (-g)" in out
 
@@ -330,44 +374,48 @@ def limits(found):
 
 
 def test_a_limit_of_another_group(ctl, folder):
-    """a has 18 of 20 slices where b has 2. Its own limit of 500m is lowered, too."""
-    found = asked(ctl, two(folder), "a=900m", words=["-g", "b"])
+    """a has 18 of 20 slices where b has 2. Its own limit of 500m is lowered, too.
+
+    a's weight of 1 stays. So it has 10 where b weighs least.
+    """
+    source = two(folder, a=1)
+    found = asked(ctl, source, "a=900m", words=["-g", "b"])
     assert limits(found) == {("b", "max"): ("-", "100m")}
     assert found["limits"]["set"] == ["b.max=100m"]
     assert found["limits"]["then_millicpu"] == [900]
-    assert found["limits"]["pays"] == [{"group": "b", "millicpu": 550}]
+    assert found["limits"]["pays"] == [{"group": "b", "millicpu": 900}]
     words = ["-g", "b", "--set", "b.max=500m"]
-    assert limits(asked(ctl, two(folder), "a=900m", words=words)) == {("b", "max"): (
-        "500m", "100m")}
-    out, _ = ctl.run("tune", two(folder), "--goal", "a=900m", "-g", "b")
+    assert limits(asked(ctl, source, "a=900m", words=words)) == {("b", "max"): ("500m", "100m")}
+    out, _ = ctl.run("tune", source, "--goal", "a=900m", "-g", "b")
     assert ["max", "-", "100m", "b"] in [line.split() for line in out.split("\n")]
 
 
 def test_limits_are_at_one_level(ctl, folder):
     """a has 11 of 20 slices where b and c have 4 each, and d the 1 that it asks for.
 
-    Where b keeps all it has, even the greatest weight gives a 9.
+    a's weight of 1 stays. So it has 7 where they weigh least. Where b keeps all, c has none.
     """
-    source = host_file(folder, ("a", 100, 1000), ("b", 10000, 1000), ("c", 10000, 1000),
+    source = host_file(folder, ("a", 1, 1000), ("b", 10000, 1000), ("c", 10000, 1000),
                        ("d", 10000, 50))
-    assert limits(asked(ctl, source, "a=550m")) == {("b", "max"): ("-", "200m"),
-                                                    ("c", "max"): ("-", "200m")}
-    assert not asked(ctl, source, "a=550m", words=["-g", "a", "-g", "c", "-g", "d"])["met"]
+    kept = ["-g", "c", "-g", "d"]
+    assert limits(asked(ctl, source, "a=550m", words=["-g", "b", *kept])) == {
+        ("b", "max"): ("-", "200m"), ("c", "max"): ("-", "200m")}
+    assert not asked(ctl, source, "a=550m", words=kept)["met"]
 
 
 def test_each_limit_is_as_high_as_the_level(ctl, folder):
     """a has 4 of 20 slices, and 8 where b and c have 6 each.
 
-    In the other host b, c and d have 7, 7 and 6, and 5 each where a has 5.
+    In the other host b, c and d have 7, 7 and 6, and 4 each where a has 8.
     """
     source = host_file(folder, ("a", 1, 1000), ("b", 10000, 400), ("c", 10000, 400))
     assert limits(asked(ctl, source, "a=400m", words=["-g", "b", "-g", "c"])) == {
         (path, "max"): ("-", "300m") for path in "bc"}
     source = host_file(folder, ("a", 1, 1000), ("b", 10000, 400), ("c", 10000, 1000),
                        ("d", 10000, 1000))
-    assert limits(asked(ctl, source, "a=250m",
+    assert limits(asked(ctl, source, "a=400m",
                         words=["-g", "b", "-g", "c", "-g", "d"])) == {
-        (path, "max"): ("-", "250m") for path in "bcd"}
+        (path, "max"): ("-", "200m") for path in "bcd"}
 
 
 def test_limits_of_a_long_period(ctl, folder):
@@ -380,29 +428,36 @@ def test_limits_of_a_long_period(ctl, folder):
     source.write_text("# arbiter run --processors 1 --period 1000000 --slice 1000\n" + "".join(
         f"mkdir {path}\nwrite {path} cpu.weight {weight}\ndemand {path} 1000\n"
         for path, weight in (("a", 1), ("b", 10000), ("c", 10000))))
-    assert limits(asked(ctl, source, "a=990m")) == {(path, "max"): ("-", "5000 1000000")
-                                                    for path in "bc"}
-    assert limits(asked(ctl, source, "a=998m")) == {(path, "max"): ("-", "1000 1000000")
-                                                    for path in "bc"}
-    assert not asked(ctl, source, "a=999m")["met"]
+    words = ["-g", "b", "-g", "c"]
+    assert limits(asked(ctl, source, "a=990m", words=words)) == {
+        (path, "max"): ("-", "5000 1000000") for path in "bc"}
+    assert limits(asked(ctl, source, "a=998m", words=words)) == {
+        (path, "max"): ("-", "1000 1000000") for path in "bc"}
+    assert not asked(ctl, source, "a=999m", words=words)["met"]
 
 
 def test_limits_and_weights(ctl, folder):
-    """12 and 7 leave c one slice. Then a's slice 12 costs 23/w, and b's slice 8 15/100: 154."""
-    source = host_file(folder, ("a", 100, 1000), ("b", 100, 1000), ("c", 10000, 1000))
-    assert limits(asked(ctl, source, "a=600m", "b=350m")) == {
-        ("c", "max"): ("-", "50m"), ("a", "weight"): ("100", "154")}
+    """12 and 7 leave c one slice. a's weight of 7 stays, and its slice 12 costs 23/7.
+
+    With the least weight c's slice 2 costs 3, so its limit is lowered. Then b's slice 7 costs 13/4,
+    before a's slice 13, 25/7.
+    """
+    source = host_file(folder, ("a", 7, 1000), ("b", 1, 1000), ("c", 10000, 1000))
+    assert limits(asked(ctl, source, "a=600m", "b=350m", words=["-g", "b", "-g", "c"])) == {
+        ("c", "max"): ("-", "50m"), ("b", "weight"): ("1", "4")}
 
 
 def test_limits_beside_a_group_that_is_kept(ctl, folder):
-    """web has 60 of the 80 slices of sys where user and db have 20 each."""
-    found = asked(ctl, deep(folder), "web=600m", words=["-g", "sys/*", "-g", "user"])
+    """web has 60 of the 80 slices of sys where user and db have 20 each. sys weighs least."""
+    source = host_file(folder, ("sys", 1, 0), ("sys/web", 100, 1000), ("sys/db", 100, 1000),
+                       ("user", 100, 1000), slice_="1ms")
+    found = asked(ctl, source, "web=600m", words=["-g", "sys/*", "-g", "user"])
     assert limits(found) == {("user", "max"): ("-", "200m"), ("sys/db", "max"): ("-", "200m")}
 
 
 def test_limits_whatever_the_others_ask_for(ctl, folder):
     """c asks for nothing now. Its limit of 1 slice is what it could ask for."""
-    source = three(folder, c_asks=0)
+    source = host_file(folder, ("a", 1, 1000), ("b", 1, 1000), ("c", 100, 0))
     words = ["--guaranteed", "-g", "c"]
     assert limits(asked(ctl, source, "a=500m", "b=450m", words=words)) == {
         ("c", "max"): ("-", "50m")}
@@ -414,13 +469,14 @@ def test_a_limit_that_no_amount_says(ctl, folder):
 [host]
 period = "3ms"
 slice = "1ms"
-[groups.a]
-demand = "1cpu"
 [groups.b]
+weight = 1
+demand = "1cpu"
+[groups.a]
+weight = 1
 demand = "1cpu"
 ''')
-    found = asked(ctl, folder / "third.toml", "a=600m", words=["-g", "b", "--set",
-                                                               "b.weight=200"])
+    found = asked(ctl, folder / "third.toml", "a=600m", words=["-g", "b"])
     assert limits(found) == {("b", "max"): ("-", "1000 3000")}
 
 
@@ -580,11 +636,11 @@ def test_shares(ctl, folder):
 
 
 def test_quotas_of_units(ctl, folder):
-    """A weight of 100 stays: a has 90 of 100 slices where b has 10, by its quota.
+    """A weight of 1 stays: a has 90 of 100 slices where b has 10, by its quota.
 
     Of 1000 slices a has 895 where b has 105.
     """
-    (folder / "u.show").write_text(unit("a.service", "[not set]") + unit("b.service", 200))
+    (folder / "u.show").write_text(unit("a.service", 1) + unit("b.service", 200))
     words = ["--cpus", "1", "-g", "b.*"]
     found = asked(ctl, folder / "u.show", "a.service=900m", words=words)
     assert limits(found) == {("b.service", "CPUQuota"): ("-", "10%")}
@@ -596,7 +652,7 @@ def test_quotas_of_units(ctl, folder):
 
 
 PATHS = ["a", "b", "c", "a/x", "a/y"]
-SOME = settings(max_examples=30, deadline=None,
+SOME = settings(max_examples=cases(30), deadline=None,
                 suppress_health_check=[HealthCheck.function_scoped_fixture])
 
 
@@ -631,8 +687,8 @@ def meets(found, goals, is_guaranteed, library):
 @SOME
 @given(model=models(), goals=GOALS, is_guaranteed=st.booleans(), others=WEIGHTS)
 def test_met_or_never(engine, model, goals, is_guaranteed, others):
-    """What is answered meets all goals. Goals that clash are met by no weights of their groups and
-    of those above them."""
+    """What is answered meets all goals. Goals that clash are met by no weights of their groups, of
+    those above them and of those beside."""
     words = [f"{path}={200 * slices}m" for path, slices in goals]
     before = plan(engine, model)
     found = tune.tune(before, words, is_guaranteed)
@@ -641,7 +697,8 @@ def test_met_or_never(engine, model, goals, is_guaranteed, others):
         return
     assert isinstance(found.weights, Clash)
     for weights in others:
-        mixed = [weights[row] if row in found.asked.paths else group.weight
+        may = found.asked.may(found.asked.beside[-1] if found.asked.beside else ())
+        mixed = [weights[row] if may[row] else group.weight
                  for row, group in enumerate(before.groups)]
         after = plan(engine, goals_.with_weights(model, mixed))
         assert not meets(after, found.weights.goals, is_guaranteed, engine.library)
@@ -697,7 +754,7 @@ def test_a_limit_that_is_written_lower(engine, monkeypatch):
     """Limits are told as proved only where settings say those of the answer: b's of 2 slices."""
     model = Model(Host(1, 100000, 5000))
     for path in ("a", "b"):
-        model.add(Group(path, demand=Fraction(1000)))
+        model.add(Group(path, 1, demand=Fraction(1000)))
     before = plan(engine, model)
     way = tune.tune(before, ["a=900m"], chosen=["b"]).limits
     assert (way.words, way.amounts, way.told) == (["b.max=100m"], (18,), other_limits.LIMITED)

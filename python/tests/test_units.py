@@ -1,11 +1,14 @@
 """Conversions at the ends of their ranges, by values that were worked by hand."""
 from fractions import Fraction
 
+import owned_model
 import pytest
-from arbiter import Host
+from arbiter import Host, LimitFormula, PartKind
 from arbiter_host.base import units
 from arbiter_host.base.faults import HostFault
+from arbiter_host.base.owned import Amounts
 from arbiter_host.base.units import Slices
+from arbiter_host.sources.pods import Container, Pod
 from hypothesis import given
 from hypothesis import strategies as st
 
@@ -78,22 +81,35 @@ def test_slices_convert_back(calls, slices, each, slice_ms):
 
 
 @pytest.mark.parametrize("shares, linear, log", [
-    (-5, 1, 1), (0, 1, 1), (2, 1, 1), (3, 1, 2), (102, 4, 17), (256, 10, 35), (512, 20, 59),
+    (0, 1, 1), (2, 1, 1), (3, 1, 2), (102, 4, 17), (256, 10, 35), (512, 20, 59),
     (1024, 39, 100), (2048, 79, 174), (262143, 9999, 10000), (262144, 10000, 10000),
     (10**9, 10000, 10000), (2**70, 10000, 10000),
 ])
 def test_weights_of_shares(calls, shares, linear, log):
-    assert units.weight_of_shares(calls, shares, "linear") == linear
-    assert units.weight_of_shares(calls, shares, "log") == log
+    assert calls.owned_weight(units.OF_SHARES["linear"], shares) == linear
+    assert calls.owned_weight(units.OF_SHARES["log"], shares) == log
 
 
 @pytest.mark.parametrize("thousandths, shares, quota", [
     (0, 2, None), (1, 2, 1000), (2, 2, 1000), (250, 256, 25000), (1000, 1024, 100000),
     (3500, 3584, 350000), (256000, 262144, 25600000), (10**6, 262144, 10**8),
 ])
-def test_kubelet(thousandths, shares, quota):
-    assert units.shares_of_thousandths(thousandths) == shares
-    assert units.quota_of_thousandths(thousandths) == quota
+def test_kubelet(calls, thousandths, shares, quota):
+    for formula in units.OF_SHARES.values():
+        assert calls.owned_number(formula, thousandths) == shares
+    assert calls.owned_limit(LimitFormula.THOUSANDTHS, thousandths) == (quota, 100000)
+
+
+PARTS = st.lists(st.tuples(st.sampled_from(PartKind), st.integers(0, 10**12)), max_size=8)
+
+
+@given(PARTS)
+def test_pods_add_up(calls, parts):
+    """What a pod's containers take at once is the amount of the library's call."""
+    containers = [Container("each", Amounts(amount), kind=kind) for kind, amount in parts]
+    kinds, amounts = [kind for kind, _ in parts], [amount for _, amount in parts]
+    pod = Pod("space", "pod", "", calls, tuple(containers))
+    assert pod.amounts == Amounts(owned_model.pod_amount(kinds, amounts), None)
 
 
 @given(st.fractions(0, 10**6, max_denominator=10**6))

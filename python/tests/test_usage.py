@@ -12,6 +12,7 @@ import pytest
 import trees
 from arbiter_host.base.faults import HostFault
 from arbiter_host.sources import usage
+from chances import cases
 from hypothesis import given, settings
 from hypothesis import strategies as st
 
@@ -223,7 +224,7 @@ def test_too_many_entries(monkeypatch):
         usage.read((FIXTURES / "top.txt").read_bytes(), "F")
 
 
-@settings(max_examples=200, deadline=None)
+@settings(max_examples=cases(200), deadline=None)
 @given(data=st.binary(max_size=80) | st.text(max_size=80).map(str.encode))
 def test_any_bytes_are_read_or_refused(data):
     """A fault of one line, or entries with amounts of 0 or more."""

@@ -15,6 +15,7 @@ from arbiter_host.base.model import Group, Model
 from arbiter_host.base.plan import plan
 from arbiter_host.sources import script
 from places import PACKAGE
+from chances import cases
 from hypothesis import HealthCheck, given, settings
 from hypothesis import strategies as st
 
@@ -284,7 +285,7 @@ def models(draw):
     return model
 
 
-@settings(max_examples=40, deadline=None, suppress_health_check=list(HealthCheck))
+@settings(max_examples=cases(40), deadline=None, suppress_health_check=list(HealthCheck))
 @given(model=models())
 def test_counted_as_the_program_counts(program, engine, model):
     """What a group gets, and whether it is throttled, are what `period` counts."""

@@ -220,6 +220,87 @@ def takes(node, pod):
     return not (system and own and system != own)
 
 
+REQUIRED = "requiredDuringSchedulingIgnoredDuringExecution"
+
+
+def means(term, home, pod):
+    """Whether a term of a pod of the namespace `home` means another pod ("Inter-pod affinity and
+    anti-affinity", "Namespace selector"). A selector that is null selects nothing."""
+    selector, labels = term.get("labelSelector"), pod["metadata"].get("labels", {})
+    if selector is None:
+        return False
+    spaces = term.get("namespaces") or [home]
+    if term.get("namespaceSelector") != {} and pod["metadata"]["namespace"] not in spaces:
+        return False
+    return all(labels.get(key) == value for key, value in selector.get("matchLabels", {}).items()
+               ) and all(matches(each, labels) for each in selector.get("matchExpressions", []))
+
+
+def terms(pod, kind):
+    return pod["spec"].get("affinity", {}).get(kind, {}).get(REQUIRED, [])
+
+
+def beside(nodes, pods, pod):
+    """The nodes on which a pod may be beside others, each a pair of the name of its node and its
+    JSON ("Assigning Pods to Nodes", "Pod Topology Spread Constraints")."""
+    labels = {each["metadata"]["name"]: each["metadata"].get("labels", {}) for each in nodes}
+    home, found = pod["metadata"]["namespace"], set()
+
+    def near(one, two, key):
+        return key in labels[one] and labels[one].get(key) == labels[two].get(key)
+
+    for node in nodes:
+        name = node["metadata"]["name"]
+        is_apart = not any(
+            near(name, at, term["topologyKey"]) for at, other in pods
+            for term, is_meant in (
+                *((term, means(term, home, other)) for term in terms(pod, "podAntiAffinity")),
+                *((term, means(term, other["metadata"]["namespace"], pod))
+                  for term in terms(other, "podAntiAffinity"))) if is_meant)
+        wanted = terms(pod, "podAffinity")
+        friends = [at for at, other in pods if all(means(term, home, other) for term in wanted)]
+        has_keys = all(term["topologyKey"] in labels[name] for term in wanted)
+        is_alone = not any(term["topologyKey"] in labels[at] for at in friends for term in wanted)
+        is_near = has_keys and (
+            all(any(near(name, at, term["topologyKey"]) for at in friends) for term in wanted)
+            or is_alone and all(means(term, home, pod) for term in wanted))
+        if is_apart and is_near and is_even(nodes, labels, pods, pod, name):
+            found.add(name)
+    return found
+
+
+def is_even(nodes, labels, pods, pod, name):
+    """Whether a pod on a node keeps each constraint: of nodes that have all labels that the
+    constraints name, and that count by their policies."""
+    rules = [each for each in pod["spec"].get("topologySpreadConstraints", [])
+             if each["whenUnsatisfiable"] == "DoNotSchedule"]
+    home = pod["metadata"]["namespace"]
+    for rule in rules:
+        key, counts = rule["topologyKey"], {}
+        for node in nodes:
+            at, spec = node["metadata"]["name"], dict(pod["spec"])
+            spec.pop("schedulingGates", None)
+            spec["os"] = {"name": labels[at].get("kubernetes.io/os", "linux")}
+            if rule.get("nodeTaintsPolicy", "Ignore") == "Ignore":
+                spec["tolerations"] = [{"operator": "Exists"}]
+            if rule.get("nodeAffinityPolicy", "Honor") == "Ignore":
+                spec.pop("nodeSelector", None)
+                spec.pop("affinity", None)
+            if takes(node, {"spec": spec}) and all(
+                    each["topologyKey"] in labels[at] for each in rules):
+                counts.setdefault(labels[at][key], 0)
+                counts[labels[at][key]] += sum(
+                    on == at and means({**rule, "namespaces": [home]}, home, other)
+                    and "deletionTimestamp" not in other["metadata"] for on, other in pods)
+        if key not in labels[name]:
+            return False
+        least = min(counts.values(), default=0) if len(counts) >= rule.get("minDomains", 1) else 0
+        then = counts.get(labels[name][key], 0) + means({**rule, "namespaces": [home]}, home, pod)
+        if then - least > rule["maxSkew"]:
+            return False
+    return True
+
+
 def requests_of(pod):
     """Requests of a pod by resource, of CPU in thousandths, of others in whole units: those of its
     containers, of it as a whole where it has such, and its overhead."""

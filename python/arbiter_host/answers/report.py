@@ -13,7 +13,7 @@ from arbiter_host.base import text
 from arbiter_host.base.html import bar, rendered
 from arbiter_host.base.names import below, common_parent, last_name, parent_path, short, shown
 from arbiter_host.base.plan import Plan, PlannedGroup
-from arbiter_host.base.tables import Column, shown_in
+from arbiter_host.base.tables import Column, Table
 
 # Trees of at most so many groups are open when the page is.
 OPEN_GROUPS = 150
@@ -40,9 +40,8 @@ def within(path: str, prefix: str) -> str:
 
 def columns_of(plan: Plan, view: View, groups: Sequence[PlannedGroup]
                ) -> list[Column[PlannedGroup]]:
-    """The columns of the page, those of PAGE first. None is empty but the weights."""
-    shown_ = shown_in(explain.columns(plan, view), "html")
-    return sorted((each for each in shown_ if each.title == PAGE[0] or any(map(each.cell, groups))),
+    """The columns of the page, those of PAGE first."""
+    return sorted(Table(explain.columns(plan, view), groups).shown_in("html"),
                   key=lambda each: [*PAGE, each.title].index(each.title))
 
 
@@ -130,7 +129,7 @@ def change(pair: Pair, one: Pair, view: View) -> Row:
 def changes(before: Plan, plan: Plan, view: View, words: Sequence[str]) -> dict[str, Any]:
     """The table of what differs from an earlier plan, as a tree, and the words that change it."""
     differ, depth, rows = differing(before, plan, view), {".": -1}, []
-    columns = shown_in(diff.columns(view), "html")
+    columns = Table(diff.columns(view), [one for _, one in differ]).shown_in("html")
     prefix = common_parent(pair.path for pair, one in differ
                            if not any(each and each.children for each in one.groups))
     for pair, one in differ:

@@ -6,9 +6,7 @@ that the proved check has not accepted.
 """
 from __future__ import annotations
 
-import csv
 import functools
-import io
 import itertools
 import json
 from array import array
@@ -24,7 +22,7 @@ from arbiter_host.base.faults import HostFault, UsageFault
 from arbiter_host.base.model import Model, checked
 from arbiter_host.base.names import cut, parent_path, short, shown
 from arbiter_host.base.plan import Engine
-from arbiter_host.base.tables import Column, Forms, Table, TableAnswer, shown_in
+from arbiter_host.base.tables import Column, Forms, Table, TableAnswer
 from arbiter_host.sources.samples import History
 
 FLAGS = (("T", "throttled", "#b4231f"), ("t", "throttled, not by its limit", "#d97706"),
@@ -272,22 +270,10 @@ def column(key: str, value: Callable[[Sampled], Any]) -> Column[Sampled]:
                   value=value)
 
 
-def csv_of(table_: Table[Sampled]) -> str:
-    """A table as CSV, as its own form has it, a row at a time: samples are many."""
-    written_, columns = io.StringIO(), shown_in(table_.columns, "csv")
-    writer = csv.writer(written_, lineterminator="\n")
-    writer.writerow([each.title for each in columns])
-    for record in table_.records:
-        cells = ((each, each.cell(record)) for each in columns)
-        writer.writerow([shown(cell) if each.is_left else "" if cell == "-" else cell
-                         for each, cell in cells])
-    return written_.getvalue()
-
-
 def forms(series: Series, unit: str) -> Forms:
     """The forms of samples."""
     return {**TableAnswer(lambda: [table(series, unit)], dict).forms(),
-            "csv": lambda: csv_of(records(series, unit)),
+            "csv": lambda: records(series, unit).csv(),
             "json": lambda: json.dumps({"unit": unit, "records": records(series, unit).data()},
                                        indent=1) + "\n",
             "svg": lambda: picture(series)}

@@ -21,8 +21,8 @@ CELLS = {"used_millicpu": "used", "demand_millicpu": "demand", "plan_millicpu": 
          "periods": "periods", "throttled": "throttled", "hungry": "hungry", "tasks": "tasks"}
 # Thousandths of a CPU of a hundredth.
 HUNDREDTH = 10
-# Groups whose use is drawn.
-MOST_DRAWN = 12
+# Groups whose use is drawn, and those where nothing is off.
+MOST_DRAWN, FEW_DRAWN = 12, 4
 # A picture fits a window of 500 pixels as it is.
 WIDTH, HEIGHT, LEFT, RIGHT, TOP, BOTTOM = 440, 170, 52, 12, 12, 24
 # Colours of the page, which has others in the dark.
@@ -190,6 +190,14 @@ def lines_of(row: AuditRow) -> list[tuple[str, str, list[float | None]]]:
             for key, colour, dash in (("planned", PLANNED, "5 3"), ("used", USED, ""))]
 
 
+def begin_label(name: str, x: float) -> str:
+    """The name of an interval below its begin, and within the picture."""
+    name = cut(name, 24)
+    half = svg.wide(shown(name), 12) / 2
+    return svg.words((min(max(x, LEFT + half), WIDTH - RIGHT - half), HEIGHT - 6), name, FAINT, 12,
+                     "middle")
+
+
 def picture(row: AuditRow, intervals: Sequence[Interval], most: float) -> str:
     """Plan and use of a group over time, in CPUs: stairs, with a gap where nothing was measured."""
     most = max(most, 0.001)
@@ -204,9 +212,8 @@ def picture(row: AuditRow, intervals: Sequence[Interval], most: float) -> str:
             y = height(value)
             yield svg.line((LEFT, y), (WIDTH - RIGHT, y), LINE)
             yield svg.words((LEFT - 6, y + 4), f"{value:g}", FAINT, 12, "end")
-        ends = ((intervals[0], LEFT, "start"), (intervals[-1], WIDTH - RIGHT, "end"))
-        for interval, x, anchor in ends[:len(intervals)]:
-            yield svg.words((x, HEIGHT - 6), cut(interval.name, 24), FAINT, 12, anchor)
+        for at in sorted({0, len(intervals) - 1}):
+            yield begin_label(intervals[at].name, LEFT + step * at)
         for colour, dash, values in lines_of(row):
             for points in gapped(values, lambda at: LEFT + step * at, height):
                 yield svg.shape(points, colour, 1.5, "none", dash)
@@ -214,11 +221,19 @@ def picture(row: AuditRow, intervals: Sequence[Interval], most: float) -> str:
     return svg.inside(WIDTH, HEIGHT, f"plan and use of {row.path}", [*parts()])
 
 
-def drawn(rows: Sequence[AuditRow], intervals: Sequence[Interval], prefix: str
+def off_rows(rows: Sequence[AuditRow]) -> list[AuditRow]:
+    """The worst groups that are off by a slice or more."""
+    return [row for row in rows if row.cause != SLICE][:MOST_DRAWN]
+
+
+def used_rows(rows: Sequence[AuditRow]) -> list[AuditRow]:
+    """The groups that used most."""
+    return sorted(rows, key=lambda row: (-row.average.used, row.path))[:FEW_DRAWN]
+
+
+def drawn(worst: Sequence[AuditRow], intervals: Sequence[Interval], prefix: str
           ) -> list[dict[str, str]]:
-    """The pictures of the worst groups that are off by a slice or more, on one scale where that
-    shows each."""
-    worst = [row for row in rows if row.cause != SLICE][:MOST_DRAWN]
+    """The pictures of some groups, on one scale where that shows each."""
     tops = svg.tops([peak(values for _, _, values in lines_of(row)) for row in worst])
     return [{"name": short(shown(below(row.path, prefix))), "cause": row.cause, "mark": mark,
              "picture": picture(row, intervals, most)} for row, (most, mark) in zip(worst, tops)]
@@ -236,13 +251,15 @@ def bars(intervals: Sequence[Interval], capacity: Fraction) -> list[dict[str, An
 def page(found: Ranked, title: str) -> str:
     """One HTML page: the table, which sorts, and plan and use over time of the worst groups."""
     intervals, host = found.audit.intervals, found.audit.plan.model.host
-    rows, prefix = [], common_parent(row.path for row in found.busy)
+    rows, prefix, off = [], common_parent(row.path for row in found.busy), off_rows(found.busy)
     whole = table(found)
     for row, (*cells, cause, _) in zip(found.busy, whole.cells(COLUMNS)):
         rows.append({"name": short(shown(below(row.path, prefix))), "cause": cause, "cells": [
             (column.title, cell) for column, cell in zip(COLUMNS, cells)],
             "is_bad": row.cause == NOTHING})
     return rendered("audit.html", title, head(found), rows=rows, prefix=short(shown(prefix)),
-                    drawn=drawn(found.busy, intervals, prefix), foot=list(foot(found)),
+                    drawn=drawn(off or used_rows(found.busy), intervals, prefix),
+                    order="the worst first" if off else "the greatest use first: nothing is off by"
+                    " a slice", foot=list(foot(found)),
                     hosts=bars(intervals, Fraction(1000 * host.processors)),
                     notes=[shown(each) for each in found.audit.notes])

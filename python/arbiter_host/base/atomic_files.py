@@ -152,12 +152,10 @@ class Place:
                                  dir_fd=self.folder)
         except FileNotFoundError:
             return
-        try:
+        with safe_files.closing_file(descriptor):
             is_plain = stat.S_ISREG(os.fstat(descriptor).st_mode)
             if not is_plain or mark.encode() not in os.read(descriptor, HEAD):
                 raise HostFault(f"{shown(path)}: is there, and {words}")
-        finally:
-            os.close(descriptor)
 
     def open_new(self) -> int:
         """Opens a new file to be written. A plain one of its name was left by a kill."""

@@ -29,15 +29,18 @@ class Child:
     be given. One that does not print to this one has the output of this one.
 
     # Errors
-    OSError where it cannot be started.
+    HostFault where it cannot be started.
     """
 
     def __init__(self, words: Sequence[str], environment: Mapping[str, str] | None = None,
                  prints: bool = True) -> None:
         pipe = subprocess.PIPE if prints else None
-        # (an interrupt of the terminal is for this program)
-        self.process = subprocess.Popen(words, stdin=subprocess.PIPE, stdout=pipe, stderr=pipe,
-                                        env=environment, bufsize=0, start_new_session=True)
+        try:
+            # (an interrupt of the terminal is for this program)
+            self.process = subprocess.Popen(words, stdin=subprocess.PIPE, stdout=pipe, stderr=pipe,
+                                            env=environment, bufsize=0, start_new_session=True)
+        except OSError as error:
+            raise HostFault(f"{words[0]}: {strerror(error)}") from error
         self.out, self.said, self.given = bytearray(), b"", bytearray()
         self.prints, self.has_input_end = prints, False
         pipes = (self.process.stdin, self.process.stdout, self.process.stderr)
@@ -148,10 +151,7 @@ def run(words: Sequence[str], seconds: float, most: int = 0, given: bytes = b"",
     # Errors
     HostFault, in this order: it cannot be started; it printed too much; it had not ended in time.
     """
-    try:
-        child = Child(words, environment, most > 0)
-    except OSError as error:
-        raise HostFault(f"{words[0]}: {strerror(error)}") from error
+    child = Child(words, environment, most > 0)
     try:
         until = time.monotonic() + seconds
         child.give(given, is_last=True)

@@ -248,10 +248,9 @@ def set_demands(model: Model, measured: dict[str, Measured], want: str, seconds:
     """Sets the demand of each group without children. A group that is known to request nothing, as
     a pause container, is not meant to be busy."""
     leaves = [path for path, below in model.children().items() if path != "." and not below]
-    model.asked = asked_words(want, [measured[path] for path in leaves if path in measured],
-                              seconds)
-    idle = sum(each.tasks == 0 and each.request is None
-               for each in (measured[path] for path in leaves if path in measured))
+    known = [measured[path] for path in leaves if path in measured]
+    model.asked = asked_words(want, known, seconds)
+    idle = sum(each.tasks == 0 and each.request is None for each in known)
     if want == "busy" and idle:
         model.notes.append(f"groups without a task, which ask for nothing: {idle} of {len(leaves)}"
                            " (--want busy)")

@@ -221,15 +221,32 @@ def bind(model: Model, cpus: Mapping[str, int | None]) -> None:
                            " which they are, and who else is on them, the plan does not know")
 
 
-def cpus_in(text: str) -> int | None:
-    """The number of CPUs of a list such as `0-3,8`; None for one that is none."""
+def bind_to(model: Model, lists: Mapping[str, str]) -> None:
+    """Lets groups have at most the CPUs of their lists, and tells each list with a number that the
+    host's CPUs do not have where they are counted from 0."""
+    cpus = {path: cpus_of(text) for path, text in lists.items()}
+    bind(model, {path: len(each) or None for path, each in cpus.items()})
+    most = model.host.processors
+    beyond = [path for path, each in cpus.items() if max(each, default=0) >= most]
+    if beyond:
+        model.notes.append(f"bound to CPUs from number {most} on: {names.listed(beyond)}: of a host"
+                           f" of {most} CPUs; each is counted")
+
+
+def cpus_of(text: str) -> set[int]:
+    """The CPUs of a list such as `0-3,8`; none where it is no list."""
     cpus = set[int]()
     for part in text.strip().split(","):
         match = re.fullmatch(r"\s*([0-9]{1,5})(?:-([0-9]{1,5}))?\s*", part)
         if not match:
-            return None
+            return set()
         cpus.update(range(int(match[1]), int(match[2] or match[1]) + 1))
-    return len(cpus) or None
+    return cpus
+
+
+def cpus_in(text: str) -> int | None:
+    """The number of CPUs of a list; None where it is no list."""
+    return len(cpus_of(text)) or None
 
 
 class TooMany(HostFault):
@@ -254,5 +271,3 @@ def check_settings(group: Group) -> None:
             raise HostFault(f"{what} {value}: not {least} to {most}")
     if group.quota is not None and group.burst > group.quota:
         raise HostFault(f"burst {group.burst}: above the quota {group.quota}")
-    if group.demand.numerator < 0:
-        raise HostFault("a demand is 0 or more")

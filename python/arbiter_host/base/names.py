@@ -5,7 +5,7 @@ import itertools
 import os
 import re
 import unicodedata
-from collections.abc import Callable, Container, Iterable, Sequence
+from collections.abc import Callable, Container, Iterable, Iterator, Sequence
 
 from arbiter_host.base.faults import HostFault
 
@@ -33,12 +33,15 @@ def is_raw(letter: str) -> bool:
     return unicodedata.category(letter) in ("Cc", "Cf", "Cs", "Co", "Cn", "Zl", "Zp")
 
 
+def by_number(code: int) -> str:
+    """A letter of a number as Python and TOML have it in a string."""
+    return f"\\u{code:04x}" if code < 0x10000 else f"\\U{code:08x}"
+
+
 def escaped(letter: str) -> str:
     """A letter as a backslash, a form letter and its number."""
     code = ord(letter)
-    if code < 0x100:
-        return f"\\x{code:02x}"
-    return f"\\u{code:04x}" if code < 0x10000 else f"\\U{code:08x}"
+    return f"\\x{code:02x}" if code < 0x100 else by_number(code)
 
 
 def escaped_in_json(letter: str) -> str:
@@ -49,10 +52,7 @@ def escaped_in_json(letter: str) -> str:
 
 def escaped_in_toml(letter: str) -> str:
     """A letter as TOML has it in a string. Half of a letter has no place there: it is replaced."""
-    if unicodedata.category(letter) == "Cs":
-        return "\\ufffd"
-    code = ord(letter)
-    return f"\\u{code:04x}" if code < 0x10000 else f"\\U{code:08x}"
+    return by_number(0xfffd if unicodedata.category(letter) == "Cs" else ord(letter))
 
 
 def in_bytes(letter: str) -> str:
@@ -146,9 +146,9 @@ def shortened(name: str, mark: str) -> str:
     return f"{kept}%~{mark}"
 
 
-def path_name(raw: str, taken: Container[str]) -> str:
-    """A name that a path of a script can hold, unlike those taken. `raw_name` reads it back. A name
-    that is too long or taken is marked: which group it is cannot be told."""
+def path_name(raw: str, taken: Container[str] = (), parent: str = ".") -> str:
+    """A name that a path of a script can hold, of a child whose path is not taken. `raw_name` reads
+    it back. A name that is too long or taken is marked: which group it is cannot be told."""
     name = in_path(raw)
     if name in ("", ".", ".."):
         name = "%" + name
@@ -157,7 +157,7 @@ def path_name(raw: str, taken: Container[str]) -> str:
         name = shortened(name, hashlib.sha256(name.encode()).hexdigest()[:KEPT])
     for number in range(1, MOST_ALIKE + 1):
         each = name if number == 1 else shortened(name, str(number))
-        if each not in taken:
+        if joined(parent, each) not in taken:
             return each
     raise HostFault(f"{shown(name)}: more than {MOST_ALIKE} groups of one name")
 
@@ -169,12 +169,12 @@ def raw_name(name: str) -> str | None:
                                      name.encode()))
     except UnicodeEncodeError:
         return None
-    return raw if path_name(raw, ()) == name and "/" not in raw and "\0" not in raw else None
+    return raw if path_name(raw) == name and "/" not in raw and "\0" not in raw else None
 
 
 def path_of_folder(folder: str) -> str:
     """The path of the group that has a folder of a host; empty for the root."""
-    return "/".join(path_name(each, ()) for each in folder.split("/") if each)
+    return "/".join(path_name(each) for each in folder.split("/") if each)
 
 
 def raw_path(path: str) -> str | None:
@@ -202,6 +202,13 @@ def joined(parent: str, name: str) -> str:
 def parent_path(path: str) -> str:
     """The path of the group above; `.` is the root."""
     return path.rpartition("/")[0] or "."
+
+
+def upward(path: str) -> Iterator[str]:
+    """A path and those above it, without the root, the longest first."""
+    while path != ".":
+        yield path
+        path = parent_path(path)
 
 
 def common_parent(paths: Iterable[str]) -> str:

@@ -82,11 +82,8 @@ def write_forms(outputs: Sequence[Output],
 
 def drop_output() -> None:
     """Lets the interpreter flush to nowhere when it ends."""
-    try:
-        null = os.open(os.devnull, os.O_WRONLY)
-        os.dup2(null, 1)
-    except OSError:
-        pass
+    with suppress(OSError):
+        os.dup2(os.open(os.devnull, os.O_WRONLY), 1)
 
 
 def say(words: str) -> None:

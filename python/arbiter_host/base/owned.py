@@ -14,7 +14,7 @@ from dataclasses import dataclass, field, replace
 from fractions import Fraction
 from typing import NamedTuple
 
-from arbiter import Host
+from arbiter import Host, WeightFormula
 from arbiter_host.base import demands, names, units
 from arbiter_host.base.demands import Use
 from arbiter_host.base.faults import HostFault
@@ -103,6 +103,11 @@ class Owned:
         model = replace(self.plain.copy(), owned=self)
         demands.scale(model, self.scales)
         return model
+
+    @property
+    def formula(self) -> WeightFormula:
+        """The formula by which the setting that weighs a group makes its weight."""
+        raise NotImplementedError
 
     @property
     def rule(self) -> str:

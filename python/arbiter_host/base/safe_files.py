@@ -48,6 +48,15 @@ def faults(path: str, end: str = "") -> Iterator[None]:
         raise fault_of(path, error, end) from error
 
 
+@contextmanager
+def closing_file(descriptor: int) -> Iterator[int]:
+    """A file or a folder that is open, and is closed at the end."""
+    try:
+        yield descriptor
+    finally:
+        os.close(descriptor)
+
+
 def identity_of(place: int | str) -> Identity:
     """The identity of what a path leads to, or a descriptor is open at."""
     status = os.stat(place)
@@ -124,11 +133,8 @@ class Root:
             self.top = os.open(self.path, os.O_PATH | os.O_DIRECTORY | os.O_CLOEXEC)
         below = os.dup(self.top)
         for part in parts:
-            above = below
-            try:
+            with closing_file(below) as above:
                 below = os.open(part, FOLDER, dir_fd=above)
-            finally:
-                os.close(above)
         return below
 
     def keep(self, folder: str, identity: Identity | None = None) -> None:
@@ -153,11 +159,8 @@ class Root:
         if folder in self.kept:
             yield self.kept[folder]
             return
-        descriptor = self.descend(folder)
-        try:
+        with closing_file(self.descend(folder)) as descriptor:
             yield descriptor
-        finally:
-            os.close(descriptor)
 
     def read(self, folder: str, file: str, most: int = MAX_TEXT) -> str:
         """The text of a file, at most so many bytes. The kernel gives a page at a time."""
@@ -176,15 +179,12 @@ class Root:
         old text or the new one. Files of the kernel have size 0. No new file takes the name of the
         old one, since those of the kernel cannot be replaced."""
         line = f"{text}\n".encode()
-        with faults(self.name(folder, file)), self.at(folder) as above:
-            descriptor = plain(above, file, os.O_WRONLY)
-            try:
-                size = os.fstat(descriptor).st_size
-                os.write(descriptor, line.ljust(size, b"\n"))
-                if size > len(line):
-                    os.ftruncate(descriptor, len(line))
-            finally:
-                os.close(descriptor)
+        with (faults(self.name(folder, file)), self.at(folder) as above,
+              closing_file(plain(above, file, os.O_WRONLY)) as descriptor):
+            size = os.fstat(descriptor).st_size
+            os.write(descriptor, line.ljust(size, b"\n"))
+            if size > len(line):
+                os.ftruncate(descriptor, len(line))
 
 
 def is_of_others(status: os.stat_result, bits: int = 0) -> bool:

@@ -1,6 +1,7 @@
 """Searches over whole numbers and over changes, whatever it is that is asked of them."""
 from __future__ import annotations
 
+import bisect
 from collections.abc import Callable, Sequence
 from typing import TypeVar
 
@@ -14,10 +15,7 @@ def least(low: int, high: int, reaches: Callable[[int], bool]) -> int:
 
     Each number above one that reaches does too. `high` is taken to, and is not tried.
     """
-    while low < high:
-        middle = (low + high) // 2
-        low, high = (low, middle) if reaches(middle) else (middle + 1, high)
-    return high
+    return low + bisect.bisect_left(range(low, high), True, key=reaches)
 
 
 def least_of(parts: Sequence[tuple[int, int]], reaches: Callable[[int], bool]) -> int | None:

@@ -17,6 +17,8 @@ Forms = Mapping[str, Callable[[], str | Styled]]
 # The forms of columns that people read, and those of columns that are in one of them alone.
 TEXT, FILES, PAGES = ("text",), ("csv",), ("html",)
 READ = (*TEXT, *FILES, *PAGES)
+# Cells that tell nothing.
+NOTHING = ("", "-", "0", "0 to 0")
 # Letters of a name, of a reason, and of both with what is between them, at least.
 LEAST_NAME, LEAST_REASON, LEAST_ROOM = 16, 12, 30
 
@@ -34,8 +36,10 @@ class Column(Generic[R]):
     value: Callable[[R], Any] | None = None
     # The forms that have its cells.
     forms: Collection[str] = READ
-    # Whether it stands behind the others where people read it, as names do.
+    # Whether it stands behind the others where people read it, as names do; and whether it is left
+    # out where no cell of it tells something.
     is_last: bool = False
+    is_optional: bool = False
     # Letters of its cells on a terminal, at least.
     wide: int = 0
     # The words of its metric, whose name is its key; and whether it is a label of metrics.
@@ -53,12 +57,6 @@ def fitting(reasons: Sequence[Sequence[str]], room: int) -> list[str]:
     if all(width(each[0]) <= room for each in reasons):
         return [each[0] for each in reasons]
     return [next((form for form in each[1:] if width(form) <= room), each[-1]) for each in reasons]
-
-
-def shown_in(columns: Sequence[Column[R]], form: str) -> list[Column[R]]:
-    """The columns of a form that people read, in its order."""
-    return sorted((each for each in columns if form in each.forms),
-                  key=lambda each: each.is_last and form != "csv")
 
 
 def are_words(cells: Sequence[str]) -> bool:
@@ -106,6 +104,12 @@ class Table(Generic[R]):
     # The letters of a line that is fitted.
     wide: int = 0
 
+    def shown_in(self, form: str) -> list[Column[R]]:
+        """The columns of a form that people read, in its order."""
+        found = (each for each in self.columns if form in each.forms and not (
+            each.is_optional and all(each.cell(record) in NOTHING for record in self.records)))
+        return sorted(found, key=lambda each: each.is_last and form != "csv")
+
     def cells(self, columns: Sequence[Column[R]]) -> list[list[str]]:
         """The cells of each record in some columns."""
         return [[each.cell(record) for each in columns] for record in self.records]
@@ -113,7 +117,7 @@ class Table(Generic[R]):
     def lines(self, most: int | None = None) -> list[tuple[str, str]]:
         """The heads and the rows as lines with their styles; of more than so many, their number
         below."""
-        columns = shown_in(self.columns, "text")
+        columns = self.shown_in("text")
         rows, fitted = self.cells(columns), self.fitted
         heads, left = [each.title for each in columns], left_of(columns, rows)
         styles = [self.style(each) if self.style else "" for each in self.records[:most]]
@@ -126,7 +130,7 @@ class Table(Generic[R]):
 
     def page(self) -> dict[str, Any]:
         """The table as a template of a page takes it."""
-        columns = shown_in(self.columns, "html")
+        columns = self.shown_in("html")
         rows = self.cells(columns)
         return {"title": self.title, "heads": [each.title for each in columns],
                 "left": [columns[at].title for at in left_of(columns, rows)],
@@ -152,15 +156,17 @@ class Table(Generic[R]):
                 yield family
 
     def csv(self) -> str:
-        """The records as CSV. None of a number is empty there, and names are escaped."""
+        """The records as CSV, a row at a time. None of a number is empty there, and names are
+        escaped."""
         import csv  # (no other form needs it)
         import io
-        written, columns = io.StringIO(), shown_in(self.columns, "csv")
+        written, columns = io.StringIO(), self.shown_in("csv")
         writer = csv.writer(written, lineterminator="\n")
         writer.writerow([each.title for each in columns])
-        for row in self.cells(columns):
-            writer.writerow(["" if cell == "-" and not column.is_left else shown(cell)
-                             for column, cell in zip(columns, row)])
+        for record in self.records:
+            cells = ((each, each.cell(record)) for each in columns)
+            writer.writerow(["" if cell == "-" and not each.is_left else shown(cell)
+                             for each, cell in cells])
         return written.getvalue()
 
 

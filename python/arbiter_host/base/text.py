@@ -5,6 +5,7 @@ import functools
 import os
 import sys
 from collections.abc import Collection, Sequence
+from contextlib import suppress
 from fractions import Fraction
 
 from arbiter import Host
@@ -13,7 +14,7 @@ from arbiter_host.base.model import Model
 from arbiter_host.base.names import padded, width
 from arbiter_host.base.plan import Plan
 
-STANDARD_WIDTH = 120
+STANDARD_WIDTH, LEAST_WIDTH = 120, 40
 # From this width on reasons are whole sentences.
 WIDE = 110
 # The head of a column of bars.
@@ -38,9 +39,7 @@ def amount(plan: Plan, slices: int | None, unit: str) -> str:
 
 def in_unit(host: Host, thousandths: Fraction, unit: str) -> Fraction:
     """Thousandths of a CPU in a unit."""
-    return thousandths * {"cpu": Fraction(1, 1000), "m": Fraction(1), "%": Fraction(1, 10),
-                          "us": Fraction(host.period_us, 1000),
-                          "slices": Fraction(host.period_us, 1000 * host.slice_us)}[unit]
+    return thousandths / units.one_of(unit, host)
 
 
 def measured(host: Host, thousandths: Fraction, unit: str) -> str:
@@ -67,15 +66,11 @@ def bar(part: int, whole: int, cells: int) -> str:
 
 def terminal_width() -> int:
     """Columns of the terminal, $COLUMNS, or 120 where the output is none."""
-    try:
-        given = int(os.environ.get("COLUMNS", ""))
-        return max(given, 40)
-    except ValueError:
-        pass
-    try:
-        return max(os.get_terminal_size(sys.stdout.fileno()).columns, 40)
-    except (OSError, ValueError, AttributeError):
-        return STANDARD_WIDTH
+    with suppress(ValueError):
+        return max(int(os.environ.get("COLUMNS", "")), LEAST_WIDTH)
+    with suppress(OSError, ValueError, AttributeError):
+        return max(os.get_terminal_size(sys.stdout.fileno()).columns, LEAST_WIDTH)
+    return STANDARD_WIDTH
 
 
 def cpus(count: int) -> str:

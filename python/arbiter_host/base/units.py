@@ -9,7 +9,7 @@ import math
 import re
 from fractions import Fraction
 
-from arbiter import Host, Library, Refused
+from arbiter import Host, Library, Refused, WeightFormula
 from arbiter_host.base.faults import HostFault
 
 MAX_DEMAND = 1000000
@@ -24,8 +24,9 @@ MIN_PERIOD, MAX_PERIOD = 1000, 1000000
 DEFAULT_PERIOD = 100000
 MIN_SHARES, MAX_SHARES = 2, 262144
 MIN_WEIGHT, MAX_WEIGHT, DEFAULT_WEIGHT = 1, 10000, 100
-# Conversions of `cpu.shares` to weights, and their names in the library.
-CONVERSIONS = {"linear": "linear", "log": "logarithmic"}
+# The library's formulas of `cpu.shares` and of requests, by the names of a node's conversions.
+OF_SHARES = {"linear": WeightFormula.SHARES_LINEAR, "log": WeightFormula.SHARES_LOGARITHMIC}
+OF_REQUESTS = {"linear": WeightFormula.REQUEST_LINEAR, "log": WeightFormula.REQUEST_LOGARITHMIC}
 # A CPU amount above this many CPUs is refused.
 MAX_CPUS = 10**9
 
@@ -47,13 +48,9 @@ def number_and_unit(text: str) -> tuple[Fraction, str] | None:
     match = NUMBER.match(text.strip())
     if not match:
         return None
-    exponent = int(match.group(2) or 0)
-    if abs(exponent) > 30:
+    if abs(int(match.group(2) or 0)) > 30:
         return None
-    whole, _, decimals = match.group(1).partition(".")
-    moved = exponent - len(decimals)
-    value = Fraction(int(whole + decimals) * 10**max(moved, 0), 10**max(-moved, 0))
-    return value, text.strip()[match.end():].strip()
+    return Fraction(match.group()), text.strip()[match.end():].strip()
 
 
 def span_words(seconds: Fraction) -> str:
@@ -152,14 +149,11 @@ def thousandths_of_usage(usec: int, seconds: Fraction) -> Fraction:
     return Fraction(usec) / (seconds * 1000)
 
 
-def shares_of_thousandths(thousandths: int) -> int:
-    """kubelet's `cpu.shares` of a request, 2 to 262144."""
-    return min(max(thousandths * 1024 // 1000, MIN_SHARES), MAX_SHARES)
-
-
-def quota_of_thousandths(thousandths: int, period: int = DEFAULT_PERIOD) -> int | None:
-    """kubelet's quota of a limit, microseconds of a period, at least 1000; None for no limit."""
-    return None if thousandths == 0 else max(thousandths * period // 1000, MIN_QUOTA)
+def one_of(unit: str, host: Host) -> Fraction:
+    """The thousandths of a CPU that one of a unit of amounts is."""
+    return {"cpu": Fraction(1000), "m": Fraction(1), "%": Fraction(10),
+            "us": Fraction(1000, host.period_us),
+            "slices": thousandths_of_slices(1, host.period_us, host.slice_us)}[unit]
 
 
 def bounded_limit(quota: int, period: int) -> tuple[int, int]:
@@ -167,10 +161,15 @@ def bounded_limit(quota: int, period: int) -> tuple[int, int]:
     return min(max(quota, MIN_QUOTA), MAX_QUOTA), min(max(period, MIN_PERIOD), MAX_PERIOD)
 
 
-def weight_of_shares(library: Library, shares: int, conversion: str) -> int:
-    """`cpu.weight` of `cpu.shares`, by a name of CONVERSIONS."""
-    bounded = min(max(shares, MIN_SHARES), MAX_SHARES)
-    return library.weight_of_shares(bounded, CONVERSIONS[conversion])
+def bounded_weight(weight: int) -> int:
+    """The weight that is nearest to one and that the kernel takes."""
+    return min(max(weight, MIN_WEIGHT), MAX_WEIGHT)
+
+
+def least_of(library: Library, formula: WeightFormula, weight: int) -> int | None:
+    """The least number that a formula makes a weight of; None where there is none."""
+    least = library.least_owned(formula, weight)
+    return least if library.owned_weight(formula, least) == weight else None
 
 
 def decimal(value: Fraction, places: int = 3) -> str:

@@ -7,8 +7,7 @@ from typing import Any
 
 import yaml
 
-from arbiter import Library
-from arbiter_host.base import search, units
+from arbiter_host.base import units
 from arbiter_host.base.atomic_files import Document
 from arbiter_host.exports import Differing, Draft, head
 from arbiter_host.sources.containers import COMPOSE, ContainerSource, service_of
@@ -17,18 +16,11 @@ from arbiter_host.sources.data import number, table, text_field
 NAME = re.compile(r"[a-zA-Z0-9][a-zA-Z0-9_.-]{0,100}")
 
 
-def shares_of(library: Library, weight: int, conversion: str) -> int | None:
-    """The least shares that a conversion makes a weight of; None where there are none."""
-    least = search.least(units.MIN_SHARES, units.MAX_SHARES, lambda shares: units.weight_of_shares(
-        library, shares, conversion) >= weight)
-    return least if units.weight_of_shares(library, least, conversion) == weight else None
-
-
 def told_shares(draft: Draft, group: Differing) -> int | None:
     """The shares that AFTER has, 0 for the default, else the least of its weight; None for none."""
     owned = draft.after.owned
     if owned is None or "cpu-shares" not in owned.keys or not owned.has(group.path):
-        return shares_of(draft.library, group.after.weight, draft.runtime)
+        return units.least_of(draft.library, units.OF_SHARES[draft.runtime], group.after.weight)
     return units.whole(owned.weighing(group.path).now) or 0
 
 

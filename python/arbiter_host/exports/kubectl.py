@@ -12,19 +12,21 @@ from typing import Any, NamedTuple
 
 import yaml
 
+from arbiter_host.base import units
 from arbiter_host.base.atomic_files import Document
 from arbiter_host.base.faults import HostFault
 from arbiter_host.base.model import Group
 from arbiter_host.base.names import shown
 from arbiter_host.base.owned import Amounts, Setting
 from arbiter_host.exports import Differing, Draft, head
-from arbiter_host.exports.compose import shares_of
 from arbiter_host.setting import apply
 from arbiter_host.sources.kubernetes import MAKERS, PodSource
 from arbiter_host.sources.pods import Container, Pod
 
 # What a name of an object may be, so that it can be a part of a file's name and of a command.
 NAME = re.compile(r"[a-z0-9]([-a-z0-9.]{0,251}[a-z0-9])?")
+# Thousandths of the greatest request that has the least shares. What weighs least is given so much.
+LEAST_REQUEST = 2
 # The amounts of a container by `requests` and `limits`; those of the containers by their names, for
 # each list of a pod. None takes an amount away.
 Resources = dict[str, dict[str, str | None]]
@@ -53,17 +55,17 @@ def target_of(pod: Pod) -> Target:
 
 def list_of(container: Container) -> str:
     """The list of a pod in which a container stands."""
-    return "initContainers" if container.is_init else "containers"
+    return "initContainers" if container.kind else "containers"
 
 
 def request_of(draft: Draft, group: Differing) -> int | None:
     """The request of a container in thousandths: AFTER's, else the least of its weight."""
     if group.has_request:
         return int(group.after.request or 0)
-    shares = shares_of(draft.library, group.after.weight, draft.runtime)
-    if shares is None:
+    least = units.least_of(draft.library, units.OF_REQUESTS[draft.runtime], group.after.weight)
+    if least is None:
         draft.refuse(group.path, f"no request gives weight {group.after.weight}")
-    return None if shares is None else -(-shares * 1000 // 1024)
+    return None if least is None else max(least, LEAST_REQUEST)
 
 
 def limit_of(draft: Draft, group: Differing) -> int | None:
@@ -167,7 +169,7 @@ def document(target: Target, rows: Rows, words: Sequence[str]) -> Document:
         spec = {"jobTemplate": {"spec": spec}}
     file = f"{target.namespace}.{kind}.{target.name}.yaml"
     command = f"kubectl -n {target.namespace} patch {kind} {target.name}{more} --patch-file {file}"
-    version = {"CronJob": "batch/v1", **dict.fromkeys(MAKERS, "apps/v1")}.get(target.kind, "v1")
+    version = {**dict.fromkeys(MAKERS, "apps/v1"), "CronJob": "batch/v1"}.get(target.kind, "v1")
     data = {"apiVersion": version, "kind": target.kind,
             "metadata": {"name": target.name, "namespace": target.namespace}, "spec": spec}
     return Document(file, head("kubectl") + "".join(f"# {each}\n" for each in (command, *words))

@@ -40,7 +40,7 @@ class HostAnswer:
         """CPUs that slices of one of its periods are. Fractions add up exactly over hosts."""
         return Fraction(slices * self.answer["slice_usec"], self.answer["period_usec"])
 
-    def of(self, *keys: str) -> Fraction:
+    def of(self, *keys: str | int) -> Fraction:
         """An amount of its answer in CPUs."""
         value: Any = self.answer
         for key in keys:

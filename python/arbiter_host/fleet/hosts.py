@@ -1,6 +1,7 @@
 """The hosts of a fleet: files of a folder, or the nodes of a cluster."""
 from __future__ import annotations
 
+import functools
 import json
 import math
 import os
@@ -8,10 +9,12 @@ from collections.abc import Callable, Mapping, Sequence
 from dataclasses import dataclass, replace
 from typing import Any
 
+from arbiter import Library
 from arbiter_host.base import demands, names
 from arbiter_host.base.faults import HostFault, UsageFault, strerror
 from arbiter_host.fleet.work import HostFile
-from arbiter_host.sources import kubernetes, load, pods
+from arbiter_host.sources import kubernetes, load, pods, topology
+from arbiter_host.sources.conditions import node_facts
 from arbiter_host.sources.data import field, loads, number, table, text_field
 from arbiter_host.sources.source_options import SourceOptions
 from arbiter_host.sources.usage import Used, of_metrics, some
@@ -23,25 +26,28 @@ MOST_FILES = 100000
 
 @dataclass(frozen=True)
 class Pending:
-    """A pod that no node has yet: its name, the thousandths that it requests, and its JSON.
+    """A pod that no node has yet: its name, and its JSON.
 
     What a host gives to one pod it gives to each of the same shape.
     """
 
     title: str
-    request: int
     data: bytes
     shape: pods.Pod
 
 
 @dataclass(frozen=True)
 class Fleet:
-    """The hosts, and of a cluster what no node has yet."""
+    """The hosts, and of a cluster what no node has yet, and what gives its nodes and pods."""
 
     hosts: list[HostFile]
     pending: tuple[Pending, ...] = ()
-    is_cluster: bool = False
     notes: tuple[str, ...] = ()
+    neighbours: Callable[[], topology.Neighbours] | None = None
+
+    @property
+    def is_cluster(self) -> bool:
+        return self.neighbours is not None
 
     def shapes(self) -> dict[pods.Pod, Pending]:
         """The first of the pods of each shape that no node has yet."""
@@ -86,11 +92,11 @@ def named(paths: Sequence[str], folder: str) -> list[HostFile]:
     return [files[name] for name in sorted(files)]
 
 
-def fleet_in(options: SourceOptions, files: Sequence[load.Opened],
+def fleet_in(options: SourceOptions, files: Sequence[load.Opened], library: Callable[[], Library],
              used: Callable[[], Sequence[Used]] = tuple) -> Fleet | None:
     """The fleet that the files of the command line are; None where they are one host.
 
-    What pods used is asked for a cluster alone.
+    The library and what pods used are asked for a cluster alone.
     """
     (path, data), *more = files
     if options.kind == "cgroup":
@@ -106,7 +112,7 @@ def fleet_in(options: SourceOptions, files: Sequence[load.Opened],
         return Fleet(named(paths, path)) if paths else None
     is_meant = options.kind in (None, "kubernetes") and not options.node
     items = items_of(path, data) if is_meant else []
-    return of_cluster(path, items, used(), options.want) if items else None
+    return of_cluster(path, items, library, used(), options.want) if items else None
 
 
 def of_one(files: Sequence[load.Opened]) -> Fleet:
@@ -119,8 +125,8 @@ def of_one(files: Sequence[load.Opened]) -> Fleet:
     return Fleet([HostFile(names.shown(name), path, data)])
 
 
-def of_cluster(word: str, items: Sequence[dict[str, Any]], used: Sequence[Used] = (),
-               want: str = "") -> Fleet:
+def of_cluster(word: str, items: Sequence[dict[str, Any]], library: Callable[[], Library],
+               used: Sequence[Used] = (), want: str = "") -> Fleet:
     """A host for each node of `kubectl get nodes,pods -A -o json`, with the pods that it has and
     what these used."""
     nodes = [each for each in items if each.get("kind") == "Node"]
@@ -146,7 +152,17 @@ def of_cluster(word: str, items: Sequence[dict[str, Any]], used: Sequence[Used] 
             "used by pods that no node here has": [name for name in metrics if name not in here]}
     notes = [f"{words}: {some(list(map(names.shown, each)))}"
              for words, each in told.items() if each]
-    return Fleet(hosts_, tuple(map(pending_of, pending)), True, tuple(notes))
+    return Fleet(hosts_, tuple(pending_of(each, library()) for each in pending), tuple(notes),
+                 functools.partial(neighbours_of, nodes, of_node))
+
+
+def neighbours_of(nodes: Sequence[dict[str, Any]], of_node: Mapping[str, Sequence[dict[str, Any]]]
+                  ) -> topology.Neighbours:
+    """The nodes of a cluster, and the pods of each that have not ended."""
+    lasting = {name: [pod for pod in each if not kubernetes.has_ended(pod)]
+               for name, each in of_node.items()}
+    return topology.neighbours_of({host_name(node): node_facts(node) for node in nodes},
+                                  {host_name(node): lasting[name_of(node)] for node in nodes})
 
 
 def metrics_of(used: Sequence[Used], want: str) -> dict[str, dict[str, Any]]:
@@ -171,6 +187,10 @@ def name_of(node: dict[str, Any]) -> str:
     return text_field(table(node, "metadata"), "name")
 
 
+def host_name(node: dict[str, Any]) -> str:
+    return names.shown(name_of(node) or "unnamed")
+
+
 def title(pod: dict[str, Any]) -> str:
     return "/".join(pods.names_of(pod))
 
@@ -178,15 +198,15 @@ def title(pod: dict[str, Any]) -> str:
 def host_of(word: str, node: dict[str, Any], of_node: Sequence[dict[str, Any]],
             metrics: Mapping[str, dict[str, Any]]) -> HostFile:
     """A node as a host, with its pods and what scales some."""
-    name = names.shown(name_of(node) or "unnamed")
+    name = host_name(node)
     own = dict.fromkeys(map(title, filter(kubernetes.is_pod, of_node)))
     used = [metrics[each] for each in own if each in metrics]
     data = json.dumps({"kind": "List", "items": [node, *of_node, *used]}).encode()
     return HostFile(name, f"{word}: {name}", data, frozenset(own))
 
 
-def pending_of(pod: dict[str, Any]) -> Pending:
-    read = pods.pod_of(pod, [])
+def pending_of(pod: dict[str, Any], library: Library) -> Pending:
+    read = pods.pod_of(pod, library, [])
     data = json.dumps({**pod, "kind": "Pod"}).encode()
     shape = replace(read, namespace="", name="", uid="")
-    return Pending(names.shown(read.title), read.amounts.request or 0, data, shape)
+    return Pending(names.shown(read.title), data, shape)

@@ -11,7 +11,7 @@ from arbiter_host.base import names, plain_files, progress
 from arbiter_host.base.faults import HostFault, NothingFound, UsageFault
 from arbiter_host.base.output import warn
 from arbiter_host.base.plan import engine_of
-from arbiter_host.fleet import answers, pool, report
+from arbiter_host.fleet import answers, near, pool, report
 from arbiter_host.fleet.answers import HostAnswer
 from arbiter_host.fleet.hosts import Fleet, Pending
 from arbiter_host.fleet.report import Report, Waiting
@@ -101,20 +101,25 @@ def reported(name: str, planners: Planners, job: Job, fleet: Fleet, rule: str,
     if words and hosts and not (any(host.answer["groups"] for host in hosts) or asks and any(
             is_chosen(job.selection, each) for each in fleet.pending)):
         raise NothingFound(f"no group of {names.shown(words)} on any host")
+    is_placed = job.action is Action.PODS or asks and bool(fleet.pending)
+    among, placing = near.neighbours_in(fleet) if is_placed else None, hosts
+    if job.action is Action.PODS:
+        hosts = near.judged(hosts, among, [near.pod_in(*each) for each in job.pods])
     told = report.built(job.action, name, hosts, missing, rule, words)
-    title, placing, waiting = "pods that no node has yet", hosts, list[Waiting]()
-    if asks and fleet.pending:
+    title, waiting = "pods that no node has yet", list[Waiting]()
+    if asks and is_placed:
         shapes = fleet.shapes()
         pods = [(f"{each.title}.json", each.data) for each in shapes.values()]
         placing, _ = asked(planners, replace(job, action=Action.PODS, pods=pods), fleet)
         places = {shape: place for place, shape in enumerate(shapes)}
         waiting = [Waiting(each.title, places[each.shape], each.shape.asks,
-                           is_chosen(job.selection, each)) for each in fleet.pending]
+                           is_chosen(job.selection, each), near.pod_in(each.title, each.data))
+                   for each in fleet.pending]
     elif job.action is Action.PODS and hosts:
         title = "pods, one after another"
         waiting = list(replicas(job, hosts[0]))
     if any(each.is_chosen for each in waiting) if asks else len(waiting) > 1:
-        told = report.with_placed(told, title, waiting, placing, rule)
+        told = report.with_placed(told, title, waiting, placing, rule, among)
     return told, lambda: check_answered(fleet, hosts, missing, told)
 
 
@@ -129,8 +134,10 @@ def replicas(job: Job, host: HostAnswer) -> Iterator[Waiting]:
     """The pods of a question: of each file as many as its object makes."""
     for place, (name, data) in enumerate(job.pods):
         count, requests = replicas_in(name, data), host.answer["pods"][place]["requests"]
+        pod = near.pod_in(name, data)
         for at in range(1, count + 1):
-            yield Waiting(name if count == 1 else f"{name} {at} of {count}", place, requests)
+            yield Waiting(name if count == 1 else f"{name} {at} of {count}", place, requests,
+                          pod=pod)
 
 
 def check_answered(fleet: Fleet, hosts: Sequence[HostAnswer], missing: Missing,

@@ -11,9 +11,11 @@ from arbiter_host.answers.series import COUNTS
 from arbiter_host.base.html import bar, rendered
 from arbiter_host.base.names import few, short, shown
 from arbiter_host.base.tables import Column, Table, TableAnswer, plain
+from arbiter_host.fleet import near
 from arbiter_host.fleet.answers import HostAnswer
 from arbiter_host.fleet.work import Action
 from arbiter_host.sources.kubernetes import resource_text
+from arbiter_host.sources.topology import Neighbour, Neighbours
 
 # The rules of `--rank`, told in the report.
 RULES = {
@@ -21,14 +23,9 @@ RULES = {
     "most-left": "the most CPU left, then the least that others lose and the pod lacks",
 }
 OWN = "the order is arbiterctl's own, neither proved nor the scheduler's scores: by"
-# The table of pods that are put on hosts, its columns that it may lack, and the amounts of an
-# answer in it.
-PENDING = ["pod", "requests", "host", "gets", "wants", "others lose", "why", "not looked at"]
-OPTIONAL = PENDING[-2:]
+# The amounts of a pod that is put on a host.
 AMOUNTS = ("gets", "wants", "lost")
 MOST_MOVED = 10
-# Columns of what is bad, and their cells where there is none of it.
-BAD, NONE = ("starved", "throttled", "bursts", "losing"), ("0", "0 to 0")
 # The titles of pages.
 TITLES = {Action.PLAN: "What each host serves", Action.CHANGE: "A change on many hosts",
           Action.PODS: "Where pods would go", Action.SAMPLES: "Demands over time on many hosts"}
@@ -51,36 +48,25 @@ class Report:
 
 # Lines, tables, the same as data, and the CPUs of each bar by its name.
 Parts = tuple[list[str], list[Table[Any]], dict[str, Any], dict[str, Fraction]]
-Cell = Callable[[HostAnswer], str]
-Columns = Mapping[str, Cell]
+Row = Mapping[str, Any]
+# The columns of tables with a row for each host. What no host has of bad things has no column.
+Columns = list[Column[HostAnswer]]
+HOST: Column[HostAnswer] = Column("host", lambda host: host.name, True)
 
 
-def count_of(key: str) -> Cell:
-    """A cell with a number of a host's answer."""
-    return lambda host: str(host.answer[key])
+def of_host(title: str, cell: Callable[[HostAnswer], str], is_bad: bool = False
+            ) -> Column[HostAnswer]:
+    return Column(title, cell, None, is_optional=is_bad)
 
 
-def amount_of(*keys: str) -> Cell:
-    """A cell with an amount of a host's answer, in CPUs."""
-    return lambda host: cpu(host.of(*keys))
+def count_of(key: str, is_bad: bool = False) -> Column[HostAnswer]:
+    """A number of a host's answer."""
+    return of_host(key, lambda host: str(host.answer[key]), is_bad)
 
 
-def table(title: str, hosts: Sequence[HostAnswer], columns: Columns) -> Table[HostAnswer]:
-    """A table with a row for each host, in the order in which they are given. What no host has of
-    bad things has no column."""
-    return Table([Column("host", lambda host: host.name, True),
-                  *(Column(head, cell, None) for head, cell in columns.items()
-                    if head not in BAD or any(cell(host) not in NONE for host in hosts))],
-                 list(hosts), title)
-
-
-def listed(title: str, heads: Sequence[str], rows: Sequence[Sequence[str]],
-           optional: Sequence[str] = ()) -> Table[Sequence[str]]:
-    """A table of rows that are made, of which the first column has names. Columns that it may lack
-    are there where a row has something."""
-    return Table([Column(head, itemgetter(at), at == 0 or head == "requests" or None)
-                  for at, head in enumerate(heads)
-                  if head not in optional or any(row[at] != "-" for row in rows)], rows, title)
+def amount_of(title: str, *keys: str | int) -> Column[HostAnswer]:
+    """An amount of a host's answer, in CPUs."""
+    return of_host(title, lambda host: cpu(host.of(*keys)))
 
 
 def cpu(value: Fraction) -> str:
@@ -117,25 +103,28 @@ def lack(host: HostAnswer) -> Fraction:
 
 
 PLANNED = ("groups", "lacking", "starved", "throttled")
-PLAN_COLUMNS: Columns = {
-    "cpus": count_of("cpus"), "served": amount_of("served"), "wanted": amount_of("wanted"),
-    "lack": lambda host: cpu(lack(host)),
-    "use": lambda host: part(host.of("served"), host.of("capacity")),
-    **{key: count_of(key) for key in PLANNED},
-    "what limits the total": lambda host: group_words(host.answer["limiting"], host,
-                                                      "the demands alone"),
-}
+PLAN_COLUMNS: Columns = [
+    HOST, count_of("cpus"), amount_of("served", "served"), amount_of("wanted", "wanted"),
+    of_host("lack", lambda host: cpu(lack(host))),
+    of_host("use", lambda host: part(host.of("served"), host.of("capacity"))),
+    *(count_of(key, key in ("starved", "throttled")) for key in PLANNED),
+    of_host("what limits the total", lambda host: group_words(host.answer["limiting"], host,
+                                                              "the demands alone"))]
 
 
-def cell_of(key: str) -> Callable[[Mapping[str, Any]], str]:
-    """A cell with a value of a row, amounts with two decimals."""
-    return lambda row: f"{row[key]:.2f}" if isinstance(row[key], float) else str(row[key])
+def of_row(title: str, key: str, is_left: bool | None = None, is_bad: bool = False) -> Column[Row]:
+    """A value of a row, amounts with two decimals; `-` for none."""
+    def cell(row: Row) -> str:
+        value = row.get(key, "-")
+        return f"{value:.2f}" if isinstance(value, float) else str(value)
+
+    return Column(title, cell, is_left, is_optional=is_bad)
 
 
-LOADS: list[Column[Mapping[str, Any]]] = [
+LOADS: list[Column[Row]] = [
     Column("workload", lambda row: shown(row["workload"]) + (" (HPA)" if row["scaled"] else ""),
            True), Column("requests", lambda row: f"{row['request_millicpu']}m"),
-    *(Column(key.partition("_")[0], cell_of(key))
+    *(of_row(key.partition("_")[0], key, False)
       for key in ("pods", "hosts", "served_cpus", "wanted_cpus", "lacking"))]
 
 
@@ -153,7 +142,7 @@ def of_plan(hosts: Sequence[HostAnswer], _: str) -> Parts:
     loads = workloads(hosts)
     data = {f"{key}_cpus": number(value) for key, value in amounts.items()} | counts | {
         "workloads": loads}
-    tables: list[Table[Any]] = [table("Hosts, the greatest lack first", ordered, PLAN_COLUMNS)]
+    tables: list[Table[Any]] = [Table(PLAN_COLUMNS, ordered, "Hosts, the greatest lack first")]
     tables += [Table(LOADS, loads, "Workloads, the greatest lack first")] if loads else []
     return lines, tables, data, {"": amounts["served"]}
 
@@ -188,25 +177,28 @@ def lost(host: HostAnswer) -> Fraction:
     return host.cpus(-sum(rise * count for rise, count in host.answer["changes"] if rise < 0))
 
 
-CHANGE_COLUMNS: Columns = {
-    "matched": count_of("matched"),
-    "served": amount_of("before", "served"), "then": amount_of("after", "served"),
-    "changed groups": lambda host: signed(host.of("changed_groups")),
-    "others": lambda host: signed(host.of("others")),
-    "lost": lambda host: cpu(lost(host)),
-    "starved": lambda host: " to ".join(str(host.answer[when]["starved"])
-                                        for when in ("before", "after")),
-    "gain most": lambda host: group_words(host.answer["gains"], host),
-    "lose most": lambda host: group_words(host.answer["losses"], host),
-}
+CHANGE_COLUMNS: Columns = [
+    HOST, count_of("matched"),
+    amount_of("served", "before", "served"), amount_of("then", "after", "served"),
+    of_host("changed groups", lambda host: signed(host.of("changed_groups"))),
+    of_host("others", lambda host: signed(host.of("others"))),
+    of_host("lost", lambda host: cpu(lost(host))),
+    of_host("starved", lambda host: " to ".join(str(host.answer[when]["starved"])
+                                                for when in ("before", "after")), True),
+    of_host("gain most", lambda host: group_words(host.answer["gains"], host), True),
+    of_host("lose most", lambda host: group_words(host.answer["losses"], host), True)]
+# A group of a host, and by how much what it gets rises.
+Moved = tuple[Fraction, str, str]
+MOVED: list[Column[Moved]] = [
+    Column("host", itemgetter(1), True), Column("group", lambda each: shown(each[2]), None),
+    Column("change", lambda each: signed(each[0]), None)]
 
 
-def moved(hosts: Sequence[HostAnswer], key: str) -> list[list[str]]:
-    """The rows of the groups of the fleet that gain or lose most."""
+def moved(hosts: Sequence[HostAnswer], key: str) -> list[Moved]:
+    """The groups of the fleet that gain or lose most."""
     rises = [(host.cpus(rise), host.name, path) for host in hosts
              for path, rise in host.answer[key]]
-    most = sorted(rises, key=lambda each: (-abs(each[0]), *each[1:]))[:MOST_MOVED]
-    return [[name, shown(path), signed(rise)] for rise, name, path in most]
+    return sorted(rises, key=lambda each: (-abs(each[0]), *each[1:]))[:MOST_MOVED]
 
 
 def of_changes(hosts: Sequence[HostAnswer], _: str) -> Parts:
@@ -221,10 +213,10 @@ def of_changes(hosts: Sequence[HostAnswer], _: str) -> Parts:
              f"hosts with such a group: {with_group} of {len(hosts)}",
              f"groups that gain: {gain}, that lose: {lose}, of"
              f" {sum(count for _, count in changes)} without children"]
-    most = listed("Groups that gain and lose most", ["host", "group", "change"],
-                  [*moved(hosts, "gains"), *moved(hosts, "losses")])
+    most = Table(MOVED, [*moved(hosts, "gains"), *moved(hosts, "losses")],
+                 "Groups that gain and lose most")
     ordered = sorted(hosts, key=lambda host: (-lost(host), host.name))
-    return lines, [most, table("Hosts, the greatest loss first", ordered, CHANGE_COLUMNS)], {
+    return lines, [most, Table(CHANGE_COLUMNS, ordered, "Hosts, the greatest loss first")], {
         "before_cpus": number(before), "after_cpus": number(after), "gain": gain, "lose": lose,
         "hosts_with_such_a_group": with_group}, {"before": before, "after": after}
 
@@ -239,20 +231,20 @@ def ranked(hosts: Sequence[HostAnswer], place: int, rule: str) -> list[HostAnswe
     return sorted((host for host in hosts if "why" not in host.answer["pods"][place]), key=key)
 
 
-def unjudged(pods: Iterable[dict[str, Any]]) -> list[str]:
+def unjudged(pods: Iterable[Row]) -> list[str]:
     """The conditions of a pod that are not looked at on some hosts, in words; none for none."""
     words = dict.fromkeys(word for pod in pods for word in pod["not_looked_at"])
     return [shown(", ".join(words))] if words else []
 
 
 def place_columns(place: int) -> Columns:
-    def amount(key: str) -> Callable[[HostAnswer], str]:
-        return lambda host: cpu(host.cpus(host.answer["pods"][place][key]))
-
-    return {"gets": amount("gets"), "wants": amount("wants"), "others lose": amount("lost"),
-            "losing": lambda host: str(host.answer["pods"][place]["losing"]),
-            "left": amount("left"),
-            "lose most": lambda host: group_words(host.answer["pods"][place]["losers"], host)}
+    return [HOST, amount_of("gets", "pods", place, "gets"),
+            amount_of("wants", "pods", place, "wants"),
+            amount_of("others lose", "pods", place, "lost"),
+            of_host("losing", lambda host: str(host.answer["pods"][place]["losing"]), True),
+            amount_of("left", "pods", place, "left"),
+            of_host("lose most", lambda host: group_words(host.answer["pods"][place]["losers"],
+                                                          host), True)]
 
 
 def of_places(hosts: Sequence[HostAnswer], rule: str) -> Parts:
@@ -268,8 +260,8 @@ def of_places(hosts: Sequence[HostAnswer], rule: str) -> Parts:
                      f" {len(hosts)}" + (f"; that cannot take it: {len(cannot)}, as {cannot[0]}"
                                          if cannot else "")
                      + "".join(f"; not looked at: {each}" for each in unjudged(pods)[:1]))
-        tables.append(table(f"Where {shown(name)} would go, the best first", order,
-                            place_columns(place)))
+        tables.append(Table(place_columns(place), order,
+                            f"Where {shown(name)} would go, the best first"))
         best[name] = [host.name for host in order]
     return lines, tables, {"by": rule, "rule": RULES[rule], "best": best}, {}
 
@@ -285,18 +277,22 @@ def count(host: HostAnswer, key: str) -> int:
     return sum(group[key] for group in host.answer["groups_of_columns"])
 
 
-SERIES_COLUMNS: Columns = {
-    "samples": count_of("samples"),
-    "wanted": lambda host: cpu(mean(host, "wanted")),
-    "got": lambda host: cpu(mean(host, "got")),
-    "of it": lambda host: part(mean(host, "got"), mean(host, "wanted")),
-    "throttled": lambda host: str(count(host, "throttled")),
-    "bursts": lambda host: str(count(host, "bursts")),
-    "starved": lambda host: str(count(host, "starved")),
-    "samples in a row": lambda host: str(max((
+def mean_of(key: str) -> Column[HostAnswer]:
+    return of_host(key, lambda host: cpu(mean(host, key)))
+
+
+def sum_of(key: str) -> Column[HostAnswer]:
+    return of_host(key, lambda host: str(count(host, key)), True)
+
+
+SERIES_COLUMNS: Columns = [
+    HOST, count_of("samples"),
+    *map(mean_of, ("wanted", "got")),
+    of_host("of it", lambda host: part(mean(host, "got"), mean(host, "wanted"))),
+    *map(sum_of, ("throttled", "bursts", "starved")),
+    of_host("samples in a row", lambda host: str(max((
         group["samples_starved_in_a_row"] for group in host.answer["groups_of_columns"]),
-        default=0)),
-}
+        default=0)), True)]
 
 
 def of_series(hosts: Sequence[HostAnswer], _: str) -> Parts:
@@ -310,7 +306,7 @@ def of_series(hosts: Sequence[HostAnswer], _: str) -> Parts:
              f"periods of groups: throttled {sums['throttled']}, with a burst {sums['bursts']},"
              f" starved {sums['starved']}"]
     ordered = sorted(hosts, key=lambda host: (mean(host, "got") - mean(host, "wanted"), host.name))
-    return lines, [table("Hosts, the greatest lack first", ordered, SERIES_COLUMNS)], sums, {
+    return lines, [Table(SERIES_COLUMNS, ordered, "Hosts, the greatest lack first")], sums, {
         "": means["got"]}
 
 
@@ -348,41 +344,57 @@ def built(action: Action, name: str, hosts: Sequence[HostAnswer],
 
 class Waiting(NamedTuple):
     """A pod that is to be put on a host: its name, its place among the pods that each host was
-    asked for, and what it requests, by the names of the resources."""
+    asked for, and what it requests, by the names of the resources. In a cluster also what it asks
+    of other pods."""
 
     name: str
     place: int
     requests: Mapping[str, int]
     is_chosen: bool = True
-
-    @property
-    def words(self) -> str:
-        """The requests for people."""
-        others = [f"{resource_text(name, amount)} {shown(name)}"
-                  for name, amount in self.requests.items() if name not in ("cpu", "pods")]
-        return ", ".join([resource_text("cpu", self.requests.get("cpu", 0)), *others])
+    pod: Neighbour | None = None
 
 
-def placed(waiting: Sequence[Waiting], hosts: Sequence[HostAnswer], rule: str
-           ) -> list[dict[str, Any]]:
-    """Each pod in order goes to the best host that has room for its requests, or why it does not.
+def requests_words(requests: Mapping[str, int]) -> str:
+    """Requests for people."""
+    others = [f"{resource_text(name, amount)} {shown(name)}"
+              for name, amount in requests.items() if name not in ("cpu", "pods")]
+    return ", ".join([resource_text("cpu", requests.get("cpu", 0)), *others])
 
-    What a host gives is as if the pod came alone. Its requests stay taken for those behind it.
+
+PENDING: list[Column[Row]] = [
+    of_row("pod", "pod", True),
+    Column("requests", lambda pod: requests_words(pod["requests"]), True),
+    Column("host", lambda pod: pod["host"] or "unplaced", None),
+    of_row("gets", "gets_cpus"), of_row("wants", "wants_cpus"), of_row("others lose", "lost_cpus"),
+    of_row("why", "why", is_bad=True),
+    Column("not looked at", lambda pod: "".join(unjudged([pod])) or "-", None, is_optional=True)]
+
+
+def placed(waiting: Sequence[Waiting], hosts: Sequence[HostAnswer], rule: str,
+           among: Neighbours | None) -> list[dict[str, Any]]:
+    """Each pod in order goes to the best host that has room for its requests and takes it beside
+    the pods of all hosts, or why it does not.
+
+    What a host gives is as if the pod came alone. It stays there for those behind it, and so do its
+    requests.
     """
     room, rows = {host.name: dict(host.answer["room"]) for host in hosts}, []
     for pod in waiting:
-        order = ranked(hosts, pod.place, rule)
+        whys = near.refusals(among, pod.pod)
+        order = [host for host in ranked(hosts, pod.place, rule) if host.name not in whys]
         best = next((host for host in order if all(
             amount <= max(room[host.name].get(name, amount), 0)
             for name, amount in pod.requests.items() if amount)), None)
         told = (best or hosts[0]).answer["pods"][pod.place] if hosts else {"not_looked_at": []}
         row: dict[str, Any] = {
             "pod": pod.name, "request_millicpu": pod.requests.get("cpu", 0),
-            "requests": dict(pod.requests), "not_looked_at": told["not_looked_at"],
+            "requests": dict(pod.requests), "not_looked_at": near.looked_at(among, pod.pod, told),
             "host": best.name if best else None}
         if best is None:
-            row["why"] = refusal(pod.place, hosts, order)
+            row["why"] = refusal(pod.place, hosts, order, whys)
         else:
+            if among is not None and pod.pod is not None:
+                among.put(pod.pod, best.name)
             left = room[best.name]
             left |= {name: left[name] - amount for name, amount in pod.requests.items()
                      if name in left}
@@ -391,28 +403,27 @@ def placed(waiting: Sequence[Waiting], hosts: Sequence[HostAnswer], rule: str
     return rows
 
 
-def refusal(place: int, hosts: Sequence[HostAnswer], order: Sequence[HostAnswer]) -> str:
+def refusal(place: int, hosts: Sequence[HostAnswer], order: Sequence[HostAnswer],
+            whys: Mapping[str, str]) -> str:
     if not hosts:
         return "no host is answered"
     if order:
         return f"pods before it take what {order[0].name} has left"
     rest = f"; {len(hosts) - 1} more refuse it" if len(hosts) > 1 else ""
-    return f"{hosts[0].name}: {hosts[0].answer['pods'][place]['why']}{rest}"
+    name, told = hosts[0].name, hosts[0].answer["pods"][place]
+    return f"{name}: {told['why'] if 'why' in told else whys[name]}{rest}"
 
 
 def with_placed(to: Report, title: str, waiting: Sequence[Waiting], hosts: Sequence[HostAnswer],
-                rule: str) -> Report:
+                rule: str, among: Neighbours | None) -> Report:
     """A report with where some pods go, one after another, of those that are chosen."""
-    of_all = zip(waiting, placed(waiting, hosts, rule))
-    chosen = [(of, each) for of, each in of_all if of.is_chosen]
-    pods = [each for _, each in chosen]
+    of_all = zip(waiting, placed(waiting, hosts, rule, among))
+    pods = [each for of, each in of_all if of.is_chosen]
     unplaced = sum(each["host"] is None for each in pods)
-    rows = [[each["pod"], of.words, each["host"] or "unplaced",
-             *(f"{each[f'{key}_cpus']:.2f}" if each["host"] else "-" for key in AMOUNTS),
-             each.get("why", "-"), *(unjudged([each]) or "-")] for of, each in chosen]
-    line = f"{title}: {len(pods)}, unplaced: {unplaced}; {OWN} {rule}: {RULES[rule]}"
+    order = "" if any(OWN in each for each in to.lines) else f"; {OWN} {rule}: {RULES[rule]}"
+    line = f"{title}: {len(pods)}, unplaced: {unplaced}{order}"
     return replace(to, lines=[*to.lines, line], data={**to.data, "pending": pods}, tables=[
-        *to.tables, listed(title[:1].upper() + title[1:], PENDING, rows, OPTIONAL)])
+        *to.tables, Table(PENDING, pods, title[:1].upper() + title[1:])])
 
 
 def answer(report: Report, has_all: bool) -> TableAnswer:

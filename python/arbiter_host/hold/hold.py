@@ -149,11 +149,6 @@ def own_settings(group: Group, old: Settings) -> None:
     group.weight, group.quota, group.period = old.weight or 1, old.quota, old.period
 
 
-def bounded(weight: int) -> int:
-    """A weight in the kernel's range."""
-    return min(max(weight, units.MIN_WEIGHT), units.MAX_WEIGHT)
-
-
 def tree_weights(model: Model, leaves: Mapping[str, int]) -> dict[str, int]:
     """The weights of all groups. One with a leaf of `leaves` below it has the sum of its children;
     all other groups keep their own weights."""
@@ -164,7 +159,7 @@ def tree_weights(model: Model, leaves: Mapping[str, int]) -> dict[str, int]:
         if held.intersection(below[path]):
             weight = sum(found[child] for child in below[path])
             held.add(path)
-        found[path] = bounded(weight)
+        found[path] = units.bounded_weight(weight)
     return found
 
 
@@ -215,12 +210,12 @@ class HeldTree(readings.Tree):
         self.whole |= slow & self.slow
         self.slow = slow
 
-    def add(self, look: readings.TreeReading, entry: os.DirEntry[str], above: str, depth: int,
-            taken: set[str]) -> bool:
+    def add(self, look: readings.TreeReading, entry: os.DirEntry[str], above: str,
+            depth: int) -> bool:
         """Adds one group and those below it."""
         if self.part and len(look.model.groups) >= self.last:
             raise Crowded
-        return super().add(look, entry, above, depth, taken)
+        return super().add(look, entry, above, depth)
 
     def add_below(self, look: readings.TreeReading, group: Group, depth: int) -> bool:
         """Adds the groups below one, unless they are a part that is held as one."""
@@ -292,7 +287,7 @@ class Loop:
         # The folder of each group with what stood in it, is written and may stand, as the undo
         # file has it.
         self.undo: list[tuple[str, Settings, Settings, Settings]] = []
-        self.harm = Harm(host.processors * (host.period_us // host.slice_us))
+        self.harm = Harm(engine.library, host.processors * (host.period_us // host.slice_us))
         # Whether the limits of a round are written, and whether they stay at the end.
         self.is_written, self.stays = record is not None, False
         # The last time and the microseconds used outside the tree; None after it was told.
@@ -489,8 +484,7 @@ class Loop:
         try:
             return readings.reading_of(
                 self.engine.library, self.small, rose, passed, before.threads,
-                kept.counted.threads,
-                readings.allowed(limit.quota, limit.period, limit.burst, passed))
+                kept.counted.threads, (limit.quota, limit.period, limit.burst))
         except (Refused, OverflowError) as error:
             raise fault_of(shown(kept.folder), error) from error
 

@@ -9,12 +9,12 @@ from __future__ import annotations
 import os
 import shutil
 import time
-from collections.abc import Iterator
+from collections.abc import Iterator, Sequence
 from typing import Any, NamedTuple
 
-from arbiter import Columns, Host, LeafTimes, Reading, Round
+from arbiter import Columns, Host, LeafTimes, Library, Reading, Round
 from arbiter_host.base import children, units
-from arbiter_host.base.faults import HostFault, strerror
+from arbiter_host.base.faults import HostFault
 from arbiter_host.base.model import Group, Model
 from arbiter_host.base.names import shown
 from arbiter_host.hold import hold
@@ -31,8 +31,8 @@ MOST_LINE = 1 << 12
 # The rows of a plan that it takes, beside the rest: leaves, groups with children, and the loop's
 # own group. And the limits.
 MOST_LEAVES = MOST_LIMITS = 4095
-# The period of limits in nanoseconds; the greatest amount and limit that it takes.
-LIMIT_PERIOD, MOST_AMOUNT, MOST_LIMIT = 10**8, 10**9, 512 * 10**8
+# The period of limits in nanoseconds; the most slices and the greatest limit that a word has.
+LIMIT_PERIOD, MOST_SLICES, MOST_LIMIT = 10**8, 10**9, 512 * 10**8
 # Nanoseconds of a microsecond.
 MICRO = 1000
 # The row of the loop's own group.
@@ -71,13 +71,10 @@ class Given(NamedTuple):
     @property
     def lines(self) -> Iterator[str]:
         """The commands."""
-        yield f"plan {self.slices}"
-        yield from (f"limit {each.group} {each.most} {each.burst} {each.above}"
-                    for each in self.limits)
-        yield from (f"leaf {each.group} {each.amount} {each.guarantee} {each.limited}"
-                    for each in self.leaves)
-        yield from (f"inner {group} {limited}" for group, limited in self.inner)
-        yield "end"
+        rows: dict[str, Sequence[tuple[int, ...]]] = {
+            "plan": [(self.slices,)], "limit": self.limits, "leaf": self.leaves,
+            "inner": self.inner, "end": [()]}
+        return (" ".join(map(str, (word, *row))) for word, each in rows.items() for row in each)
 
 
 class Counts(NamedTuple):
@@ -97,20 +94,14 @@ class Scheduler:
         found = program or shutil.which(PROGRAM, path=f"{os.environ.get('PATH', '')}:{FOLDERS}")
         if not found:
             raise HostFault(f"--by scheduler: no {PROGRAM}: apt-get install {PROGRAM}")
-        try:
-            self.child = children.Child([found, top])
-        except OSError as error:
-            raise HostFault(f"{found}: {strerror(error)}") from error
+        self.child = children.Child([found, top])
         self.counts = Counts(0, 0, 0, 0)
         self.answer("ready")
 
     def fault(self, about: str) -> WriteFault:
         """The last words that it said; it is ended if it has not."""
         self.child.kill()
-        until = time.monotonic() + LONGEST
-        while self.child.step(until) and time.monotonic() < until:
-            pass
-        self.child.end()
+        self.finish()
         said = self.child.said.decode(errors="replace").strip().splitlines()
         return WriteFault(shown(said[-1][:400]) if said else f"{PROGRAM}: {about}")
 
@@ -173,8 +164,12 @@ class Scheduler:
 
     def end(self) -> None:
         """Ends it: the kernel schedules by weights again."""
-        until = time.monotonic() + LONGEST
         self.child.give(b"", is_last=True)
+        self.finish()
+
+    def finish(self) -> None:
+        """Reads what it says up to its end, for a time, and ends it if it has not."""
+        until = time.monotonic() + LONGEST
         while self.child.step(until) and time.monotonic() < until:
             pass
         self.child.end()
@@ -190,13 +185,14 @@ def folders_above(top: str) -> Iterator[str]:
     yield from reversed(found) if found else [top]
 
 
-def limit_of(group: int, settings: tuple[int | None, int, int], above: int) -> Limit | None:
+def limit_of(library: Library, group: int, settings: tuple[int | None, int, int], above: int
+             ) -> Limit | None:
     """The limit of a group's quota, period and burst in microseconds, if it has one."""
     quota, period, burst = settings
     if quota is None:
         return None
-    most = min(max(quota * LIMIT_PERIOD // period, 1), MOST_LIMIT)
-    return Limit(group, most, min(burst * MICRO, MOST_LIMIT), above)
+    most = library.allowed(quota, period, 0, LIMIT_PERIOD)
+    return Limit(group, min(most, MOST_LIMIT), min(burst * MICRO, MOST_LIMIT), above)
 
 
 def settings_of(folder: str) -> tuple[int | None, int, int]:
@@ -302,7 +298,7 @@ class ScheduledLoop(hold.Loop):
             nearest[path] = limit.group if limit else above
             row = self.places.get(path)
             if row is not None:
-                leaves.append(Served(number, min(amounts[row], MOST_AMOUNT), guarantees[row],
+                leaves.append(Served(number, min(amounts[row], MOST_SLICES), guarantees[row],
                                      nearest[path]))
             elif children[path]:
                 inner.append((number, nearest[path]))
@@ -316,7 +312,7 @@ class ScheduledLoop(hold.Loop):
         number = above = 0
         for folder in folders_above(self.tree.top):
             number = os.stat(folder).st_ino
-            limit = limit_of(number, settings_of(folder), above)
+            limit = limit_of(self.engine.library, number, settings_of(folder), above)
             limits += [limit] if limit else []
             above = number if limit else above
         return number, {".": above}
@@ -328,7 +324,8 @@ class ScheduledLoop(hold.Loop):
         if kept is not None and path not in self.places and last is not None:
             return last._replace(above=above)
         burst = kept.old.burst if kept is not None else group.burst
-        return limit_of(number, (group.quota, group.period, burst), above)
+        settings = group.quota, group.period, burst
+        return limit_of(self.engine.library, number, settings, above)
 
     def round(self, missed: int = 0, is_jump: bool = False) -> Line:
         """One round, with what the scheduler counted up to its reading."""

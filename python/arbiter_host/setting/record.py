@@ -16,6 +16,7 @@ from typing import NamedTuple
 from arbiter_host.base.atomic_files import FLAGS, faults, own_folder, place_of
 from arbiter_host.base.faults import HostFault
 from arbiter_host.base.names import shown
+from arbiter_host.base.safe_files import closing_file
 
 FOLDER = "/run/arbiter"
 LOCK = "hold.lock"
@@ -89,10 +90,8 @@ def holder(path: str) -> LastLoop | None:
         file = os.open(os.path.join(path, LOCK), os.O_RDONLY | os.O_NONBLOCK | FLAGS)
     except OSError:
         return None
-    try:
+    with closing_file(file):
         return None if locked(file, fcntl.LOCK_SH) else last_loop(file)
-    finally:
-        os.close(file)
 
 
 class Record:

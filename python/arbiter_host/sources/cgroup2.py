@@ -38,8 +38,7 @@ def file_text(folder: str | int, name: str) -> str | None:
 
 def number_in(text: str | None) -> int | None:
     """The whole number of a text, if it is one of at most 30 digits."""
-    word = (text or "").strip()
-    return int(word) if word.isascii() and word.isdigit() and len(word) <= 30 else None
+    return units.whole((text or "").strip(), 30)
 
 
 def keyed(text: str | None) -> dict[str, int]:

@@ -4,7 +4,7 @@ from __future__ import annotations
 from collections.abc import Sequence
 from fractions import Fraction
 
-from arbiter import Host
+from arbiter import Host, Library
 from arbiter_host.base import demands, units
 from arbiter_host.base.model import Model, bind
 from arbiter_host.sources import readings, systemd
@@ -39,9 +39,11 @@ def slice_notes(model: Model) -> list[str]:
     return notes
 
 
-def read(folders: Sequence[str], host: Host, times: Times = Times(), want: str = "usage") -> Model:
+def read(folders: Sequence[str], host: Host, times: Times = Times(), want: str = "usage",
+         library: Library | None = None) -> Model:
     """The model of a tree, which is read so often if its demands are taken from use, or of its
-    copies. Its settings are those of the first reading."""
+    copies. Its settings are those of the first reading. With a library those of units can be
+    changed."""
     is_once = want not in demands.OF_USE
     series = readings.series_of(folders[:1] if is_once else folders, host,
                              Times(times.interval, 1) if is_once else times)
@@ -54,5 +56,7 @@ def read(folders: Sequence[str], host: Host, times: Times = Times(), want: str =
     demands.set_demands(model, measured, want, series.seconds)
     demands.stop(model, series.first.frozen, "frozen")
     model.notes += [*own_notes(model, series), *slice_notes(model)]
-    model.owned = systemd.TreeSource(model.copy(), measured, seconds=series.seconds)
+    if library is not None:
+        model.owned = systemd.TreeSource(model.copy(), measured, seconds=series.seconds,
+                                         library=library)
     return model

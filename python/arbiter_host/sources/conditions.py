@@ -24,7 +24,10 @@ REQUIRED = "requiredDuringSchedulingIgnoredDuringExecution"
 # Keys of a volume that ties its pod to no node.
 PLAIN_VOLUMES = {"name", "configMap", "downwardAPI", "emptyDir", "hostPath", "image", "nfs",
                  "projected", "secret"}
-ANTI_AFFINITY = "pod anti-affinity"
+# Conditions on the pods of other nodes too, which a node alone cannot judge, in their order; and
+# what pods that are there ask of a new one.
+AFFINITY, ANTI_AFFINITY, SPREAD = "pod affinity", "pod anti-affinity", "topology spread"
+BETWEEN, OF_OTHERS = (AFFINITY, ANTI_AFFINITY, SPREAD), f"{ANTI_AFFINITY} of others"
 
 
 class Expression(NamedTuple):
@@ -109,21 +112,33 @@ class NodeFacts:
         """A fault where the scheduler puts no such pod on the node."""
         if pod.gates:
             raise HostFault(f"it waits for its gates {shown(', '.join(pod.gates))}")
+        why = self.kept_off(pod) or self.unmet(pod)
+        if why:
+            raise HostFault(why)
+        self.check_system(pod)
+
+    def kept_off(self, pod: Conditions) -> str:
+        """The taint that keeps a pod away, in words; empty for none."""
         for taint in self.taints:
             if not any(taint.is_tolerated(each) for each in pod.tolerations):
-                raise HostFault("the node takes no new pods (unschedulable)" if taint.key == CORDON
-                                else f"it does not tolerate the taint {shown(taint.key)}")
+                return ("the node takes no new pods (unschedulable)" if taint.key == CORDON
+                        else f"it does not tolerate the taint {shown(taint.key)}")
+        return ""
+
+    def unmet(self, pod: Conditions) -> str:
+        """The condition of a pod on labels that the node does not meet, in words; empty for none.
+        """
         labels = dict(self.labels)
         for key, value in pod.selector:
             if labels.get(key) != value:
-                raise HostFault(f"the node has no label {shown(key)}={shown(value)}")
+                return f"the node has no label {shown(key)}={shown(value)}"
         # (a term without an expression holds nowhere)
         if pod.terms is not None and not any(
                 term and all(each.holds(labels) for each in term) for term in pod.terms):
             first = next((each.words for term in pod.terms for each in term
                           if not each.holds(labels)), "no term")
-            raise HostFault(f"its node affinity does not hold: {first}")
-        self.check_system(pod)
+            return f"its node affinity does not hold: {first}"
+        return ""
 
     def check_system(self, pod: Conditions) -> None:
         """A fault where the node has another operating system than the pod names. One that names
@@ -159,9 +174,9 @@ def unjudged(spec: dict[str, Any], uid: str, terms: Sequence[Sequence[Expression
     found = {
         "node affinity": any(each.operator not in OPERATORS for term in terms for each in term),
         "tolerations": not operators <= {"", "Equal", "Exists"},
-        "pod affinity": bool(field(affinity, "podAffinity", REQUIRED)),
+        AFFINITY: bool(field(affinity, "podAffinity", REQUIRED)),
         ANTI_AFFINITY: bool(field(affinity, "podAntiAffinity", REQUIRED)),
-        "topology spread": any(text_field(each, "whenUnsatisfiable") != "ScheduleAnyway"
+        SPREAD: any(text_field(each, "whenUnsatisfiable") != "ScheduleAnyway"
                                for each in tables(spec, "topologySpreadConstraints")),
         "volumes": any(each.keys() - PLAIN_VOLUMES for each in tables(spec, "volumes")),
         "host ports": bool(ports) and field(spec, "hostNetwork") is True or any(

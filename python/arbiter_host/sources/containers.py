@@ -8,14 +8,14 @@ from dataclasses import dataclass, replace
 from fractions import Fraction
 from typing import Any
 
-from arbiter import Host, Library
+from arbiter import Host, Library, LimitFormula, WeightFormula
 from arbiter_host.base import demands, names, units
 from arbiter_host.base.demands import Measured, Place
 from arbiter_host.base.faults import HostFault
-from arbiter_host.base.model import MAX_CAPACITY, Group, Model, bind, check_count, checked, cpus_in
+from arbiter_host.base.model import MAX_CAPACITY, Group, Model, bind_to, check_count, checked
 from arbiter_host.base.owned import NONE, Range, Setting
 from arbiter_host.sources import systemd
-from arbiter_host.sources.data import field, loads, number, table, text_field
+from arbiter_host.sources.data import field, flat, loads, number, table, text_field
 from arbiter_host.sources.measurable import Measurable
 from arbiter_host.sources.source_options import File, SourceOptions
 from arbiter_host.sources.usage import Used
@@ -27,6 +27,8 @@ COMPOSE = "com.docker.compose."
 LEAST_CPUS = 10
 # The settings of a container that are read.
 NUMBERS = ("CpuShares", "NanoCpus", "CpuQuota", "CpuPeriod")
+# Settings that are none of a group's weight or limit here: of Windows, and of real-time tasks.
+OTHERS = ("CpuCount", "CpuPercent", "CpuRealtimeRuntime")
 # Letters of an identifier that docker prints.
 SHORT_ID = 12
 # A container as it was printed.
@@ -59,20 +61,26 @@ def place_of(container: Inspected, driver: str) -> tuple[str, str]:
     return parent or default, identifier if is_docker and driver == "cgroupfs" else name
 
 
-def set_limit(group: Group, config: Inspected, notes: list[str]) -> None:
+def set_limit(library: Library, group: Group, config: Inspected, notes: list[str]) -> None:
     """Sets quota and period: NanoCpus, else CpuQuota of CpuPeriod."""
     for key in NUMBERS:
         value = config.get(key)
         if value is not None and (isinstance(value, bool) or not isinstance(value, int)):
             word = names.shown(names.cut(str(value), 40))
             raise HostFault(f"{names.shown(group.path)}: {key} {word!r} is no whole number")
+    others = [f"{key} {number(config, key)}" for key in OTHERS if number(config, key)]
+    if others:
+        notes.append(f"{group.path}: {', '.join(others)}: left out")
     nano, quota = number(config, "NanoCpus"), number(config, "CpuQuota")
     period = number(config, "CpuPeriod") or units.DEFAULT_PERIOD
     if nano > 0:
-        quota, period = nano * units.DEFAULT_PERIOD // NANO, units.DEFAULT_PERIOD
+        group.quota, group.period = library.owned_limit(LimitFormula.NANO_CPUS, nano)
+        if group.quota is not None and nano * 1000 < LEAST_CPUS * NANO:
+            notes.append(f"{group.path}: NanoCpus {nano}: {group.quota} of {group.period} is taken")
+        return
     if quota <= 0:
         return
-    group.quota, group.period = units.bounded_limit(quota, period)
+    group.quota, group.period = library.owned_limit(LimitFormula.QUOTA, quota, max(period, 1))
     if (group.quota, group.period) != (quota, period):
         notes.append(f"{group.path}: quota {quota} of {period}: {group.quota} of {group.period} is"
                      " taken")
@@ -136,6 +144,12 @@ class ContainerSource(Measurable):
     running: tuple[Inspected, ...]
 
     keys = ("cpu-shares", "cpus")
+    conversions = (("linear", "linear"), ("linear", "log"))
+
+    @property
+    def formula(self) -> WeightFormula:
+        """That of shares."""
+        return units.OF_SHARES[self.options.runtime]
 
     @functools.cached_property
     def built(self) -> tuple[Model, Mapping[str, Place]]:
@@ -145,10 +159,9 @@ class ContainerSource(Measurable):
         # Folders come first, so that no container's name takes the path of one.
         for each in self.running:
             parent_path(model, place_of(each, self.options.driver)[0])
-        taken: dict[str, set[str]] = {}
-        paths = [self.add(model, each, taken) for each in self.running]
+        paths = [self.add(model, each) for each in self.running]
         words = [text_field(each, "HostConfig", "CpusetCpus") for each in self.running]
-        bind(model, {path: cpus_in(word) for path, word in zip(paths, words) if word})
+        bind_to(model, {path: word for path, word in zip(paths, words) if word})
         want, places = self.options.want, {path: (at, 0) for at, path in enumerate(paths)}
         if want == "request" or want in demands.OF_USE and not self.known:
             raise HostFault(f"--want {want} needs --used: containers have limit and busy", 2)
@@ -163,31 +176,25 @@ class ContainerSource(Measurable):
         self.follow_tree(model, places)
         return model, places
 
-    def add(self, model: Model, container: Inspected, taken: dict[str, set[str]]) -> str:
-        """Adds a container's group, and returns its path. `taken` has the names of containers below
-        each folder."""
+    def add(self, model: Model, container: Inspected) -> str:
+        """Adds a container's group, and returns its path."""
         folder, scope = place_of(container, self.options.driver)
         parent = parent_path(model, folder)
         raw = text_field(container, "Name").strip("/") or text_field(container, "Id") or "unnamed"
-        others = taken.setdefault(parent, set())
-        name = names.path_name(raw, others)
-        if names.joined(parent, name) in model.groups:
-            others.add(name)
-            name = names.path_name(raw, others)
-        others.add(name)
+        name = names.path_name(raw, model.groups, parent)
         group = model.add(Group(names.joined(parent, name), place=f"{folder}/{scope}",
                                 title=text_field(container, "Config", "Image")))
         config = table(container, "HostConfig")
         shares = number(config, "CpuShares")
         if shares > 0:
-            group.weight = units.weight_of_shares(self.library, shares, self.options.runtime)
-        set_limit(group, config, model.notes)
+            group.weight = self.library.owned_weight(self.formula, shares)
+        set_limit(self.library, group, config, model.notes)
         return group.path
 
     def written(self, request: int, limit: int | None) -> tuple[str, str | None]:
         """Shares, and CPUs up to those of the host."""
         most = 1000 * self.host.processors
-        return (str(units.shares_of_thousandths(request)),
+        return (str(self.library.owned_number(self.formula, request)),
                 None if limit is None else cpus_text(Fraction(min(limit, most))))
 
     def folders_by(self, driver: str) -> dict[Place, str]:
@@ -236,10 +243,8 @@ def read(files: Sequence[File], library: Library, options: SourceOptions) -> Mod
     """The model of the containers of some files."""
     raw: list[Inspected] = []
     for name, data in files:
-        entries = loads(data, name)
-        entries = [entries] if isinstance(entries, dict) else entries
-        if not isinstance(entries, list) or not all(isinstance(field(each, "HostConfig"), dict)
-                                                    for each in entries):
+        entries = flat(loads(data, name))
+        if not all(isinstance(field(each, "HostConfig"), dict) for each in entries):
             raise HostFault(f"{name}: no containers as `docker inspect` prints them")
         raw += entries
     running, options = tuple(filter(is_running, raw)), options.for_containers("limit", "docker")

@@ -41,6 +41,12 @@ def check_memory(data: bytes, name: str) -> None:
                         f" {MOST_MEMORY >> 20} MiB of memory")
 
 
+def why_not(error: json.JSONDecodeError) -> str:
+    """Why a text is no JSON."""
+    return ("a second value begins here: each is a file of its own" if error.msg == "Extra data"
+            else error.msg)
+
+
 def loads(data: bytes, name: str) -> Any:
     """The data of a JSON file; a fault names file and line."""
     words = decoded(data, name)
@@ -48,7 +54,7 @@ def loads(data: bytes, name: str) -> Any:
     try:
         return json.loads(words)
     except json.JSONDecodeError as error:
-        raise HostFault(f"{name}:{error.lineno}: no JSON: {error.msg}") from error
+        raise HostFault(f"{name}:{error.lineno}: no JSON: {why_not(error)}") from error
     except (RecursionError, ValueError) as error:
         raise HostFault(f"{name}:1: no JSON that can be read: {error}") from error
 
@@ -66,6 +72,12 @@ def field(value: Any, *keys: str) -> Any:
     for key in keys:
         value = value.get(key) if isinstance(value, dict) else None
     return value
+
+
+def flat(value: Any) -> list[Any]:
+    """The values of a list and of the lists in it, as `jq -s` puts these; else the value alone."""
+    each = value if isinstance(value, list) else [value]
+    return [one for part in each for one in (part if isinstance(part, list) else [part])]
 
 
 def table(value: Any, *keys: str) -> dict[str, Any]:

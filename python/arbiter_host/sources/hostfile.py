@@ -24,7 +24,7 @@ from arbiter_host.base import names, units
 from arbiter_host.base.faults import HostFault, naming
 from arbiter_host.base.model import Group, Model, check_count, check_settings
 from arbiter_host.base.output import json_text
-from arbiter_host.sources.data import decoded
+from arbiter_host.sources.data import decoded, why_not
 from arbiter_host.sources.register import is_json
 from arbiter_host.sources.source_options import File, SourceOptions, only
 
@@ -47,7 +47,7 @@ def parsed(text: str, name: str, is_toml: bool) -> Any:
         line = match[1] if match else str(text.count("\n") + 1)
         raise HostFault(f"{name}:{line}: {re.sub(r' .at .*', '', str(error))}") from error
     except json.JSONDecodeError as error:
-        raise HostFault(f"{name}:{error.lineno}: {error.msg}") from error
+        raise HostFault(f"{name}:{error.lineno}: {why_not(error)}") from error
     except (RecursionError, ValueError, TypeError, OverflowError) as error:
         kind = "TOML" if is_toml else "JSON"
         raise HostFault(f"{name}:1: cannot be read as {kind}: {names.shown(str(error))}") from error
@@ -106,6 +106,8 @@ def set_max(group: Group, value: Any) -> None:
         group.quota = None
     else:
         exact = cpu(value) * group.period / 1000
+        if exact == 0:
+            raise HostFault(f'{text_of(value)} would stop it: "max" is no limit')
         if exact.denominator != 1:
             raise HostFault(f"{text_of(value)} is no whole number of microseconds in a period of"
                             f" {group.period}")
@@ -139,6 +141,15 @@ def read_group(path: str, entry: Any) -> Group:
     take_keys(entry, GROUP_KEYS, "a group is a table of keys", functools.partial(set_key, group))
     check_settings(group)
     return group
+
+
+def beyond(path: str, entry: Any, host: Host) -> list[str]:
+    """Notes of amounts without a unit that are more CPUs than the host has: thousandths, maybe."""
+    words = {key: str(entry[key]) for key in ("demand", "max") if key in (entry or ())}
+    return [f"{path}: {key} {names.shown(word)}: that many CPUs, of which the host has"
+            f" {host.processors} (thousandths are {names.shown(word)}m)"
+            for key, word in words.items() if re.fullmatch(r"[0-9]{1,12}(\.[0-9]{1,12})?", word)
+            and Fraction(word) > host.processors]
 
 
 def checked_path(path: str) -> str:
@@ -176,12 +187,15 @@ def read_host(entry: Any, library: Library, options: SourceOptions) -> Host:
 def tables_in(entry: Any) -> tuple[Any, dict[str, Any]]:
     """The tables `host` and `groups` of a file."""
     if not isinstance(entry, dict):
-        raise HostFault("a host file is a table with host and groups")
+        raise HostFault("a host file is a table with host and groups, and a container of `docker"
+                        " inspect` has HostConfig: this has neither")
     unknown = next((key for key in entry if key not in ("host", "groups")), None)
     if unknown is not None:
         raise HostFault(
             "an object of Kubernetes, of which pods and nodes are read as JSON: kubectl get pods -o"
-            " json" if "apiVersion" in entry else f"no table {text_of(unknown)}: host, groups")
+            " json" if "apiVersion" in entry else "a file of compose: docker inspect $(docker"
+            " compose ps -q) prints its containers" if "services" in entry else
+            f"no table {text_of(unknown)}: host, groups")
     groups = entry.get("groups") or {}
     if not isinstance(groups, dict):
         raise HostFault("groups is a table of paths")
@@ -204,6 +218,7 @@ def model_of(data: bytes, name: str, is_toml: bool, library: Library,
                 if path in model.groups:
                     raise HostFault("a group stands before the groups below it")
                 add(model, group)
+                model.notes += beyond(names.shown(path), each, model.host)
         for path, below in model.children().items():
             if path != "." and below and model.groups[path].demand:
                 raise HostFault(f"{names.shown(path)}: a group with children has no demand: give"

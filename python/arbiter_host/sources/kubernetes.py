@@ -11,31 +11,33 @@ import math
 import re
 from collections import Counter
 from collections.abc import Iterable, Iterator, Mapping, Sequence
+from contextlib import suppress
 from dataclasses import dataclass, replace
 from fractions import Fraction
 from typing import Any
 
-from arbiter import Library
-from arbiter_host.base import demands, names, search, units
+from arbiter import Library, LimitFormula
+from arbiter_host.base import demands, names, units
 from arbiter_host.base.demands import Measured, Place, Values
 from arbiter_host.base.faults import HostFault, NoHost, naming
 from arbiter_host.base.model import (MAX_GROUPS, NO_POD, Group, Model, PodNames, check_count,
                                      checked)
 from arbiter_host.base.names import NOWHERE, shown
 from arbiter_host.base.owned import Amounts, Owned, Range, Setting, Workload
-from arbiter_host.sources.conditions import ANTI_AFFINITY, NodeFacts, node_facts
+from arbiter_host.sources.conditions import (ANTI_AFFINITY, OF_OTHERS, NodeFacts,
+                                             node_facts)
 from arbiter_host.sources.data import field, loads, table, tables, text_field
 from arbiter_host.sources.measurable import Measurable
 from arbiter_host.sources.pods import (CLASSES, TOP, Container, Pod, folder_at, folder_of, names_by,
-                                       names_of, number_of, pod_of, requested, scope_of,
-                                       thousandths)
+                                       names_of, number_of, pod_of, scope_of, thousandths)
 from arbiter_host.sources.register import is_json
 from arbiter_host.sources.usage import Used, of_metrics
 from arbiter_host.sources.source_options import DRIVERS, File, SourceOptions
 
 ENDED = ("Succeeded", "Failed")
-# Kinds that make pods of a template.
-MAKERS = ("Deployment", "StatefulSet", "DaemonSet", "ReplicaSet")
+# Kinds that make pods of a template, and the key of how many run at once.
+MAKERS = {**dict.fromkeys(("Deployment", "StatefulSet", "DaemonSet", "ReplicaSet"), "replicas"),
+          "Job": "parallelism", "CronJob": "parallelism"}
 # The object that sets the number of a maker's pods by what they use.
 SCALER = "HorizontalPodAutoscaler"
 # Resources of which each node has some: one that tells of none is not known.
@@ -48,7 +50,7 @@ MOST_REQUEST = units.MAX_SHARES * 1000 // 1024
 
 def made_by(maker: dict[str, Any]) -> dict[str, Any]:
     """One pod that an object makes of its template, by the object's name."""
-    metadata, template = table(maker, "metadata"), table(maker, "spec", "template")
+    metadata, template = table(maker, "metadata"), table(made_in(maker), "template")
     name, spec = text_field(metadata, "name"), table(template, "spec")
     owner = {"kind": text_field(maker, "kind"), "name": name, "controller": True}
     claims = tables(maker, "spec", "volumeClaimTemplates")
@@ -59,31 +61,73 @@ def made_by(maker: dict[str, Any]) -> dict[str, Any]:
                          "ownerReferences": [owner]}}
 
 
-def items_of(data: Any, name: str) -> list[dict[str, Any]]:
-    """The objects of a file: a list's items, or the one object. What makes pods stands for one."""
+def made_in(maker: Any) -> dict[str, Any]:
+    """The table of an object with its template and the number of pods of it: of a CronJob that of
+    its jobs."""
+    return table(maker, "spec", *(("jobTemplate", "spec") if field(maker, "kind") == "CronJob"
+                                  else ()))
+
+
+def pods_of(maker: Any) -> Any:
+    """The number of pods that an object makes at once; None where that is not said, or of any
+    other."""
+    key = MAKERS.get(text_field(maker, "kind"))
+    return field(made_in(maker), key) if key else None
+
+
+def items_of(data: Any, name: str, is_inner: bool = False) -> list[dict[str, Any]]:
+    """The objects of a file: a list's items, or the one object. What makes pods stands for one.
+    Lists in a list, as `jq -s` puts them, are read as one."""
     items = data if isinstance(data, list) else field(data, "items")
     if isinstance(items, list):
-        for at, each in enumerate(items, 1):
-            if not isinstance(each, dict):
-                raise HostFault(f"{name}: item {at} is no object")
         kind = text_field(data, "kind").removesuffix("List") or "Pod"
-        return items if kind not in ("Pod", "Node") else [{"kind": kind, **each} for each in items]
+        return [each for at, item in enumerate(items, 1)
+                for each in objects_in(item, kind, f"{name}: item {at}", is_inner)]
     if field(data, "kind") in ("Pod", "Node"):
         return [data]
-    if field(data, "kind") in MAKERS:
+    if text_field(data, "kind") in MAKERS:
         return [made_by(data)]
-    raise HostFault(f"{name}: no pods or node as kubectl prints them with -o json")
+    refusal = text_field(data, "message") if field(data, "kind") == "Status" else ""
+    raise HostFault(f"{name}: the API server refused it: {shown(refusal)}" if refusal else
+                    f"{name}: no pods or node as kubectl prints them with -o json")
+
+
+def objects_in(item: Any, kind: str, name: str, is_inner: bool) -> list[dict[str, Any]]:
+    """The objects of an item of a list of a kind. One that is a list itself has objects alone."""
+    if isinstance(item, list) or isinstance(field(item, "items"), list):
+        if is_inner:
+            raise HostFault(f"{name} is a list in a list of lists: jq -s 'map(.items[])' makes one")
+        return items_of(item, name, True)
+    if not isinstance(item, dict):
+        raise HostFault(f"{name} is no object")
+    return [{"kind": kind, **item}]
 
 
 def replicas_in(name: str, data: bytes) -> int:
     """The number of pods that a file's object makes: its replicas; 1 of any other."""
-    maker = loads(data, name) if is_json(data) else None
-    count = field(maker, "spec", "replicas")
-    if text_field(maker, "kind") not in MAKERS or count is None:
+    count = pods_of(loads(data, name)) if is_json(data) else None
+    if count is None:
         return 1
     if isinstance(count, bool) or not isinstance(count, int) or not 1 <= count <= MOST_REPLICAS:
-        raise HostFault(f"{name}: replicas: 1 to {MOST_REPLICAS}")
+        raise HostFault(f"{name}: replicas, or parallelism: 1 to {MOST_REPLICAS}")
     return count
+
+
+def only_pod(name: str, data: bytes) -> dict[str, Any] | None:
+    """The pod of a file that has one, or that its object makes; none of any other file."""
+    if is_json(data):
+        with suppress(HostFault):
+            pods = [each for each in items_of(loads(data, name), name) if is_pod(each)]
+            return pods[0] if len(pods) == 1 else None
+    return None
+
+
+def replicas_note(maker: Any) -> list[str]:
+    """A note of an object that makes not just the one pod that stands for it."""
+    count = pods_of(maker)
+    if count in (None, 1):
+        return []
+    return [f"replicas {shown(str(count)[:20])}: the plan is of one pod (`place` takes all)"]
 
 
 def is_pod(item: dict[str, Any]) -> bool:
@@ -125,7 +169,8 @@ def several(what: str, nodes: Iterable[str]) -> HostFault:
     return HostFault(f"{what} ({few}): choose one by --node, or give their nodes too")
 
 
-def pods_on(items: Sequence[dict[str, Any]], node: str, notes: list[str]) -> list[Pod]:
+def pods_on(items: Sequence[dict[str, Any]], node: str, library: Library,
+            notes: list[str]) -> list[Pod]:
     """The pods of one node that have not ended; a fault where several nodes are meant.
 
     Beside pods of nodes those that wait for one are left out. A pod that a file of its own
@@ -137,20 +182,26 @@ def pods_on(items: Sequence[dict[str, Any]], node: str, notes: list[str]) -> lis
     if len(placed) < len(pods) and any(text_field(each, "spec", "nodeName") for each in pods):
         notes.append(f"pods that no node has yet, left out: {len(pods) - len(placed)}")
         pods = placed
+    others = len(pods)
     pods = [each for each in pods if not node or text_field(each, "spec", "nodeName") in ("", node)]
+    if others and not pods:
+        notes.append(f"none of the pods is of the node {shown(node)}: pods of others: {others}")
     nodes = {text_field(each, "spec", "nodeName") for each in pods} - {""}
     if len(nodes) > 1:
         raise several(f"the pods are of {len(nodes)} nodes", nodes)
     lasting = [each for each in pods if not has_ended(each)]
     if len(lasting) < len(pods):
         notes.append(f"pods that have ended, left out: {len(pods) - len(lasting)}")
+    leaving = sum(bool(text_field(each, "metadata", "deletionTimestamp")) for each in lasting)
+    if leaving:
+        notes.append(f"pods that are deleted and have not ended: {leaving}: they count until then")
     # A pod has a group of its own and one of a container.
     check_count(2 * len(lasting), f"{len(lasting)} pods")
     titles = Counter("/".join(names_of(each)) for each in lasting)
     for title, many in titles.items():
         if many > 1:
             raise HostFault(f"{shown(title)}: {many} pods of this name: is a file given twice?")
-    return [pod_of(each, notes) for each in lasting]
+    return [pod_of(each, library, notes) for each in lasting]
 
 
 def node_of(items: Sequence[dict[str, Any]], options: SourceOptions) -> dict[str, Any] | None:
@@ -166,10 +217,6 @@ def node_of(items: Sequence[dict[str, Any]], options: SourceOptions) -> dict[str
     return meant[0] if meant else None
 
 
-# The conversions of kubelet and of the runtime that nodes have together.
-CONVERTED = (("linear", "linear"), ("linear", "log"), ("log", "log"))
-
-
 class PodBuilder:
     """Makes the groups of pods."""
 
@@ -180,7 +227,6 @@ class PodBuilder:
         self.model = Model(checked(source.host), notes=list(source.notes),
                            names_host=source.names_host, weighed=f"of requests ({by})")
         self.measured: dict[str, Measured] = {}
-        self.taken: dict[str, set[str]] = {}
         # The places of a pod and of its container, by the path of the group.
         self.places: dict[str, Place] = {}
         # Pause containers ask for nothing. So they have groups where the planner takes as many.
@@ -193,17 +239,15 @@ class PodBuilder:
 
     def weight(self, request: int | None, conversion: str) -> int:
         """The weight that a request gets by a conversion."""
-        shares = units.shares_of_thousandths(request or 0)
-        return units.weight_of_shares(self.source.library, shares, conversion)
+        return self.source.library.owned_weight(units.OF_REQUESTS[conversion], request or 0)
 
     def add(self, parent: str, raw: str, weight: int, place: str, title: str = "",
             limit: int | None = None, pod: PodNames = NO_POD) -> str:
         """Makes a child whose name no other has, and returns its path."""
-        taken = self.taken.setdefault(parent, set())
-        name = names.path_name(raw, taken)
-        taken.add(name)
+        name = names.path_name(raw, self.model.groups, parent)
+        quota, _ = self.source.library.owned_limit(LimitFormula.THOUSANDTHS, limit or 0)
         return self.model.add(Group(names.joined(parent, name), weight, title=title, place=place,
-                                    quota=units.quota_of_thousandths(limit or 0), pod=pod)).path
+                                    quota=quota, pod=pod)).path
 
     def classes(self) -> None:
         """Makes kubepods and its two classes."""
@@ -277,7 +321,7 @@ def refusal_of(pod: Pod, container: Container) -> tuple[str, str]:
     request, limit = container.amounts.request or 0, container.amounts.limit
     if limit is not None and request > limit:
         return "its limit", f"its request {request}m is above its limit {limit}m"
-    if pod.own.request is not None and requested(pod.parts, "request") > pod.own.request:
+    if pod.own.request is not None and pod.requested > pod.own.request:
         return ("all that its pod requests", "the requests of its pod's containers are above the"
                 f" request {pod.own.request}m of the pod itself")
     if pod.own.limit is not None and (limit or 0) > pod.own.limit:
@@ -308,20 +352,18 @@ class PodSource(Measurable):
         self.follow_tree(builder.model, builder.places)
         return builder.model, builder.places
 
-    def compared(self) -> PodSource:
-        """This with the conversion of shares that fits the weights of the tree best, unless one is
-        asked for."""
-        said = self.options
-        others = () if said.are_conversions_said else CONVERTED
-        made = [replace(self, options=replace(said, kubelet=kubelet, runtime=runtime))
-                for kubelet, runtime in dict.fromkeys([(said.kubelet, said.runtime), *others])]
-        best = min(made, key=lambda each: len(each.unlike()[0]))
-        notes = best.told_of_tree()
-        if best is not made[0]:
-            notes.insert(0, f"weights: {best.options.runtime} for containers,"
-                            f" {best.options.kubelet} above"
-                            " them, as the tree has them (--node-weights)")
-        return replace(best, notes=(*best.notes, *notes)) if notes else best
+    conversions = (("linear", "linear"), ("linear", "log"), ("log", "log"))
+
+    def beside(self, tree: Model) -> PodSource:
+        """This by the conversion that fits a tree whose groups have the paths of these."""
+        there = {place: [replace(tree.groups[each], tasks=None, keeps_to=None)
+                         for each in names.upward(path)]
+                 for path, place in self.built[1].items() if path in tree.groups}
+        return replace(self, there=there).compared()
+
+    @property
+    def weighed_by(self) -> str:
+        return f"{self.options.runtime} for containers, {self.options.kubelet} above them"
 
     @property
     def every(self) -> Iterator[tuple[Place, Pod, Container]]:
@@ -460,8 +502,8 @@ class PodSource(Measurable):
     def ranges(self, path: str) -> list[Range]:
         amounts = self.now(path)
         now, least = amounts.request or 0, max(amounts.request or 0, 1)
-        request, of_request = self.greatest(path, "request", 0, MOST_REQUEST)
-        limit, of_limit = self.greatest(path, "limit", least, 1000 * self.host.processors)
+        request, of_request = self.greatest(path, "request", MOST_REQUEST)
+        limit, of_limit = self.greatest(path, "limit", 1000 * self.host.processors)
         # A class changes where a request is none or is the limit.
         parts = [(0, 0), (1, request - 1), (request, request)]
         limits = [(least, least), (least + 1, limit)]
@@ -471,23 +513,30 @@ class PodSource(Measurable):
                       [each for each in limits if each[0] <= each[1] <= limit],
                       amount_text, f"{limit}m is {of_limit}")]
 
-    def greatest(self, path: str, key: str, least: int, most: int) -> tuple[int, str]:
-        """The greatest request or limit of a container from a least to a most, and what ends it."""
+    def greatest(self, path: str, key: str, most: int) -> tuple[int, str]:
+        """The greatest request or limit of a container up to a most, and what ends it."""
         pod, number, amounts = self.part(path)
-        room = None
-        if self.allocatable is not None and key == "request":
-            room = self.allocatable - requested_by(self.pods) + (pod.amounts.request or 0)
+        ends = [(most, "the most that counts")]
+        if key == "limit":
+            ends += [] if pod.own.limit is None else [(pod.own.limit, "the limit of its pod")]
+        else:
+            ends += [] if amounts.limit is None else [(amounts.limit, "its limit")]
+            own, left = pod.own.request, "all that the node has left"
+            room = most if self.allocatable is None else self.allocatable - requested_by(self.pods)
+            if own is not None:
+                ends += [(self.fitting(pod, number, own), "all that its pod requests"),
+                         (most if room >= 0 else room, left)]
+            elif self.allocatable is not None:
+                ends.append((self.fitting(pod, number, room + pod.requested), left))
+        greatest, why = min(ends, key=lambda each: each[0])
+        return greatest if greatest == most else max(greatest, getattr(amounts, key) or 0), why
 
-        def hindrance(value: int) -> str:
-            after = pod.with_amounts(number, replace(amounts, **{key: value}))
-            is_over = room is not None and (after.amounts.request or 0) > room
-            return refusal_of(after, after.parts[number])[0] or (
-                "all that the node has left" if is_over else "")
-
-        hindered = search.least(least, most + 1, lambda each: bool(hindrance(each)))
-        if hindered > most:
-            return most, "the most that counts"
-        return max(hindered - 1, getattr(amounts, key) or 0), hindrance(hindered)
+    def fitting(self, pod: Pod, number: int, room: int) -> int:
+        """The greatest request of a container with which those of a pod request no more than some
+        room; -1 for none."""
+        greatest = self.library.greatest_part(
+            pod.kinds, [each.amounts.request or 0 for each in pod.parts], number, max(room, 0))
+        return -1 if greatest is None or room < 0 else greatest
 
     @functools.cached_property
     def asks(self) -> dict[str, int]:
@@ -508,7 +557,7 @@ class PodSource(Measurable):
         return list(dict.fromkeys([
             *own, *(name for name in COMMON if other.asks.get(name)
                    and name not in self.offers),
-            *(f"{ANTI_AFFINITY} of others" for pod in self.pods
+            *(OF_OTHERS for pod in self.pods
               if ANTI_AFFINITY in pod.conditions.unjudged)]))
 
     def check_room(self, other: PodSource) -> None:
@@ -567,13 +616,13 @@ def with_pods(tree: Model, source: PodSource) -> Model:
     return after
 
 
-def names_at(files: Sequence[File]) -> dict[str, PodNames]:
+def names_at(files: Sequence[File], library: Library) -> dict[str, PodNames]:
     """The names of the pods of some files, and of their containers, by their folders below the top
     of a tree, whichever driver kubelet has."""
     by_folder: dict[str, PodNames] = {}
     for item in (item for name, data in files for item in items_of(loads(data, name), name)):
         if is_pod(item) and not has_ended(item):
-            pod = pod_of(item, [])
+            pod = pod_of(item, library, [])
             for driver in DRIVERS:
                 folder = folder_of(pod, driver)
                 by_folder[folder] = (pod.namespace, pod.name, "")
@@ -588,30 +637,68 @@ def requested_by(pods: Sequence[Pod]) -> int:
     return sum(pod.amounts.request or 0 for pod in pods)
 
 
+def refused_notes(pod: Pod) -> list[str]:
+    """Notes of containers that Kubernetes takes no such pod with, as a hand may write them."""
+    why = {each.name: refusal_of(pod, each)[1] for each in pod.parts}
+    return [f"{pod.title}/{name}: {reason}, which Kubernetes refuses"
+            for name, reason in why.items() if reason]
+
+
+def rest_note(pod: Pod) -> list[str]:
+    """A note of a pod that itself requests more than its containers, which have the demands."""
+    own, asked = pod.own.request, pod.requested
+    return [f"{pod.title}: it requests {own}m itself, and its containers {asked}m: no demand has"
+            " the rest"] if own is not None and own > asked else []
+
+
+def pods_notes(pods: Sequence[Pod], node: dict[str, Any] | None, allocatable: int | None
+               ) -> list[str]:
+    """Notes of the pods of a node which cannot be all of them, or not these."""
+    found, asked, spaces = list[str](), requested_by(pods), {each.namespace for each in pods}
+    if allocatable is not None and asked > allocatable:
+        found.append(f"the pods request {asked}m of the {allocatable}m that the node has for them:"
+                     " the scheduler puts no such pods there")
+    found += [note for each in pods for note in (*rest_note(each), *refused_notes(each))]
+    # (a node that a cluster has runs pods of the cluster's own too)
+    if field(node, "status", "nodeInfo") and len(spaces) == 1:
+        found.append(f"all pods are of the namespace {shown(spaces.pop())}: where others run on"
+                     " this node too, these are given what is theirs (kubectl get pods -A)")
+    return found
+
+
+def node_notes(node: dict[str, Any] | None) -> list[str]:
+    """Notes of a node whose groups may be others, or of none."""
+    if node is None:
+        return ["no node's JSON: kubepods has weight 100"]
+    found, system = list[str](), node_facts(node).system
+    if any(field(each, "type") == "Ready" and field(each, "status") != "True"
+           for each in tables(node, "status", "conditions")):
+        found.append("the node is not ready: its pods may have ended since")
+    if system not in ("", "linux"):
+        found.append(f"the node runs {shown(system)}, which has no cgroups: weights and limits here"
+                     " are those of Linux")
+    return found
+
+
 def read(files: Sequence[File], library: Library, options: SourceOptions) -> Model:
     """The model of a node from the files of its pods and of the node itself."""
     options = options.for_containers("request", TOP)
-    items = [item for name, data in files for item in items_of(loads(data, name), name)]
+    values = [(name, loads(data, name)) for name, data in files]
+    items = [item for name, value in values for item in items_of(value, name)]
     node = node_of(items, options)
-    notes = other_kinds(items)
+    notes = [*other_kinds(items), *(note for _, value in values for note in replicas_note(value))]
     capacity, allocatable = (thousandths(field(node, "status", key, "cpu"), f"node, {key}")
                              for key in ("capacity", "allocatable"))
     if not capacity and options.cpus is None:
         raise NoHost("number of CPUs unknown: pass the node's JSON or --cpus")
     host = options.host(library, max((capacity or 0) // 1000, 1))
-    pods = pods_on(items, text_field(node, "metadata", "name") if node else options.node, notes)
-    notes += [] if pods else ["no pod is in these files that has not ended"]
-    spaces = {each.namespace for each in pods}
-    # (a node that a cluster has runs pods of the cluster's own too)
-    if field(node, "status", "nodeInfo") and len(spaces) == 1:
-        notes.append(f"all pods are of the namespace {shown(spaces.pop())}: where others run on"
-                     " this node too, these are given what is theirs (kubectl get pods -A)")
-    if node is None:
-        notes.append("no node's JSON: kubepods has weight 100")
-    facts = node_facts(node)
-    if facts.system not in ("", "linux"):
-        notes.append(f"the node runs {shown(facts.system)}, which has no cgroups: weights and"
-                     " limits here are those of Linux")
+    if capacity and capacity % 1000 and options.cpus is None:
+        notes.append(f"the node has {capacity}m: the plan is of its {host.processors} whole CPUs")
+    pods = pods_on(items, text_field(node, "metadata", "name") if node else options.node, library,
+                   notes)
+    if not (pods or any("none of the pods" in each for each in notes)):
+        notes.append("no pod is in these files that has not ended")
+    notes += [*pods_notes(pods, node, allocatable), *node_notes(node)]
     with naming("node, allocatable"):
         has = {name: math.floor(number_of(value, shown(name)))
                for name, value in table(node, "status", "allocatable").items() if name != "cpu"}

@@ -14,7 +14,7 @@ from arbiter import Library
 from arbiter_host.base import demands, names, output, plain_files
 from arbiter_host.base.faults import HostFault, RefusedLines, UsageFault
 from arbiter_host.base.model import Model
-from arbiter_host.sources.register import BLANK, NODE, READERS, SERVICE
+from arbiter_host.sources.register import BLANK, MISTAKEN, NODE, READERS, SERVICE
 from arbiter_host.sources.source_options import File, SourceOptions
 from arbiter_host.sources.times import turns
 
@@ -35,6 +35,10 @@ def kind_of(path: str, data: bytes | None) -> str:
         raise HostFault(f"{names.shown(path)}: YAML is not read: write TOML or JSON (of pods:"
                         " kubectl get pods -o json)")
     is_named = name.endswith((".toml", ".script"))
+    begin = b"mkdir" if is_named else data[:80].lstrip(BLANK)
+    for text, words in MISTAKEN:
+        if text.match(begin):
+            raise HostFault(f"{names.shown(path)}: {words}")
     return next((kind for kind, each in READERS.items()
                  if each.is_one(name, b"" if is_named else data)), "script")
 
@@ -49,7 +53,8 @@ def of_service(options: SourceOptions, word: str) -> list[Opened]:
     known, unless it is not asked for."""
     from arbiter_host.sources.services import RunningService
     service = RunningService(word)
-    is_once = service.kind != "systemd" or options.has_settings_alone or not is_of_use(options)
+    is_once = (service.kind != "systemd" or options.has_settings_alone or not is_of_use(options)
+               or options.uses is not None)
     times = options.times._replace(number=1) if is_once else options.times
     return [(word, service.source(options.node)) for _ in turns(times)]
 
@@ -104,7 +109,8 @@ def load(options: SourceOptions, paths: Sequence[str], library: Library) -> Mode
 
 def check_read(options: SourceOptions, kind: str, count: int) -> None:
     """A fault where a source of so many files is read once, so that --read has no effect on it."""
-    is_once = not is_of_use(options) if kind == "cgroup" else kind == "systemd" and count == 1
+    is_once = not is_of_use(options) if kind == "cgroup" else (
+        kind == "systemd" and count == 1 and options.uses is None)
     if is_once and options.is_reread:
         raise UsageFault("--read: it has no effect on a source that is read once")
 
@@ -137,7 +143,7 @@ def read_tree(options: SourceOptions, paths: Sequence[str], library: Library) ->
     if options.times.number == 1 and len(paths) == 1 and want in demands.OF_USE:
         raise UsageFault(f"--want {want}: use is measured from one reading to the next: --read"
                          " 2x1s")
-    return cgroups.read(paths, options.machine(library), options.times, want)
+    return cgroups.read(paths, options.machine(library), options.times, want, library)
 
 
 def read_files(options: SourceOptions, kind: str, files: Sequence[File],
@@ -145,11 +151,13 @@ def read_files(options: SourceOptions, kind: str, files: Sequence[File],
     """The model of files of one kind, by the reader of the register."""
     reader = importlib.import_module(f"arbiter_host.sources.{READERS[kind].module}")
     if options.uses is not None:
-        if not READERS[kind].is_measured:
-            raise UsageFault(f"--used belongs to pods and containers, and not to {kind}")
         from arbiter_host.sources import used
+        is_tree = used.is_tree(options.uses)
+        if not (READERS[kind].is_measured or is_tree and READERS[kind].is_in_tree):
+            raise UsageFault("--used belongs to pods and containers, of a tree to units too, and"
+                             f" not to {kind}")
         used.check(options.uses)
-        tree = options.uses.words[0] if used.is_tree(options.uses) else options.tree
+        tree = options.uses.words[0] if is_tree else options.tree
         options = replace(options, tree=tree, measured=partial(used.measured, options.uses))
     model: Model = reader.read(files, library, options)
     return finished(options, model)

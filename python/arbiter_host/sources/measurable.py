@@ -5,13 +5,13 @@ import functools
 from collections.abc import Mapping, Sequence
 from dataclasses import dataclass, field, replace
 from fractions import Fraction
-from typing import TypeVar
+from typing import ClassVar, NamedTuple, TypeVar
 
 from arbiter import Host, Library
 from arbiter_host.base.demands import Measured, Place, Use, stop, use_of
 from arbiter_host.base.faults import HostFault
 from arbiter_host.base.model import Group, Model, bind
-from arbiter_host.base.names import parent_path
+from arbiter_host.base.names import few, parent_path
 from arbiter_host.base.owned import Owned
 from arbiter_host.sources.source_options import DRIVERS, SourceOptions
 from arbiter_host.sources.usage import Used, some
@@ -21,6 +21,14 @@ S = TypeVar("S", bound="Measurable")
 REPLICAS = "by the names of their pods replicas of these"
 OTHERS = "used by containers that are not here"
 WHOLE = "used by pods of several containers, left out: `kubectl top pods -A --containers` has each"
+
+
+class Unlike(NamedTuple):
+    """A group that a tree has with other settings than are derived: its words, and how many of
+    weight and limit are others."""
+
+    words: str
+    settings: int
 
 
 @dataclass(frozen=True)
@@ -34,42 +42,58 @@ class Measurable(Owned):
     # What was measured of containers, and the seconds from one reading to the next.
     known: Mapping[Place, Measured] = field(default_factory=dict, kw_only=True)
     seconds: Fraction = field(default=Fraction(1), kw_only=True)
-    # The groups of containers in a tree, each with the one above it.
-    there: Mapping[Place, tuple[Group, Group | None]] = field(default_factory=dict, kw_only=True)
+    # The groups of containers in a tree, each with those above it, the nearest first.
+    there: Mapping[Place, Sequence[Group]] = field(default_factory=dict, kw_only=True)
+
+    # The conversions of shares that a host may have: kubelet's, and those of the runtime.
+    conversions: ClassVar[Sequence[tuple[str, str]]] = ()
+
+    def others(self: S) -> list[S]:
+        """This by each other conversion that its host may have; none where one is asked for."""
+        said = self.options
+        found = [] if said.are_conversions_said else self.conversions
+        return [replace(self, options=replace(said, kubelet=kubelet, runtime=runtime))
+                for kubelet, runtime in found if (kubelet, runtime) != (said.kubelet, said.runtime)]
 
     def compared(self: S) -> S:
-        """This with what is told of weights and limits that the tree has otherwise."""
-        notes = self.told_of_tree()
-        return replace(self, notes=(*self.notes, *notes)) if notes else self
+        """This by the conversion that fits the weights of the tree best, with what is told of
+        weights and limits that the tree has otherwise."""
+        best = min([self, *self.others()], key=lambda each: sum(
+            of.settings for of in each.unlike()[0]))
+        notes = best.told_of_tree()
+        if best is not self:
+            notes.insert(0, f"weights: {best.weighed_by}, as the tree has them (--node-weights)")
+        return replace(best, notes=(*best.notes, *notes)) if notes else best
+
+    @property
+    def weighed_by(self) -> str:
+        """The conversion of shares, in words."""
+        return self.options.runtime
 
     def told_of_tree(self) -> list[str]:
         """The warnings about groups that the tree has with other weights or limits."""
-        off, checked_ = self.unlike()
+        off, compared = self.unlike()
         return [f"groups whose cpu.weight or cpu.max in the tree is another than is derived here:"
-                f" {len(off)} of {checked_}: {some(off)}"] if off else []
+                f" {len(off)} of {compared}: {few([each.words for each in off])}"] if off else []
 
-    def unlike(self) -> tuple[list[str], int]:
-        """The groups that the tree has with another weight or limit, in words, and the number of
-        all that were compared."""
+    def unlike(self) -> tuple[list[Unlike], int]:
+        """The groups that the tree has with another weight or limit, and the number of all that
+        were compared: those of containers, and those above them."""
         model, places = self.built
-        off, compared = dict[str, None](), set[str]()
+        theirs: dict[str, Group] = {}
         for path, place in places.items():
-            for mine, theirs in zip((path, parent_path(path)), self.there.get(place, ())):
-                if theirs is None or mine in compared or mine not in model.groups:
-                    continue
-                compared.add(mine)
-                own = model.groups[mine]
-                if (own.weight, own.quota and Fraction(own.quota, own.period)) != (
-                        theirs.weight, theirs.quota and Fraction(theirs.quota, theirs.period)):
-                    off[f"{mine} has weight {theirs.weight}, max {theirs.max_words}, derived"
-                        f" {own.weight}, max {own.max_words}"] = None
-        return list(off), len(compared)
+            for each in self.there.get(place, ()):
+                if path not in model.groups or path in theirs:
+                    break
+                theirs[path], path = each, parent_path(path)
+        found = [difference(model.groups[path], each) for path, each in theirs.items()]
+        return [each for each in found if each.settings], len(theirs)
 
     def follow_tree(self, model: Model, places: Mapping[str, Place]) -> None:
         """Lets groups that the tree has bound to CPUs or frozen have so many, or ask for nothing.
         """
         found = {path: self.there[place][0] for path, place in places.items()
-                 if place in self.there}
+                 if self.there.get(place)}
         bind(model, {path: each.keeps_to for path, each in found.items()
                      if each.keeps_to is not None})
         stop(model, [path for path, each in found.items() if each.tasks == 0], "frozen")
@@ -125,6 +149,14 @@ class Measurable(Owned):
         uses = {path: use_of(model.groups[path], self.known.get(place, Measured()), model.host,
                              self.seconds) for path, place in places.items()}
         return {path: use for path, use in uses.items() if use is not None}
+
+
+def difference(own: Group, theirs: Group) -> Unlike:
+    """A group as it is derived, and as a tree has it."""
+    one, two = (each.quota and Fraction(each.quota, each.period) for each in (own, theirs))
+    words = (f"{own.path} has weight {theirs.weight}, max {theirs.max_words}, derived {own.weight},"
+             f" max {own.max_words}")
+    return Unlike(words, (own.weight != theirs.weight) + (one != two))
 
 
 def measured(sources: Sequence[S], entries: Sequence[Used],

@@ -1,17 +1,19 @@
 """Pods as their JSON has them, and what kubelet reckons of them: requests, limits, classes."""
 from __future__ import annotations
 
+import dataclasses
 import functools
 import json
 import math
 import re
-from collections.abc import Sequence
+from collections.abc import Iterable, Sequence
 from contextlib import suppress
 from dataclasses import dataclass, replace
 from datetime import datetime
 from fractions import Fraction
-from typing import Any
+from typing import Any, NamedTuple
 
+from arbiter import Library, PartKind
 from arbiter_host.base import units
 from arbiter_host.base.faults import HostFault, naming
 from arbiter_host.base.names import NOWHERE, shown, slice_folder
@@ -54,10 +56,17 @@ class Container:
     name: str
     amounts: Amounts
     identifier: str = ""
-    is_init: bool = False
-    is_sidecar: bool = False
+    kind: PartKind = PartKind.CONTAINER
     # An init container that does not run has none, nor has one that ended and is not begun again.
     has_group: bool = True
+
+
+class Resource(NamedTuple):
+    """A resource of a pod: amounts of the pod itself and of its containers, and its overhead."""
+
+    own: Amounts
+    parts: tuple[Amounts, ...]
+    overhead: int
 
 
 @dataclass(frozen=True)
@@ -67,6 +76,7 @@ class Pod:
     namespace: str
     name: str
     uid: str
+    library: Library = dataclasses.field(compare=False, repr=False)
     # All of its containers, init containers first.
     parts: tuple[Container, ...] = ()
     overhead: int = 0
@@ -79,8 +89,8 @@ class Pod:
     # request: the pod itself where it is whole, else its containers.
     asks_memory: bool = False
     is_memory_equal: bool = False
-    # Requests of other resources than CPU, by their names, and the conditions on its node.
-    others: tuple[tuple[str, int], ...] = ()
+    # Other resources than CPU, by their names, and the conditions on its node.
+    others: tuple[tuple[str, Resource], ...] = ()
     conditions: Conditions = Conditions()
     labels: tuple[tuple[str, str], ...] = ()
     # What makes it of a template: kind, namespace and name; empty for nothing.
@@ -96,19 +106,32 @@ class Pod:
         return f"{self.namespace}/{self.name}"
 
     @property
+    def kinds(self) -> list[PartKind]:
+        return [each.kind for each in self.parts]
+
+    @functools.cached_property
+    def requested(self) -> int:
+        """The thousandths that its containers request at once."""
+        return taken(self.library, self.kinds, (each.amounts.request for each in self.parts))
+
+    @functools.cached_property
     def amounts(self) -> Amounts:
         """Request and limit of the whole pod, with its overhead."""
         request, limit = self.own.request, self.own.limit
         if request is None:
-            request = requested(self.parts, "request")
+            request = self.requested
         if limit is None and is_limited(self.parts):
-            limit = requested(self.parts, "limit")
+            limit = taken(self.library, self.kinds, (each.amounts.limit for each in self.parts))
         return Amounts(request + self.overhead, None if limit is None else limit + self.overhead)
 
-    @property
+    @functools.cached_property
     def asks(self) -> dict[str, int]:
         """Requests of all resources by their names, CPU in thousandths; a pod is one of `pods`."""
-        return {"cpu": self.amounts.request or 0, **dict(self.others), "pods": 1}
+        found = {name: each.overhead + (each.own.request if each.own.request is not None else taken(
+            self.library, self.kinds, (part.request for part in each.parts)))
+                 for name, each in self.others}
+        return {"cpu": self.amounts.request or 0,
+                **{name: amount for name, amount in found.items() if amount}, "pods": 1}
 
     @property
     def quality(self) -> str:
@@ -205,10 +228,11 @@ def containers_of(pod: dict[str, Any], where: str, notes: list[str]) -> tuple[Co
             if has_group and "waiting" in state:
                 reason = text_field(state, "waiting", "reason") or "no reason told"
                 notes.append(f"{where}/{name}: it waits ({reason}), and counts as if it ran")
+            kind = (PartKind.SIDECAR if is_sidecar else PartKind.INIT_CONTAINER if is_init
+                    else PartKind.CONTAINER)
             containers.append(Container(
                 name, asked_amounts(each, known, f"{where}/{name}", notes),
-                identifier and SCOPES.get(runtime, "") + identifier, is_init, is_sidecar,
-                has_group))
+                identifier and SCOPES.get(runtime, "") + identifier, kind, has_group))
     passing = sum("running" in table(each, "state")
                   for each in tables(pod, "status", "ephemeralContainerStatuses"))
     if passing:
@@ -216,19 +240,9 @@ def containers_of(pod: dict[str, Any], where: str, notes: list[str]) -> tuple[Co
     return tuple(containers)
 
 
-def requested(containers: Sequence[Container], key: str) -> int:
-    """The most that a pod's containers take at once, in thousandths, by request or limit."""
-    sidecars, most, together = 0, 0, 0
-    for each in containers:
-        value = getattr(each.amounts, key) or 0
-        if each.is_sidecar:
-            sidecars += value
-            most = max(most, sidecars)
-        elif each.is_init:
-            most = max(most, sidecars + value)
-        else:
-            together += value
-    return max(together + sidecars, most)
+def taken(library: Library, kinds: Sequence[PartKind], amounts: Iterable[int | None]) -> int:
+    """The most that a pod's containers take at once, of amounts of any one unit."""
+    return library.pod_amount(kinds, [min(each or 0, units.MOST_WORD) for each in amounts])
 
 
 def is_limited(containers: Sequence[Container]) -> bool:
@@ -240,9 +254,9 @@ def is_limited(containers: Sequence[Container]) -> bool:
     sidecars = 0
     for each in containers:
         limit = each.amounts.limit or 0
-        if limit + (sidecars if each.is_init else 0) == 0:
+        if limit + (sidecars if each.kind else 0) == 0:
             return False
-        sidecars += limit if each.is_sidecar else 0
+        sidecars += limit if each.kind == PartKind.SIDECAR else 0
     return bool(containers)
 
 
@@ -255,13 +269,14 @@ def other_amounts(container: dict[str, Any], name: str, where: str) -> Amounts:
     return Amounts(limit if request is None else request, limit)
 
 
-def whole_amounts(own: Amounts, is_requested: bool, parts: Sequence[Container]) -> Amounts:
+def whole_amounts(own: Amounts, is_requested: bool, library: Library, kinds: Sequence[PartKind],
+                  parts: Sequence[Amounts]) -> Amounts:
     """Amounts of a pod itself. A limit without a request is the request too, unless a container
     requests some: then that is what its containers request."""
-    asks = any(each.amounts.request is not None for each in parts)
+    asks = any(each.request is not None for each in parts)
     if is_requested or own.limit is None or not asks:
         return own
-    return Amounts(requested(parts, "request"), own.limit)
+    return Amounts(taken(library, kinds, (each.request for each in parts)), own.limit)
 
 
 def names_of(pod: dict[str, Any]) -> tuple[str, str]:
@@ -294,21 +309,18 @@ def names_by(owner: str) -> re.Pattern[str]:
     return re.compile(re.escape(name.partition("/")[2]) + BEHIND.get(kind, f"-{MADE}{{5}}"))
 
 
-def other_resources(spec: dict[str, Any], parts: Sequence[Container], where: str
-                    ) -> dict[str, tuple[int, list[Amounts]]]:
-    """The requests of a pod of other resources than CPU, as the scheduler adds them up, by their
-    names; and the amounts of each, of the pod itself where it is told of it as a whole."""
+def other_resources(spec: dict[str, Any], library: Library, kinds: Sequence[PartKind], where: str
+                    ) -> dict[str, Resource]:
+    """The resources of a pod other than CPU, by their names."""
     raw = [*tables(spec, "initContainers"), *tables(spec, "containers")]
-    found, is_whole = {}, is_whole_pod(spec)
+    found = {}
     for name in sorted({"memory"}.union(table(spec, "overhead"), *(
             table(each, "resources", key) for each in (spec, *raw) for key in KEYS)) - {"cpu"}):
-        each = [other_amounts(one, name, where) for one in raw]
-        with_each = [replace(part, amounts=one) for part, one in zip(parts, each)]
+        parts = [other_amounts(each, name, where) for each in raw]
         own = whole_amounts(other_amounts(spec, name, where),
-                            name in table(spec, "resources", "requests"), with_each)
+                            name in table(spec, "resources", "requests"), library, kinds, parts)
         over = other_amounts({"resources": {"requests": table(spec, "overhead")}}, name, where)
-        asked = requested(with_each, "request") if own.request is None else own.request
-        found[name] = asked + (over.request or 0), [own] if is_whole else each
+        found[name] = Resource(own, tuple(parts), over.request or 0)
     return found
 
 
@@ -317,25 +329,27 @@ def is_whole_pod(spec: dict[str, Any]) -> bool:
     return any({"cpu", "memory"} & table(spec, "resources", key).keys() for key in KEYS)
 
 
-def pod_of(pod: dict[str, Any], notes: list[str]) -> Pod:
+def pod_of(pod: dict[str, Any], library: Library, notes: list[str]) -> Pod:
     """A pod as kubelet reckons with it."""
     metadata, spec, (namespace, name) = table(pod, "metadata"), table(pod, "spec"), names_of(pod)
     where, told = f"{namespace}/{name}", text_field(pod, "status", "qosClass")
     parts, asked = containers_of(pod, where, notes), table(spec, "resources", "requests")
-    others = other_resources(spec, parts, where)
-    memory = others["memory"][1]
+    kinds, is_whole = [each.kind for each in parts], is_whole_pod(spec)
+    others = other_resources(spec, library, kinds, where)
+    memory = [others["memory"].own] if is_whole else others["memory"].parts
     return Pod(
         namespace, name,
         # The mirror of a static pod has an identifier that is not the one of its group.
         uid=text_field(metadata, "annotations", MIRROR) or text_field(metadata, "uid"),
-        parts=parts,
+        library=library, parts=parts,
         overhead=thousandths(field(spec, "overhead", "cpu"), where) or 0,
-        own=whole_amounts(amounts_of(table(spec, "resources"), where), "cpu" in asked, parts),
-        is_whole=is_whole_pod(spec),
+        own=whole_amounts(amounts_of(table(spec, "resources"), where), "cpu" in asked, library,
+                          kinds, [each.amounts for each in parts]),
+        is_whole=is_whole,
         told=told if told in CLASSES else "",
         asks_memory=any(each.request or each.limit for each in memory),
         is_memory_equal=all(each.limit and each.request == each.limit for each in memory),
-        others=tuple((key, amount) for key, (amount, _) in others.items() if amount),
+        others=tuple(others.items()),
         conditions=conditions_of(spec, text_field(metadata, "uid")),
         labels=pairs_of(table(metadata, "labels")), owner=owner_of(pod),
         priority=number(spec, "priority"),

@@ -14,7 +14,7 @@ from typing import Any, NamedTuple, TypeVar
 
 from arbiter_host.base import output, units
 from arbiter_host.base.demands import Values
-from arbiter_host.base.faults import HostFault, UsageFault
+from arbiter_host.base.faults import HostFault, UsageFault, naming
 from arbiter_host.base.names import cut, shown
 from arbiter_host.sources.data import SCHEMES
 from arbiter_host.sources.samples import TABLE, History, Sample, time_name, told
@@ -74,18 +74,14 @@ def moment(text: str) -> str:
 def range_of(word: str | None, step: str | None, default: str = "1d") -> QueryRange:
     """The range of `--range` and `--step`: a time up to now, or START/END. The step is a minute
     where that is not said, or as many as leave so many samples of a time."""
-    try:
+    start, mark, end = (word or default).partition("/")
+    with naming("--range, --step", UsageFault):
         seconds = units.parse_time(step or "1m") / 10**6
-        start, mark, end = (word or default).partition("/")
-        if mark:
-            return QueryRange(moment(start), moment(end), seconds)
-        back = units.parse_time(start) / 10**6
-        if not step:
-            seconds *= math.ceil(back / (seconds * MOST_SAMPLES))
-    except UsageFault:
-        raise
-    except HostFault as fault:
-        raise UsageFault(f"--range, --step: {fault.message}") from fault
+        back = 0 if mark else units.parse_time(start) / 10**6
+    if mark:
+        return QueryRange(moment(start), moment(end), seconds)
+    if not step:
+        seconds *= math.ceil(back / (seconds * MOST_SAMPLES))
     if not seconds or not back:
         raise UsageFault("--range, --step: above 0")
     now = math.floor(time.time())

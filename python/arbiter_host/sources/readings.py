@@ -18,13 +18,13 @@ from arbiter_host.base.demands import CounterReading, Measured, Place, rise
 from arbiter_host.base.faults import HostFault, strerror
 from arbiter_host.base.model import (MAX_CAPACITY, MAX_DEPTH, NO_POD, Group, Model, PodNames, bind,
                                      checked, cpus_in, up_to_64_cpus)
-from arbiter_host.base.names import parent_path, shown
+from arbiter_host.base.names import shown
 from arbiter_host.sources import cgroup2, task_times
 from arbiter_host.sources.times import MICROSECONDS, Clock, Sleep, Times, turns
 
 HOST_TREE = "/sys/fs/cgroup"
-# Microseconds that no group uses.
-MOST_ALLOWED = 2**63
+# Nanoseconds of a microsecond.
+NANO = 1000
 # Why nothing is known of what a group used between two readings.
 CAME, FELL, STILL = ("groups that came or went", "groups whose counters fell",
                      "groups without a new sample")
@@ -74,7 +74,7 @@ class Span(NamedTuple):
         """Its use and what it asks for, and whether it would have used more, by the library."""
         passed = int(self.seconds * 10**9)
         return reading_of(library, up_to_64_cpus(host), self.risen, passed, self.before, self.after,
-                          allowed(group.quota, group.period, group.burst, passed))
+                          (group.quota, group.period, group.burst))
 
     def measured(self, tasks: int | None) -> Measured:
         """The span as two readings."""
@@ -82,14 +82,13 @@ class Span(NamedTuple):
         return Measured([first, self.risen], tasks=tasks)
 
 
-def allowed(quota: int | None, period: int, burst: int, passed: int) -> int | None:
-    """Microseconds that a limit allows in so many nanoseconds; None without one."""
-    return None if quota is None else min(quota * passed // (1000 * period) + burst, MOST_ALLOWED)
-
-
 def reading_of(library: Library, host: Host, rose: CounterReading, passed: int,
-               before: task_times.Tasks, after: task_times.Tasks, allowed: int | None) -> Reading:
-    """The use of a group in so many nanoseconds, and what it asks for, by the library."""
+               before: task_times.Tasks, after: task_times.Tasks,
+               limit: tuple[int | None, int, int]) -> Reading:
+    """The use of a group in so many nanoseconds, and what it asks for, by the library. Its limit is
+    the quota, the own period and the burst in microseconds."""
+    quota, period, burst = limit
+    allowed = None if quota is None else library.allowed(quota, period, burst, passed) // NANO
     times = RoundTimes(passed, rose.usage or 0, rose.pressure or 0, len(after),
                        allowed is not None and bool(rose.throttled), allowed)
     tasks = [each[:2] for each in task_times.rises(before, after)] if after else ()
@@ -181,22 +180,19 @@ class Tree:
                 notes.append(f"{path}: its {len(raws)} groups have no {cgroup2.MARK} (the cpu"
                              " controller is not enabled for them): it stands as one group")
             return False
-        taken: set[str] = set()
-        return any([self.add(look, each, path, depth + 1, taken) for each in raws])
+        return any([self.add(look, each, path, depth + 1) for each in raws])
 
-    def add(self, look: TreeReading, entry: os.DirEntry[str], above: str, depth: int,
-            taken: set[str]) -> bool:
+    def add(self, look: TreeReading, entry: os.DirEntry[str], above: str, depth: int) -> bool:
         """Adds one group and those below it. Returns whether it was there."""
         raw, notes, pod = entry.name, look.model.notes, self.pod_at(look, entry.path)
         parts = [] if pod is NO_POD else [part for part in pod if part]
-        name = names.path_name(pod[2] or ":".join(parts) or raw, taken)
+        name = names.path_name(pod[2] or ":".join(parts) or raw, look.model.groups, above)
         group = Group(names.joined(above, name), place=entry.path, pod=pod, title="/".join(parts))
         try:
             has_more = self.read(look, group, entry)
         except OSError:
             notes.append(f"{names.joined(above, shown(raw))}: gone while the tree was read")
             return False
-        taken.add(name)
         if name != raw and pod == NO_POD:
             notes.append(f"{group.path}: its name on the host is {raw!r}")
         look.model.add(group)
@@ -210,13 +206,10 @@ class Tree:
 
     def read(self, look: TreeReading, group: Group, entry: os.DirEntry[str]) -> bool:
         """Reads a group. Returns whether others may be below it."""
-        handle = os.open(entry.path, safe_files.FOLDER)
-        try:
+        with safe_files.closing_file(os.open(entry.path, safe_files.FOLDER)) as handle:
             group.identity = safe_files.identity_of(handle)
             cgroup2.read_settings(group, handle, look.model.notes)
             self.measure(look, group, handle)
-        finally:
-            os.close(handle)
         return True
 
     def measure(self, look: TreeReading, group: Group, handle: int) -> None:
@@ -337,15 +330,15 @@ def series_of(folders: Sequence[str], host: Host, times: Times) -> OverTime:
 
 class Seen(NamedTuple):
     """The groups of a source in a tree: their counters, the seconds from one reading to the
-    next, and each group as it is there, with the one above it. A frozen one has 0 tasks."""
+    next, and each group as it is there, with those above it. A frozen one has 0 tasks."""
 
     known: dict[Place, Measured]
     seconds: Fraction
-    there: dict[Place, tuple[Group, Group | None]]
+    there: dict[Place, Sequence[Group]]
 
 
-def measured_at(folders: Sequence[str], times: Times,
-                places: Mapping[Place, Sequence[str]]) -> Seen:
+def measured_at(folders: Sequence[str], times: Times, places: Mapping[Place, Sequence[str]],
+                noun: str) -> Seen:
     """The groups in a tree, or its copies, that a source has no counters of. Each has the
     folders below the top at which it may be. It is measured at the first that is there."""
     series = series_of(folders, Host(MAX_CAPACITY), times)
@@ -356,7 +349,7 @@ def measured_at(folders: Sequence[str], times: Times,
     known = {place: [paths[each] for each in wanted if each in paths]
              for place, wanted in places.items()}
     if places and not any(known.values()):
-        raise HostFault(f"{shown(folders[0])}: no group of these containers is below it, such as"
+        raise HostFault(f"{shown(folders[0])}: no group of these {noun}s is below it, such as"
                         f" {shown(next(iter(places.values()), ('',))[0])}")
     at, groups = {place: each[0] for place, each in known.items() if each}, first.model.groups
     bind(first.model, {path: count for path, count in first.bound.items() if path in groups})
@@ -364,5 +357,5 @@ def measured_at(folders: Sequence[str], times: Times,
         if any(f"{path}/".startswith(f"{each}/") for each in first.frozen):
             groups[path].tasks = 0
     return Seen({place: series.measured(path) for place, path in at.items()}, series.seconds,
-                {place: (groups[path], groups.get(parent_path(path)))
+                {place: [groups[each] for each in names.upward(path)]
                  for place, path in at.items()})

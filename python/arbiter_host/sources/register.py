@@ -1,7 +1,7 @@
 """The kinds of sources: how each is known, which files it has, and the module that reads it.
 
-A reader is `read(files, library, wish)` of its module, which is imported when it is asked for. A
-new kind is a module and a line here.
+A reader is `read(files, library, options)` of its module, which is imported when it is asked for.
+A new kind is a module and a line here, and its words for people in arbiter_pages/manual.py.
 """
 from __future__ import annotations
 
@@ -14,9 +14,22 @@ BLANK = b"\xef\xbb\xbf \t\r\n"
 # What begins a table of TOML, and no list of JSON.
 TABLE = re.compile(rb"\[[A-Za-z]")
 OBJECTS = re.compile(rb'"kind"\s*:\s*"(Pod|PodList|Node|NodeList|List|Deployment|StatefulSet'
-                     rb'|DaemonSet|ReplicaSet)"')
+                     rb'|DaemonSet|ReplicaSet|Job|CronJob)"|"apiVersion"\s*:')
 NODE = re.compile(rb'"kind"\s*:\s*"Node"')
 PARTS = re.compile(rb'"kind"\s*:\s*"(Pod|Node)(?:List)?"')
+# Texts that are no source, and what is one in their place.
+MISTAKEN = (
+    (re.compile(rb"(apiVersion|items|kind|metadata):"), "YAML: kubectl prints JSON by -o json"),
+    (re.compile(rb"NAME(SPACE)? "), "a table: kubectl prints JSON by -o json"),
+    (re.compile(rb"CONTAINER ID "), "a table: docker inspect $(docker ps -q) prints JSON"),
+    (re.compile(rb"(services|version|name|networks|volumes):"),
+     "YAML of compose: docker inspect $(docker compose ps -q) prints JSON"),
+    (re.compile(rb"\[(Unit|Service|Slice|Scope)\]"),
+     "a unit's file: systemctl show '*.slice' '*.service' '*.scope' prints what holds"),
+    (re.compile(rb"JOBID "), "a table: squeue --json prints JSON"),
+    (re.compile(rb"JobId="), "words of scontrol: squeue --json prints JSON"),
+    (re.compile(rb"JobID "), "a table: sacct -P prints columns that can be told apart"),
+    (re.compile(rb"$"), "it is empty"))
 UNITS = re.compile(rb"^(ControlGroup|Slice|CPUWeight)=", re.M)
 # The head of what sacct and sstat print, and what sstat says a step has used.
 JOB_IDS = re.compile(rb"[A-Za-z_0-9|%]*\bJobID(Raw)?\b[A-Za-z_0-9|%]*\r?\n")
@@ -51,12 +64,11 @@ class SourceKind(NamedTuple):
 
     module: str
     is_one: Callable[[str, bytes], bool]
-    # What the source is, for people.
-    about: str
     # Which part of a source a file is. Files of several parts, side by side, are one source.
     part: Callable[[bytes], str] | None = None
-    # Whether its groups may be measured elsewhere.
+    # Whether its groups may be measured elsewhere, or in a tree of cgroups alone.
     is_measured: bool = False
+    is_in_tree: bool = False
     # Whether its host is this machine, unless --cpus names another.
     is_here: bool = False
 
@@ -66,32 +78,17 @@ SERVICE = re.compile("(k8s|docker|podman|systemd)://")
 # In the order in which they are tried. A folder is a tree; what is none of these is a script.
 READERS = {
     "toml": SourceKind("hostfile", lambda path, data: path.endswith(".toml") or bool(
-        TABLE.match(data.lstrip(BLANK))), "A host file, with amounts such as 250m, 1.5cpu or 40%."),
-    "slurm": SourceKind(
-        "slurm", lambda _, data: bool(part_of_jobs(data)),
-        "What `squeue --json` or `sacct --parsable2` print, and beside them `sstat --parsable2` and"
-        " `sinfo --json`. Newer versions have `scontrol show job --json` and `scontrol show node"
-        " --json`. Columns of sacct that are read: JobID, JobIDRaw, JobName, User, State,"
-        " AllocCPUS, Elapsed, TotalCPU, NodeList.", part_of_jobs),
+        TABLE.match(data.lstrip(BLANK)))),
+    "slurm": SourceKind("slurm", lambda _, data: bool(part_of_jobs(data)), part_of_jobs),
     "docker": SourceKind(
         "containers", lambda _, data: is_json(data) and b'"HostConfig"' in data,
-        "What `docker inspect` or `podman inspect` prints. docker:// and podman:// ask what runs"
-        " here.", is_measured=True, is_here=True),
+        is_measured=True, is_here=True),
     "kubernetes": SourceKind(
         "kubernetes", lambda _, data: is_json(data) and bool(OBJECTS.search(data)),
-        "What `kubectl get pods -o json` prints, and a node's JSON beside it. k8s://[CONTEXT] asks"
-        " the API server by `kubectl get --raw`, with --node for one node alone.",
         lambda data: "node" if set(PARTS.findall(data)) == {b"Node"} else "pods", True),
-    "json": SourceKind("hostfile", lambda _, data: is_json(data), "The same in JSON."),
-    "systemd": SourceKind(
-        "systemd", lambda _, data: bool(UNITS.search(data)),
-        "What `systemctl show '*.slice' '*.service' '*.scope'` prints. systemd:// asks this"
-        " machine, twice where use is asked for (--read).", is_here=True),
-    "cgroup": SourceKind("cgroups", lambda _, __: False,
-                         "A tree of cgroup v2, such as /sys/fs/cgroup, or a copy of its files.",
-                         is_here=True),
-    "script": SourceKind(
-        "script", lambda path, _: path.endswith(".script"),
-        "A script of arbiter(1). Its first line, `# arbiter run --processors N --period U --slice"
-        " U`, is the host."),
+    "json": SourceKind("hostfile", lambda _, data: is_json(data)),
+    "systemd": SourceKind("systemd", lambda _, data: bool(UNITS.search(data)),
+                          is_in_tree=True, is_here=True),
+    "cgroup": SourceKind("cgroups", lambda _, __: False, is_here=True),
+    "script": SourceKind("script", lambda path, _: path.endswith(".script")),
 }

@@ -8,6 +8,7 @@ import csv
 import io
 import itertools
 import re
+from collections import Counter
 from collections.abc import Callable, Iterable, Iterator, Mapping, Sequence
 from contextlib import suppress
 from datetime import datetime, timezone
@@ -71,6 +72,14 @@ class History(NamedTuple):
         return list(dict.fromkeys([*self.holes, *(name for each in self.samples
                                                   for name in each.cells)]))
 
+    @property
+    def lacking(self) -> list[str]:
+        """The columns that have no number in some whole samples, and in how many."""
+        whole = [each.cells for each in self.samples if each.is_whole]
+        seen = Counter(name for cells in whole for name in cells)
+        return [f"{shown(name)} in {len(whole) - seen[name]} of {len(whole)}"
+                for name in self.holes if seen[name] < len(whole)]
+
     def of_columns(self, is_meant: Callable[[str], bool]) -> History:
         """The samples of some columns alone."""
         return History([each for each in self.holes if is_meant(each)], [
@@ -102,14 +111,7 @@ def demand_of(text: str, unit: str, host: Host, where: str) -> Fraction:
         return value * units.CPU_UNITS[parsed[1]]
     if value > 10**15:
         raise HostFault(f"{where}: {shown(cut(text, 40))!r} is above 10^15")
-    return value * one_of(unit, host)
-
-
-def one_of(unit: str, host: Host) -> Fraction:
-    """The thousandths of a CPU that one of a unit is."""
-    return {"cpu": Fraction(1000), "m": Fraction(1), "%": Fraction(10),
-            "us": Fraction(1000, host.period_us),
-            "slices": units.thousandths_of_slices(1, host.period_us, host.slice_us)}[unit]
+    return value * units.one_of(unit, host)
 
 
 def values_of(cells: Sequence[str], unit: str, host: Host, wheres: Iterable[str]) -> Values:
@@ -119,7 +121,7 @@ def values_of(cells: Sequence[str], unit: str, host: Host, wheres: Iterable[str]
     with suppress(InvalidOperation):
         if PLAIN.fullmatch(f"{text}\n"):
             scaled = map(EXACT.scaleb, map(Decimal, cells), itertools.repeat(places))
-            return Values(list(map(int, scaled)), one_of(unit, host) / 10**places)
+            return Values(list(map(int, scaled)), units.one_of(unit, host) / 10**places)
     return Values.of([demand_of(cell, unit, host, where) for cell, where in zip(cells, wheres)])
 
 

@@ -207,14 +207,15 @@ def alias_in(row: Mapping[str, str], identifier: str) -> str:
 
 
 def take_row(row: dict[str, str], jobs: dict[str, SlurmJob], aliases: Mapping[str, str]) -> bool:
-    """Takes a row of sacct. Returns whether it is of something that runs."""
+    """Takes a row of sacct. Returns whether it is of something that runs. One that waits may be of
+    many jobs of an array, as `15_[1-9]`."""
+    state = row.get("State", "RUNNING").split(" ")[0]
+    if state not in (*ACTIVE, *FROZEN):
+        return False
     word = row.get("JobIDRaw") or row.get("JobID") or ""
     match = IDENTIFIER.fullmatch(word)
     if not match:
         raise HostFault(f"{shown(word[:40])!r} is no JobID")
-    state = row.get("State", "RUNNING").split(" ")[0]
-    if state not in (*ACTIVE, *FROZEN):
-        return False
     name = aliases.get(match[1], match[1])
     job = jobs.setdefault(name, SlurmJob(name, is_raw=name.isdigit()))
     job.alias = job.alias or alias_in(row, job.identifier)
@@ -312,7 +313,7 @@ def steps_of(job: SlurmJob, model: Model) -> Iterator[tuple[Group, JobStep]]:
     place = f"{TOP}/job_{job.identifier}" if job.is_raw else NOWHERE
     yield Group(path, title=job.title, place=place), job.whole
     for name, step in job.steps.items():
-        yield (Group(f"{path}/{names.path_name(f'step_{name}', ())}", title=f"{job.title}/{name}",
+        yield (Group(f"{path}/{names.path_name(f'step_{name}')}", title=f"{job.title}/{name}",
                      place=f"{place}/step_{name}" if job.is_raw else NOWHERE),
                replace(step, cpus=step.cpus or job.whole.cpus))
 

@@ -92,11 +92,6 @@ class SourceOptions:
     check: Callable[[str], None] | None = None
 
     @property
-    def seconds(self) -> Fraction:
-        """Seconds from one reading of units to the next."""
-        return self.times.interval
-
-    @property
     def names_host(self) -> bool:
         """Whether a part of the host is asked for."""
         return not self.cpus == self.period == self.slice is None

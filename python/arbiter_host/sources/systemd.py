@@ -5,27 +5,25 @@ Groups stand where `ControlGroup` says. Without a second reading usage is not kn
 from __future__ import annotations
 
 import functools
-import math
 import re
 from collections.abc import Iterator, Mapping, Sequence
 from dataclasses import dataclass, field, replace
 from fractions import Fraction
 
-from arbiter import Host, Library
+from arbiter import Host, Library, LimitFormula, WeightFormula
 from arbiter_host.base import demands, names, units
-from arbiter_host.base.demands import CounterReading, Measured, Use, use_of
-from arbiter_host.base.faults import HostFault
-from arbiter_host.base.model import (MAX_DEPTH, Group, Model, bind, check_settings, checked,
-                                     cpus_in)
+from arbiter_host.base.demands import CounterReading, Measured, Place, Use, use_of
+from arbiter_host.base.faults import HostFault, UsageFault
+from arbiter_host.base.model import MAX_DEPTH, Group, Model, bind_to, check_settings, checked
 from arbiter_host.base.names import shown
 from arbiter_host.base.owned import NONE, Owned, Range, Setting
+from arbiter_host.sources.measurable import Measurable
 from arbiter_host.sources.source_options import File, SourceOptions
+from arbiter_host.sources.usage import Used
 
 NOT_SET = ("", "[not set]", "infinity", "18446744073709551615")
 # A quota of systemd is a number of hundredths of a percent of one CPU.
 QUOTA = re.compile(r"([0-9]{1,9})(?:\.([0-9]{1,2}))?%")
-# CPUShares that are the default weight.
-DEFAULT_SHARES = 1024
 # The properties that tell a group's settings.
 SET = ("CPUWeight", "CPUShares", "CPUQuotaPerSecUSec", "CPUQuotaPeriodUSec", "AllowedCPUs")
 # Greatest quota that systemd can write, in hundredths of a percent.
@@ -72,29 +70,24 @@ def time_of(unit: Properties, key: str) -> int | None:
     return None if value in NOT_SET else units.parse_time(value)
 
 
-def set_limit(group: Group, unit: Properties) -> None:
-    """Sets quota and period as systemd writes them: the period is so long that the quota is 1 ms,
-    rounded down, and at most 1 s."""
-    per_second = time_of(unit, "CPUQuotaPerSecUSec")
-    if per_second is None:
-        return
-    period = time_of(unit, "CPUQuotaPeriodUSec") or units.DEFAULT_PERIOD
-    least = units.MIN_QUOTA * units.SECOND // max(per_second, 1)
-    group.period = max(min(max(least, period), units.MAX_PERIOD), units.MIN_PERIOD)
-    quota = per_second * group.period // units.SECOND
-    group.quota = min(max(quota, units.MIN_QUOTA), units.MAX_QUOTA)
+def set_limit(library: Library, group: Group, unit: Properties) -> None:
+    """Sets quota and period as systemd writes them."""
+    per_second, period = (time_of(unit, key) for key in ("CPUQuotaPerSecUSec",
+                                                         "CPUQuotaPeriodUSec"))
+    if per_second is not None:
+        group.quota, group.period = library.owned_limit(LimitFormula.PER_SECOND, per_second,
+                                                        period or 0)
 
 
-def set_weight(group: Group, unit: Properties, notes: list[str]) -> None:
+def set_weight(library: Library, group: Group, unit: Properties, notes: list[str]) -> None:
     """Sets the weight. `idle` is the least. Without one systemd makes it of CPUShares."""
     word, shares = unit.get("CPUWeight", ""), whole(unit.get("CPUShares", ""))
     weight = 1 if word == "idle" else whole(word)
     if word in NOT_SET and shares is not None:
-        weight = shares * units.DEFAULT_WEIGHT // DEFAULT_SHARES
-        weight = min(max(weight, units.MIN_WEIGHT), units.MAX_WEIGHT)
+        weight = library.owned_weight(WeightFormula.UNIT_SHARES, shares)
         notes.append(f"{group.path}: CPUShares {shares}: weight {weight} is taken")
     if weight is not None:
-        group.weight = min(max(weight, units.MIN_WEIGHT), units.MAX_WEIGHT)
+        group.weight = library.owned_weight(WeightFormula.UNIT_WEIGHT, weight)
     if word == "idle":
         notes.append(f"{group.path}: idle: weight 1 is taken")
     elif weight is None and word not in NOT_SET:
@@ -117,14 +110,14 @@ def make(model: Model, path: str) -> Group:
     return model.groups[path] if path in model.groups else model.add(Group(path))
 
 
-def add(model: Model, unit: Properties, path: str) -> None:
+def add(library: Library, model: Model, unit: Properties, path: str) -> None:
     """Adds a unit's group."""
     group, title = make(model, path), unit.get("Description", "")
     group.place = unit.get("ControlGroup", "").strip("/")
     group.title = title if title != unit.get("Id", "") else ""
-    set_weight(group, unit, model.notes)
+    set_weight(library, group, unit, model.notes)
     try:
-        set_limit(group, unit)
+        set_limit(library, group, unit)
     except HostFault as fault:
         model.notes.append(f"{path}: {shown(fault.message)}: no limit is taken")
 
@@ -163,6 +156,11 @@ class Units(Owned):
     noun, keys = "unit", ("CPUWeight", "CPUQuota")
     # Seconds from one reading to the next.
     seconds: Fraction = field(default=Fraction(1), kw_only=True)
+    library: Library = field(kw_only=True)
+
+    @property
+    def formula(self) -> WeightFormula:
+        return WeightFormula.UNIT_WEIGHT
 
     def counters(self) -> Mapping[str, Measured]:
         """The readings of each group."""
@@ -192,55 +190,53 @@ class Units(Owned):
 
     def written(self, request: int, limit: int | None) -> tuple[str, str | None]:
         """A weight of 100 for each CPU, and percents of one CPU."""
-        weight = min(max(math.ceil(Fraction(request, 10)), units.MIN_WEIGHT), units.MAX_WEIGHT)
-        return str(weight), None if limit is None else percent(Fraction(10 * limit))
+        return (str(self.library.owned_number(self.formula, request)),
+                None if limit is None else percent(Fraction(10 * limit)))
 
 
 @dataclass(frozen=True)
-class UnitSource(Units):
-    """Units as they were printed."""
+class UnitSource(Units, Measurable):
+    """Units as they were printed, which may be measured in a tree of cgroups."""
 
-    host: Host
-    # What the demands are taken from.
-    want: str
     # The properties of each unit by its path, and those of each reading.
     properties: Mapping[str, Properties]
     readings: tuple[Mapping[str, Properties], ...]
     has_left_out: bool = False
 
-    @property
-    def rule(self) -> str:
-        return self.want
-
     def counters(self) -> dict[str, Measured]:
         by_path = {}
-        for path, unit in self.properties.items():
+        for place, (path, unit) in enumerate(self.properties.items()):
             used = [whole(each.get(path, {}).get("CPUUsageNSec", "")) for each in self.readings]
-            by_path[path] = Measured([CounterReading(None if each is None else each // 1000)
-                                    for each in used], tasks=whole(unit.get("TasksCurrent", "")))
+            by_path[path] = self.known.get((place, 0)) or Measured(
+                [CounterReading(None if each is None else each // 1000) for each in used],
+                tasks=whole(unit.get("TasksCurrent", "")))
         return by_path
 
+    def folders_by(self, driver: str) -> dict[Place, str]:
+        """Where each unit is, whatever names the groups of containers."""
+        return {(place, 0): unit.get("ControlGroup", "").strip("/")
+                for place, unit in enumerate(self.properties.values())}
+
+    def places_of(self, _: Used) -> Sequence[Place]:
+        """None: no measurement but a tree names units."""
+        return ()
+
     @functools.cached_property
-    def plain(self) -> Model:
-        model = Model(checked(self.host), weighed="CPUWeight")
+    def built(self) -> tuple[Model, Mapping[str, Place]]:
+        model = Model(checked(self.host), notes=list(self.notes), weighed="CPUWeight")
         # Each stands after those above it, siblings by name.
         for path in sorted(self.properties, key=lambda path: path.split("/")):
-            add(model, self.properties[path], path)
+            add(self.library, model, self.properties[path], path)
         if self.has_left_out:
             model.notes.append("units without a group are left out")
         words = {path: self.properties.get(path, {}).get("AllowedCPUs") for path in model.groups}
-        bind(model, {path: cpus_in(word.replace(" ", ",")) for path, word in words.items()
-                     if word})
-        demands.set_demands(model, self.counters(), self.want, self.seconds)
+        bind_to(model, {path: word.replace(" ", ",") for path, word in words.items() if word})
+        demands.set_demands(model, self.counters(), self.options.want, self.seconds)
         demands.stop(model, [path for path in model.groups if self.properties.get(path, {}).get(
             "FreezerState") in ("frozen", "freezing")], "frozen")
-        return model
-
-    def has(self, path: str) -> bool:
-        return path in self.properties
-
-    def on_host(self, host: Host) -> UnitSource:
-        return replace(self, host=host)
+        places = {path: (place, 0) for place, path in enumerate(self.properties)}
+        self.follow_tree(model, places)
+        return model, places
 
     def changed(self, settings: Sequence[Setting]) -> UnitSource:
         properties = dict(self.properties)
@@ -275,10 +271,10 @@ class TreeSource(Units):
             unit = changed_unit({"CPUQuotaPeriodUSec": f"{group.period}us"}, setting)
             if setting.key == "CPUWeight":
                 group.weight = units.DEFAULT_WEIGHT
-                set_weight(group, unit, after.notes)
+                set_weight(self.library, group, unit, after.notes)
             else:
                 group.quota = None
-                set_limit(group, unit)
+                set_limit(self.library, group, unit)
             if group.quota is not None and group.burst > group.quota:
                 raise setting.fault(f"below the burst {group.burst} that stands there")
             check_settings(group)
@@ -319,6 +315,10 @@ def read(files: Sequence[File], library: Library, options: SourceOptions) -> Mod
                         " '*.scope'` prints them")
     properties = {path: unit for path, unit in readings[0].items()
                   if path not in ("", ".") and path.count("/") < MAX_DEPTH}
-    options = replace(options, want=options.want or ("usage" if len(files) > 1 else "busy"))
-    return UnitSource(options.machine(library), options.want, properties, tuple(readings),
-                      "" in readings[0], seconds=options.seconds).model()
+    if options.measured and len(files) > 1:
+        raise UsageFault("--used: units that were printed twice have what they used themselves")
+    options = replace(options, want=options.want or (
+        "usage" if len(files) > 1 or options.measured else "busy"))
+    source = UnitSource(options, options.machine(library), properties, tuple(readings),
+                        "" in readings[0], seconds=options.times.interval, library=library)
+    return (options.measured(source) if options.measured else source).model()

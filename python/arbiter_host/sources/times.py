@@ -8,7 +8,7 @@ from fractions import Fraction
 from typing import NamedTuple
 
 from arbiter_host.base import units
-from arbiter_host.base.faults import HostFault, UsageFault
+from arbiter_host.base.faults import UsageFault, naming
 from arbiter_host.base.names import shown
 
 Clock = Callable[[], float]
@@ -31,11 +31,9 @@ def times_of(text: str) -> Times:
         raise UsageFault(f"--read {shown(text)}: NxTIME, such as 10x1s, with N from 1 to"
                          f" {MAX_READINGS}")
     parsed = units.number_and_unit(time_)
-    try:
+    with naming("--read", UsageFault):
         seconds = (parsed[0] if parsed and not parsed[1]
                    else Fraction(units.parse_time(time_), MICROSECONDS))
-    except HostFault as fault:
-        raise UsageFault(f"--read: {shown(fault.message)}") from fault
     if not 0 < seconds <= MAX_SECONDS:
         raise UsageFault(f"--read: a time above 0 and at most {MAX_SECONDS} seconds")
     return Times(seconds, number)

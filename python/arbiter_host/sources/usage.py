@@ -163,6 +163,8 @@ def of_json(data: bytes, name: str) -> Iterator[Used]:
     check_memory(data, name)
     values = list(of_lines(data, name)) if b'"CPUPerc"' in data else [loads(data, name)]
     first = values[0] if len(values) == 1 else None
+    if field(first, "data", "resultType"):
+        raise HostFault(f"{name}: an answer of a Prometheus, whose address --used takes: http://..")
     if text_field(first, "kind") == "PodMetricsList" or isinstance(field(first, "items"), list):
         yield from of_metrics(tables(first, "items"), name)
     elif text_field(first, "kind") == "PodMetrics":

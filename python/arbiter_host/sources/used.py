@@ -178,7 +178,8 @@ def measured(uses: UseOptions, source: Measurable) -> Owned:
     """A source with the use of its groups."""
     if not is_tree(uses):
         return source.with_usage(entries(uses), name(uses))
-    known, seconds, there = readings.measured_at(uses.words, uses.times, source.folders())
+    known, seconds, there = readings.measured_at(uses.words, uses.times, source.folders(),
+                                                 source.noun)
     return replace(source, known=known, seconds=seconds, there=there).compared()
 
 

@@ -1,6 +1,6 @@
 """The subcommands of arbiterctl, each in a module that is imported when it is asked for.
 
-A new one is a module with `run`, its texts in templates and a line here.
+A new one is a module here with `run`, and templates/NAME.toml with all that is said of it.
 """
 from __future__ import annotations
 
@@ -12,29 +12,18 @@ from typing import Any, NamedTuple
 
 from arbiter_host import options as table
 
-# One line for the list of all.
-SUMMARIES = {
-    "explain": "why each group gets what it gets",
-    "diff": "what a change does, or what differs between two plans",
-    "tune": "settings with which groups get their goals at once",
-    "recommend": "propose requests and limits by what was used",
-    "replay": "plan many samples of what was used",
-    "top": "plan a host again and again: live, alerts, metrics",
-    "export": "write what a source holds as a script or a host file",
-    "audit": "the plan beside what groups used: how far off, and why",
-    "place": "where a pod would go among many hosts",
-    "apply": "set weights and limits on a host; prints without --yes",
-    "undo": "bring the settings before `apply` back",
-    "hold": "hold the plan on a host by limits of each round",
-}
-TEXTS = os.path.join(os.path.dirname(os.path.dirname(__file__)), "templates")
+# Each has its texts. The texts of options stand beside them.
+NAMES = {each.removesuffix(".toml") for each in os.listdir(table.TEXTS)
+         if each.endswith(".toml")} - {"options"}
 
 
 class Subcommand(NamedTuple):
-    """One subcommand: what it does with its words, and the texts of templates/NAME.toml."""
+    """One subcommand: what it does with its words, and its texts."""
 
     name: str
     run: Callable[[argparse.Namespace], None]
+    # One line for the list of all.
+    summary: str
     description: str
     # More paragraphs of its help and its man page.
     details: list[str]
@@ -42,25 +31,25 @@ class Subcommand(NamedTuple):
     examples: dict[str, str]
     argument: dict[str, Any]
 
-    @property
-    def summary(self) -> str:
-        return SUMMARIES[self.name]
-
     def add_words(self, parser: argparse.ArgumentParser) -> None:
         argument = dict(self.argument)
         parser.add_argument(argument.pop("name"), **argument)
         table.add(parser, self.name)
 
 
+def listed() -> list[str]:
+    """The names of all in the order of the list."""
+    return sorted(NAMES, key=lambda name: int(table.texts(name)["order"]))
+
+
 def find(name: str) -> Subcommand:
-    """The subcommand of a name. `undo` stands beside `apply`."""
-    import tomllib  # (the list of all needs no texts)
-    module, function = ("apply", "undo") if name == "undo" else (name, "run")
+    """The subcommand of a name. Its function is `run` of its module, unless it names another."""
+    texts = table.texts(name)
+    module, _, function = texts.get("run", f"{name}.run").partition(".")
     run = getattr(importlib.import_module(f"{__name__}.{module}"), function)
-    with open(f"{TEXTS}/{name}.toml", "rb") as file:
-        return Subcommand(name, run, **tomllib.load(file))
+    return Subcommand(name, run, *(texts[key] for key in Subcommand._fields[2:]))
 
 
 def every() -> tuple[Subcommand, ...]:
     """All subcommands in order."""
-    return tuple(map(find, SUMMARIES))
+    return tuple(map(find, listed()))

@@ -10,7 +10,7 @@ from arbiter_host import options as table
 from arbiter_host.answers import explain
 from arbiter_host.answers.explain import View
 from arbiter_host.base import names, text
-from arbiter_host.base.faults import UsageFault
+from arbiter_host.base.faults import NothingFound, UsageFault
 from arbiter_host.base.model import MAX_DEPTH, Model
 from arbiter_host.base.output import write_forms
 from arbiter_host.base.plan import Engine
@@ -50,6 +50,22 @@ def loaded(options: argparse.Namespace, files: Sequence[Opened], by: Engine,
 def chosen(options: argparse.Namespace, model: Model) -> frozenset[str] | None:
     """The groups that the options choose; None for all."""
     return selection.chosen(model, Selection(options.group, options.namespace, options.selector))
+
+
+def chosen_of_each(options: argparse.Namespace, models: Sequence[Model | None]
+                   ) -> list[frozenset[str] | None]:
+    """The groups that are chosen of each model; none of one that is not asked, or where nothing
+    fits. A fault where nothing fits in any."""
+    groups, faults = list[frozenset[str] | None](), list[NothingFound]()
+    for model in models:
+        try:
+            groups.append(frozenset() if model is None else chosen(options, model))
+        except NothingFound as fault:
+            faults.append(fault)
+            groups.append(frozenset())
+    if len(faults) == len(models):
+        raise faults[0]
+    return groups
 
 
 def view_of(options: argparse.Namespace, paths: frozenset[str] | None = None) -> View:

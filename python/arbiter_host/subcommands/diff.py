@@ -6,7 +6,7 @@ from collections.abc import Sequence
 from dataclasses import replace
 
 from arbiter_host.answers import diff, report
-from arbiter_host.base.faults import NoHost, NothingFound, UsageFault
+from arbiter_host.base.faults import NoHost, UsageFault
 from arbiter_host.base.model import Model
 from arbiter_host.base.names import shown
 from arbiter_host.base.plan import Engine, engine_of, plan
@@ -17,7 +17,7 @@ from arbiter_host.sources.kubernetes import PodSource, with_pods
 from arbiter_host.sources.load import Opened
 from arbiter_host.sources.source_options import SourceOptions
 from arbiter_host.sources.systemd import TreeSource
-from arbiter_host.subcommands.base import answer, chosen, source_name, view_of
+from arbiter_host.subcommands.base import answer, chosen_of_each, source_name, view_of
 
 
 def read(options: SourceOptions, files: Sequence[Opened], by: Engine) -> Model | None:
@@ -58,30 +58,22 @@ def compared(options: argparse.Namespace, files: Sequence[Opened],
 
 
 def met(models: list[Model]) -> list[Model]:
-    """The models, with groups of a tree under the names of the pods that another one has."""
+    """The models, with groups of a tree under the names of the pods that another one has, whose
+    weights are by the conversion of shares that the tree has."""
     pods = [each.owned for each in models if isinstance(each.owned, PodSource)]
-    return [with_pods(each, pods[0]) if len(pods) == 1 and isinstance(each.owned, TreeSource)
-            else each for each in models]
-
-
-def chosen_in(options: argparse.Namespace, models: Sequence[Model]) -> frozenset[str] | None:
-    """The groups that are chosen in one of the models; None for all."""
-    groups, faults = list[frozenset[str] | None](), list[NothingFound]()
-    for model in models:
-        try:
-            groups.append(chosen(options, model))
-        except NothingFound as fault:
-            faults.append(fault)
-    if not groups:
-        raise faults[0]
-    return None if None in groups else frozenset().union(*(each or () for each in groups))
+    trees = [each for each in models if isinstance(each.owned, TreeSource)]
+    if len(pods) != 1 or len(trees) != 1:
+        return models
+    tree = with_pods(trees[0], pods[0])
+    return [tree if each is trees[0] else pods[0].beside(tree).model() for each in models]
 
 
 def forms(options: argparse.Namespace, files: Sequence[Opened]) -> Forms:
     """The forms of what differs on one host."""
     by = engine_of(options.library)
     before, after = compared(options, files, by)
-    view = view_of(options, chosen_in(options, [before, after]))
+    groups = chosen_of_each(options, [before, after])
+    view = view_of(options, None if None in groups else frozenset().union(*filter(None, groups)))
     one, two = plan(by, before), plan(by, after)
     models = change.if_busy(before, after, options.set)
     busy = None if models is None else (plan(by, models[0]), plan(by, models[1]))

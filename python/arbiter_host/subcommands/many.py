@@ -13,7 +13,7 @@ from arbiter_host.base.model import Group
 from arbiter_host.base.output import warn, write_forms
 from arbiter_host.fleet import hosts, questions, report
 from arbiter_host.fleet.hosts import Fleet
-from arbiter_host.fleet.work import Action, Job
+from arbiter_host.fleet.work import Action, Job, engine_here
 from arbiter_host.records import source_options, time_option
 from arbiter_host.sources import change, used
 from arbiter_host.sources.load import Opened
@@ -31,7 +31,8 @@ def fleet_in(options: argparse.Namespace, files: Sequence[Opened], action: Actio
     """
     source = source_options(options)
     uses = source.uses if action is not Action.SAMPLES else None
-    fleet = hosts.fleet_in(source, files, lambda: used.entries(uses) if uses else [])
+    fleet = hosts.fleet_in(source, files, lambda: engine_here(options.library).library,
+                           lambda: used.entries(uses) if uses else [])
     if fleet is None:
         return None
     table.check(options, table.HOSTS)
@@ -81,7 +82,7 @@ def job_of(options: argparse.Namespace, action: Action, fleet: Fleet) -> Job:
 
 def answer(options: argparse.Namespace, fleet: Fleet, action: Action) -> None:
     """Asks each host of a fleet, and reports."""
-    outputs = table.outputs(options, {*table.FORMS[options.asked]} - OF_ONE)
+    outputs = table.outputs(options, {*table.forms(options.asked)} - OF_ONE)
     job = job_of(options, action, fleet)
     uses = source_options(options).uses
     samples = questions.samples_of(uses, fleet) if uses and action is Action.SAMPLES else None

@@ -2,10 +2,11 @@
 from __future__ import annotations
 
 import argparse
-from collections.abc import Sequence, Set
+from collections.abc import Sequence
 from dataclasses import replace
 from typing import Any
 
+from arbiter import Library
 from arbiter_host import recommend
 from arbiter_host import options as table
 from arbiter_host.base import output, text, units
@@ -26,7 +27,7 @@ from arbiter_host.sources.load import Opened
 from arbiter_host.sources.measurable import Measurable, measured
 from arbiter_host.sources.register import READERS
 from arbiter_host.sources.source_options import SourceOptions
-from arbiter_host.subcommands.base import chosen, source_name
+from arbiter_host.subcommands.base import chosen_of_each, source_name
 
 
 def options_of(options: argparse.Namespace) -> SourceOptions:
@@ -36,14 +37,14 @@ def options_of(options: argparse.Namespace) -> SourceOptions:
     return source_options(options, uses=use_options(options, **more))
 
 
-def cluster_of(options: SourceOptions, files: Sequence[Opened]) -> Fleet | None:
+def cluster_of(options: SourceOptions, files: Sequence[Opened], library: Library) -> Fleet | None:
     """The nodes of a cluster with their pods; None where there is one node or another source."""
     if load.kind_in(options, files) != "kubernetes":
         return None
     items = [item for path, data in files
              for item in kubernetes.items_of(loads(data or b"", shown(path)), shown(path))]
     many = sum(each.get("kind") == "Node" for each in items) > 1
-    return cluster.of_cluster(files[0][0], items) if many else None
+    return cluster.of_cluster(files[0][0], items, lambda: library) if many else None
 
 
 def of_cluster(options: SourceOptions, fleet: Fleet, by: Engine) -> list[Model]:
@@ -61,19 +62,24 @@ def of_cluster(options: SourceOptions, fleet: Fleet, by: Engine) -> list[Model]:
     return [each.model() for each in with_use]
 
 
+def has_tree(options: SourceOptions) -> bool:
+    """Whether what was used is in a tree of cgroups."""
+    return options.uses is not None and used.is_tree(options.uses)
+
+
 def models_of(options: SourceOptions, paths: Sequence[str], by: Engine
               ) -> list[tuple[str, Model]]:
     """The models of the source, of a cluster that of each node, with its name. What was used of
     pods and containers is part of it."""
     # (replicas on other nodes are of the same owner)
     files = load.opened(replace(options, node=""), paths)
-    fleet, name = cluster_of(options, files), source_name(paths)
+    fleet, name = cluster_of(options, files, by.library), source_name(paths)
     if fleet is not None:
         if options.node and options.node not in [each.name for each in fleet.hosts]:
             raise NothingFound(f"no node {shown(options.node)}")
         return list(zip((each.name for each in fleet.hosts), of_cluster(options, fleet, by)))
     kind = load.kind_in(options, files)
-    is_part = READERS[kind].is_measured
+    is_part = READERS[kind].is_measured or READERS[kind].is_in_tree and has_tree(options)
     return [(name, load.model_of(options if is_part else options.without_use(kind), files,
                                  by.library))]
 
@@ -82,27 +88,11 @@ def uses_of(options: SourceOptions, model: Model) -> dict[str, Use]:
     """The uses that were seen of each group: with the source, or of units in samples beside it."""
     owned = recommend.owned_of(model)
     seen = owned.seen()
-    if options.uses and owned.noun == "unit":
+    if options.uses and owned.noun == "unit" and not has_tree(options):
         uses, told = recommend.of_entries(owned, used.entries(options.uses))
         model.notes += told
         return seen | uses
     return seen
-
-
-def chosen_of(options: argparse.Namespace, models: Sequence[tuple[str, Model]]
-              ) -> list[Set[str] | None]:
-    """The groups that are chosen of each model. A fault where that is none of any."""
-    groups, faults = list[Set[str] | None](), list[NothingFound]()
-    for name, model in models:
-        try:
-            is_other = len(models) > 1 and options.node not in ("", name)
-            groups.append(frozenset() if is_other else chosen(options, model))
-        except NothingFound as fault:
-            faults.append(fault)
-            groups.append(frozenset())
-    if len(faults) == len(models):
-        raise faults[0]
-    return groups
 
 
 def run(options: argparse.Namespace) -> None:
@@ -113,9 +103,11 @@ def run(options: argparse.Namespace) -> None:
     uses = [uses_of(source, model) for _, model in models]
     for name, model in models:
         load.warn(model, name)
+    is_one = len(models) == 1 or not options.node
+    groups = chosen_of_each(options, [model if is_one or name == options.node else None
+                                      for name, model in models])
     advice = recommend.recommended(by, [
-        SeenHost(model, *each)
-        for (_, model), each in zip(models, zip(uses, chosen_of(options, models)))], rule)
+        SeenHost(model, *each) for (_, model), each in zip(models, zip(uses, groups))], rule)
     for before, after in advice.plans:
         change.warned(before.model, after.model)
     output.write_forms(outputs, answer(advice).forms())

@@ -72,6 +72,9 @@ def forms(options: argparse.Namespace, files: Sequence[Opened], uses: UseOptions
         check_use(options.unit, model, history, path_of, used.name(uses))
     if missing:
         output.warn(f"{used.name(uses)}: series of no group here, {some(missing)}")
+    lacking = history.of_columns(path_of.__contains__).lacking
+    if lacking:
+        output.warn(f"{used.name(uses)}: without a number, which counts as 0, {some(lacking)}")
     paths = shown_groups(options, model)
     with progress.bar("samples", len(history.samples)) as tick:
         found = series.run(by, model, history, options.unit, paths, path_of,

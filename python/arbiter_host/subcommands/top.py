@@ -12,6 +12,7 @@ import time
 from collections.abc import Callable, Sequence
 from typing import TYPE_CHECKING
 
+from arbiter import Library
 from arbiter_host import options
 from arbiter_host.answers import explain
 from arbiter_host.answers.explain import View
@@ -51,7 +52,7 @@ def reader(asked: argparse.Namespace, wanted: Sequence[top.Condition],
             raise UsageFault("--node: of a tree it needs --pods k8s://")
         want = asked.want or "psi"
         tree = readings.Tree(paths[0], source.machine(by.library), time.monotonic)
-        ask = functools.partial(pod_names, source, asked.pod) if asked.pod else None
+        ask = functools.partial(pod_names, source, asked.pod, by.library) if asked.pod else None
         return top.Watched(by, tree, want, ask, warn).round, 1
     if "-" in paths:
         raise UsageFault("standard input is read once: top takes files or a folder")
@@ -62,10 +63,11 @@ def reader(asked: argparse.Namespace, wanted: Sequence[top.Condition],
     return lambda: top.with_use(plan(by, load.load(source, paths, by.library))), 0
 
 
-def pod_names(source: SourceOptions, words: Sequence[str]) -> dict[str, PodNames]:
+def pod_names(source: SourceOptions, words: Sequence[str], library: Library
+              ) -> dict[str, PodNames]:
     """The names of pods by the folders of their groups."""
     return kubernetes.names_at([(shown(path), data or b"{}")
-                                for path, data in load.opened(source, words)])
+                                for path, data in load.opened(source, words)], library)
 
 
 def run_command(words: Sequence[str], raised: Sequence[top.Alert]) -> None:

@@ -3,7 +3,7 @@ from __future__ import annotations
 
 import functools
 from collections import Counter
-from collections.abc import Callable, Sequence
+from collections.abc import Callable, Collection, Sequence
 from dataclasses import dataclass
 from fractions import Fraction
 from typing import NamedTuple
@@ -111,13 +111,29 @@ class Goals:
         return [amounts.get(row, 0) for row in range(len(self.before.groups))]
 
     @property
-    def may(self) -> list[bool]:
-        """Whether the weight of each row may change: of goals' groups, and of those above them
-        unless such weights follow from requests of containers."""
+    def has_requests(self) -> bool:
+        """Whether weights follow from requests of containers."""
         source = self.before.model.owned
-        has_requests = source is not None and "request" in source.keys
-        may = (self.rows if has_requests else self.paths) - self.kept
+        return source is not None and "request" in source.keys
+
+    def may(self, beside: Collection[int] = ()) -> list[bool]:
+        """Whether the weight of each row may change: of goals' groups, of those above them unless
+        weights follow from requests, and of some other groups."""
+        may = (self.rows if self.has_requests else self.paths).union(beside) - self.kept
         return [row in may for row in range(len(self.before.groups))]
+
+    @property
+    def beside(self) -> list[frozenset[int]]:
+        """The other groups whose weights may be lowered: those beside goals' groups, and then also
+        those beside groups above. None where weights follow from requests."""
+        if self.has_requests:
+            return []
+        above = self.paths - self.rows
+        parents = [frozenset(group.parent for group in self.before.groups if group.row in rows)
+                   for rows in (self.rows, self.rows | above)]
+        found = [frozenset(group.row for group in self.before.groups[1:] if group.parent in some)
+                 - self.paths - self.kept for some in parents]
+        return [rows for rows in dict.fromkeys(found) if rows]
 
     @property
     def needs(self) -> list[int]:

@@ -148,7 +148,7 @@ def by_limits(goals: Goals) -> Way | None:
 
     found = limits([False] * len(before.groups))
     is_weighed = found is None and before.model.owned is None
-    found = limits(goals.may) if is_weighed else found
+    found = limits(goals.may()) if is_weighed else found
     if found is None:
         return None
     changes = [NewSetting(cap.path, cap.key, cap.now, cap.written(limit))

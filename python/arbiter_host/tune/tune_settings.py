@@ -7,7 +7,6 @@ from __future__ import annotations
 
 from collections.abc import Sequence
 from dataclasses import dataclass, replace
-from functools import partial
 
 from arbiter_host.base import owned, search
 from arbiter_host.base.model import Model
@@ -119,17 +118,9 @@ class Raised:
                 continue
             if not self.source.has(group.path) or "request" in self.source.keys:
                 return None
-            of = self.source.weighing(group.path)
-            value = search.least_of(of.parts, partial(known.weighs, group.row, of, weight))
-            if value is None:
-                return None
-            known = known.with_value(group.row, of, value)
+            value = self.goals.before.engine.library.least_owned(self.source.formula, weight)
+            known = known.with_value(group.row, self.source.weighing(group.path), value)
         return known
-
-    def weighs(self, row: int, of: Range, weight: int, value: int) -> bool:
-        """Whether a value of the setting of a row gives it a weight at least."""
-        after = self.with_value(row, of, value).model
-        return list(after.groups.values())[row - 1].weight >= weight
 
     def changes(self) -> list[NewSetting]:
         return [NewSetting(path, key, of.now, value)

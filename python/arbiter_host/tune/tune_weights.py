@@ -2,10 +2,11 @@
 
 The C library answers them, by a call whose contract is exact: they are the least from the root
 down, and there is one answer. Where weights allow it, each other group keeps half of what it has.
+Where no such weights meet the goals, those of groups beside are lowered to the greatest level.
 """
 from __future__ import annotations
 
-from collections.abc import Mapping
+from collections.abc import Collection, Mapping
 from dataclasses import replace
 
 from arbiter_host.base import units
@@ -14,17 +15,20 @@ from arbiter_host.tune.goals import Clash, Goals, NewSetting, Way
 
 MEET = "proved: from the root down the least weights that meet the goals"
 LEAST, LOWER = f"{MEET}; none is lowered", f"{MEET}; none that lower no weight do"
+LEVEL = (f"{MEET}, beside others that are lowered to one weight, the greatest with which any do; "
+         "without that none do")
 HALF = "leave each other group half of what it gets"
 
 
-def own_weights(goals: Goals, keeps: Mapping[int, int] = {}) -> list[int] | Clash:
+def own_weights(goals: Goals, keeps: Mapping[int, int], beside: Collection[int]
+                ) -> list[int] | Clash:
     """The weight of each row where all goals are met, or goals that no weights meet together. Some
-    rows keep slices, as by goals of their own."""
+    rows keep slices, as by goals of their own, and some beside the goals may be lowered."""
     before = goals.before
     column = [max(amount, keeps.get(row, 0)) for row, amount in enumerate(goals.column)]
     with asking("tune"):
-        answer = before.engine.library.tune(before.planned_host, goals.columns, column, goals.may,
-                                            goals.is_guaranteed)
+        answer = before.engine.library.tune(before.planned_host, goals.columns, column,
+                                            goals.may(beside), goals.is_guaranteed)
     if isinstance(answer, list):
         return answer
     group = before.groups[answer]
@@ -46,22 +50,30 @@ def halves(goals: Goals) -> dict[int, int]:
     return {group.row: (amounts[group.row] + 1) // 2 for group in goals.others}
 
 
-def by_weights(goals: Goals, keeps: Mapping[int, int] = {}) -> Way | Clash:
+def by_weights(goals: Goals, keeps: Mapping[int, int] = {},
+               beside: Collection[int] = ()) -> Way | Clash:
     """The weights as settings with their accepted plan."""
-    answer = own_weights(goals, keeps)
+    answer = own_weights(goals, keeps, beside)
     if isinstance(answer, Clash):
         return answer
     changes = [NewSetting(group.path, "weight", str(group.weight), str(weight))
                for group, weight in zip(goals.before.groups, answer) if weight != group.weight]
-    is_lower = any(then < now for now, then in zip(goals.before.weights, answer))
-    return goals.way(goals.plan(answer), changes, LOWER if is_lower else LEAST)
+    lower = {row for row, (now, then) in enumerate(zip(goals.before.weights, answer)) if then < now}
+    told = LEVEL if lower.intersection(beside) else LOWER if lower else LEAST
+    return goals.way(goals.plan(answer), changes, told)
 
 
 def best_weights(goals: Goals) -> Way | Clash:
     """Weights where each other group keeps half of what it gets, or else where weights do not
-    allow that."""
+    allow that. Where none meet the goals, weights of groups beside these are lowered too."""
     half = by_weights(goals, halves(goals))
     if isinstance(half, Way):
         return replace(half, told=half.told.replace(MEET, f"{MEET} and {HALF}"))
     way = by_weights(goals)
-    return replace(way, told=f"{way.told}; none {HALF}") if isinstance(way, Way) else way
+    if isinstance(way, Way):
+        return replace(way, told=f"{way.told}; none {HALF}")
+    for rows in goals.beside:
+        way = by_weights(goals, beside=rows)
+        if isinstance(way, Way):
+            break
+    return way
