@@ -79,6 +79,8 @@ pytest_checked() {
 # ./test --checked: its last line says what was not proved.
 test_checked() {
   local passed failed status crates edits
+  # what is proved in Coq is left out
+  local coq_packages=''
   need_kit test
   need_packages
   pytest_checked

@@ -107,6 +107,24 @@ int main(void)
         return 18;
     if (arbiter_planned_host(65, 100000, 5000, &host[0], &host[1], &host[2]) != 0 || host[0] != 52 || host[1] != 25000 || host[2] != 1000)
         return 18;
+    if (arbiter_owned_weight(ARBITER_REQUEST_LOGARITHMIC, 1000, &host[0]) != 0 || host[0] != 100 || arbiter_owned_weight(7, 1, &host[0]) != 11)
+        return 19;
+    if (arbiter_least_owned(ARBITER_REQUEST_LINEAR, 39, &host[0]) != 0 || host[0] != 976 || arbiter_least_owned(ARBITER_UNIT_WEIGHT, 0, &host[0]) != 12)
+        return 19;
+    if (arbiter_owned_limit(ARBITER_PER_SECOND, 5000, 0, &host[0], &host[1]) != 0 || host[0] != 1000 || host[1] != 200000)
+        return 19;
+    const uint8_t kinds[3] = {ARBITER_INIT_CONTAINER, ARBITER_SIDECAR, 0};
+    const uint64_t parts[3] = {500, 100, 200};
+    if (arbiter_pod_amount(kinds, 3, parts, 3, &host[2]) != 0 || host[2] != 500)
+        return 19;
+    if (arbiter_greatest_part(kinds, 3, parts, 3, 2, 500, &host[2]) != 0 || host[2] != 400 || arbiter_greatest_part(kinds, 3, parts, 3, 2, 499, &host[2]) != 0 || host[2] != ARBITER_NO_LIMIT)
+        return 19;
+    if (arbiter_owned_number(ARBITER_UNIT_WEIGHT, 1001, &host[2]) != 0 || host[2] != 101 || arbiter_owned_number(ARBITER_UNIT_SHARES, 1000, &host[2]) != 0 || host[2] != 1024)
+        return 19;
+    if (arbiter_allowed(50000, 100000, 7, 3001, &host[2]) != 0 || host[2] != 8500 || arbiter_allowed(1, 0, 0, 1, &host[2]) != 15)
+        return 19;
+    if (arbiter_lost(90, 100, 84, 100, &host[2]) != 0 || host[2] != 1 || arbiter_lost(90, 100, 85, 100, &host[2]) != 0 || host[2] != 0)
+        return 19;
     if (arbiter_weight_of_shares(1024, ARBITER_SHARES_LINEAR) != 39 || arbiter_weight_of_shares(1024, ARBITER_SHARES_LOGARITHMIC) != 100
             || arbiter_weight_of_shares(1024, 0) != 0)
         return 19;

@@ -16,9 +16,10 @@ tests/promises.txt has an edit beside each row of SECURITY.md. A block of it is 
   c: TEXT                 C, in which the right call has `true_` before its name
 
 With WORDs the edits alone whose promise has one of them. An edit is refused if its test fails.
-Without any edit the same tests have to pass: an edit tells nothing otherwise.
+Without any edit the same tests have to pass, and to run: an edit tells nothing otherwise.
 """
 import argparse
+import re
 import shutil
 import subprocess
 import sys
@@ -36,7 +37,8 @@ COPIED = ("arbiter", "build", "test", "crates.txt", "HANDLES", "SECURITY.md", "R
 # What was made, and is made anew where it is older than its sources.
 MADE = ("out/independent",)
 FOLDERS = ("tests", "python/tests")
-SECONDS = 900
+# Seconds that tests have, and those of a slow edit, for which a busy machine compiles.
+SECONDS, SLOW_SECONDS = 900, 3600
 
 
 @dataclass
@@ -52,6 +54,11 @@ class Edit:
     program: str = ""
     call: str = ""
     code: str = ""
+
+    @property
+    def seconds(self):
+        """The seconds that its tests have."""
+        return SLOW_SECONDS if self.is_slow else SECONDS
 
 
 def edits():
@@ -122,17 +129,23 @@ def place_of(test, top):
     return f"{path}/{file}::{name}"
 
 
-def run(top, tests, program, library):
+def run(top, tests, program, library, seconds=SECONDS):
     """Status and output of tests of a copy."""
     words = ["/usr/bin/python3", "-m", "pytest", *(place_of(each, top) for each in tests), "-q",
-             "-x", "-p", "no:cacheprovider", "-p", "no:randomly", "--program", str(program),
-             "--library", str(library)]
+             "-x", "-rs", "-p", "no:cacheprovider", "-p", "no:randomly", "--program",
+             str(program), "--library", str(library)]
     try:
         ended = subprocess.run(words, cwd=top, capture_output=True, text=True, check=False,
-                               stdin=subprocess.DEVNULL, timeout=SECONDS)
+                               stdin=subprocess.DEVNULL, timeout=seconds)
     except subprocess.TimeoutExpired:
-        return 1, f"no end in {SECONDS} seconds"
+        return 1, f"no end in {seconds} seconds"
     return ended.returncode, ended.stdout + ended.stderr
+
+
+def skipped(output):
+    """Why no test of a run could be tried on this machine; empty where one was."""
+    reason = re.search(r"^SKIPPED \[\d+\] (.*)$", output, re.M)
+    return reason[1] if reason and not re.search(r"^\d+ (passed|failed)", output, re.M) else ""
 
 
 def other_program(made, edit, program):
@@ -173,7 +186,7 @@ def judged(top, edit, program, library):
         if edit.call:
             library = other_library(made, edit, library)
         for test in edit.by:
-            status, output = run(top, [test], program, library)
+            status, output = run(top, [test], program, library, edit.seconds)
             if status != 1 or " failed" not in output and "no end" not in output:
                 return f"{test} ends with {status}: {output.strip()[-300:]}"
     finally:
@@ -202,9 +215,9 @@ def main():
                 continue
             began = time.monotonic()
             status, output = run(top, edit.by, options.program.resolve(),
-                                 options.library.resolve())
-            why = f"fails without it: {output.strip()[-300:]}" if status else judged(
-                top, edit, options.program.resolve(), options.library.resolve())
+                                 options.library.resolve(), edit.seconds)
+            why = f"fails without it: {output.strip()[-300:]}" if status else skipped(
+                output) or judged(top, edit, options.program.resolve(), options.library.resolve())
             refused += not why
             seconds = time.monotonic() - began
             print(f"{'NOT REFUSED' if why else 'refused'} in {seconds:.1f} s: {edit.promise}"

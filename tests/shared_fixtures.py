@@ -25,7 +25,8 @@ def pytest_addoption(parser):
     group.addoption("--fuzz-seconds", metavar="N", type=int, default=10,
                     help="seconds that each fuzzer of the C library runs (default 10)")
     group.addoption("--fuzz-runs", metavar="N", type=int, default=0,
-                    help="inputs that each fuzzer tries, in the place of seconds")
+                    help="inputs that each fuzzer tries, in the place of seconds, and the most"
+                    " random cases of a test of the package")
     group.addoption("--write", action="store_true",
                     help="put the program's answers into the pages of docs/, to be read by hand")
 
@@ -52,7 +53,11 @@ def pytest_configure(config):
 
 
 def pytest_collection_modifyitems(config, items):
-    """Leaves out what a checked build cannot show."""
+    """Leaves out what a checked build cannot show. Of workers side by side each has one file after
+    another: those with most text come first, so that none of them goes on alone at the end."""
+    if hasattr(config, "workerinput"):
+        sizes = {path: path.stat().st_size for path in {item.path for item in items}}
+        items.sort(key=lambda item: -sizes[item.path])
     if not config.getoption("checked"):
         return
     lines = (support.ROOT / "tests/checked/left_out.txt").read_text().splitlines()

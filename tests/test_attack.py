@@ -150,6 +150,8 @@ def table_in_c(folder):
 @pytest.fixture(scope="module", name="every")
 def every_call(built, library, tmp_path_factory):
     """A program for each way of attacking each call, and the number of calls."""
+    if not shutil.which("gcc"):
+        pytest.skip("no gcc")
     folder = tmp_path_factory.mktemp("every")
     sys.path.insert(0, str(ROOT / "python"))
     count = table_in_c(folder)

@@ -185,7 +185,7 @@ def test_headline_is_quoted():
 
 
 def test_public_constants_are_stated(monkeypatch):
-    """A law of its crate or of one above states each number that a crate exports or defines by.
+    """A law of its crate or of one above states each number that one of these exports or defines by.
 
     The definitions read these numbers from the code, so they cannot tell a wrong one.
     """
@@ -199,8 +199,10 @@ def test_public_constants_are_stated(monkeypatch):
             for name, texts in sources.items()}
     for name, texts in sources.items():
         own = set(re.findall(r"^pub const ([A-Z]\w+): u", "\n".join(texts), re.M))
-        above = set.union(*(laws[each] for each in crates() if name in with_all_below(each)))
-        same(sorted((own & constants_of(name)) - above), [], f"constants of {name} without a law")
+        higher = [each for each in crates() if name in with_all_below(each)]
+        above, cited = (set.union(*(of(each) for each in higher))
+                        for of in (laws.__getitem__, constants_of))
+        same(sorted((own & cited) - above), [], f"constants of {name} without a law")
 
 
 def constants_of(name):

@@ -17,7 +17,7 @@ from support import same
 from test_library import REFUSED, number_of, raw_columns, rows_of, with_lengths
 from test_library_questions import GREATEST_DEMAND, HOST, changed, host_words, is_under, model_of
 
-SEED, TREES, GUARANTEED_TREES = 20261129, 1000, 300
+SEED, TREES, GUARANTEED_TREES = 20261129, 3000, 1800
 # The weights that the model tries, and the fewest trees of each kind.
 TRIED, LEAST_OF_EACH = (1, 2, 3, 5), 8
 # Of 20 slices `web` (1) gets 10, and the groups of `pod` (2) 5 each.
@@ -69,9 +69,12 @@ def test_worked(module, goals, may, answer):
 
 
 @pytest.mark.parametrize("rows, goals, may, guaranteed, answer", [
-    # No weight is above 10000, so the other one is lowered. The fourteenth slice costs 27 / 3, and
-    # the seventh 13 / 1; with 2 the first costs more than that.
-    (HEAVY, [0, 14, 0], [False, True, True], False, [100, 3, 1]),
+    # No weight is above 10000, so the other one is lowered. The fourteenth slice of row 1 costs
+    # 27 / 10000, and the seventh of row 2 no less where its weight is 4814 at most.
+    (HEAVY, [0, 14, 0], [False, True, True], False, [100, 10000, 4814]),
+    # Both have a goal. The fourteenth slice of row 1 costs 27 / 5, and the seventh of row 2 13 / 2.
+    # The sixth costs 11 / 2, and the fifteenth of row 1 29 / 5.
+    (HEAVY, [0, 14, 6], [False, True, True], False, [100, 5, 2]),
     (HEAVY, [0, 14, 0], [False, True, False], False, 0),
     # All 20 are row 3's. If the others ask for all, row 2 has 10: the eighth slice of row 3 costs
     # 15 / 300, and so does the third of row 4, which stands behind it.
@@ -86,6 +89,9 @@ def test_worked(module, goals, may, answer):
     # The root is guaranteed all that is served.
     (IDLE, [20, 0, 0, 0, 0], ALL, True, [100] * 5),
     (EVEN, [0, 12, 0, 9, 0], ALL, True, 0),
+    # Rows 2 and 3 can be given 40 and 20. The lower one is named.
+    (EVEN, [0, 0, 50, 21, 0], ALL, False, 3),
+    (EVEN, [0, 0, 50, 21, 0], ALL, True, 3),
 ])
 def test_measures(module, rows, goals, may, guaranteed, answer):
     """Goals by the plan, and by the guarantee."""
@@ -195,11 +201,32 @@ def tiny(chance: random.Random) -> List[Row]:
     return rows
 
 
+def fits(rows: Sequence[Row], goals: Sequence[int], row: int) -> bool:
+    """Whether a goal is within its row's limit and, of a leaf, within its demand."""
+    limit, has_children = rows[row].limit, row in {each.parent for each in rows}
+    return (limit is None or goals[row] <= limit) and (has_children
+                                                        or goals[row] <= rows[row].demand)
+
+
+def own_of(rows: Sequence[Row], goals: Sequence[int], may: Sequence[bool]) -> List[bool]:
+    """Whether the weight of each row may change and a goal is at the row or below it."""
+    return [each and any(goal and is_under(rows, row, below) for below, goal in enumerate(goals))
+            for row, each in enumerate(may)]
+
+
+def at_level(rows: Sequence[Row], may: Sequence[bool], own: Sequence[bool],
+             level: int) -> List[Row]:
+    """The rows, of which those that may change and are not the goals' have the level at most."""
+    return with_weights(rows, [min(row.weight, level) if each and not mine else row.weight
+                               for row, each, mine in zip(rows, may, own)])
+
+
 @pytest.mark.parametrize("guaranteed", [False, True], ids=["by the plan", "by the guarantee"])
 def test_tiny_trees(module, guaranteed):
-    """No choice meets the goals with less at a row, agreeing above it, nor where none is found."""
+    """No choice meets the goals with less at a row of theirs, agreeing above it, nor where none is
+    found. Others are lowered to a level, and no choice meets the goals at a higher one."""
     chance = random.Random(SEED)
-    seen = {"as they stand": 0, "raised": 0, "lowered": 0, "unmet": 0}
+    seen = {"as they stand": 0, "raised": 0, "lowered": 0, "others lowered": 0, "unmet": 0}
     host = arbiter.Host(1, 100000, 10000)
     for tree in range(GUARANTEED_TREES if guaranteed else TREES):
         rows = tiny(chance)
@@ -208,25 +235,37 @@ def test_tiny_trees(module, guaranteed):
         if guaranteed:
             amounts = [kept(host, rows, row) for row in range(len(rows))]
         goals = [0, *(max(0, amount + chance.choice((-9, -9, -1, 0, 1, 2))) for amount in amounts[1:])]
+        own = own_of(rows, goals, may)
         found = module.tune(host, rows, goals, may, guaranteed)
-        told = f"tree {tree}, goals {goals}, may {may}"
+        told = f"tree {tree}, goals {goals}, may {may}: {found}"
         if not isinstance(found, list):
             for weights in choices(rows, may, False):
                 assert not is_met(host, with_weights(rows, weights), goals, found, guaranteed), told
+            assert all(fits(rows, goals, row) for row in range(len(rows))
+                       if row != found and is_under(rows, found, row)), told
             seen["unmet"] += 1
             continue
         assert is_met(host, with_weights(rows, found), goals, guaranteed=guaranteed), told
-        assert all(weight == row.weight for weight, row, each in zip(found, rows, may) if not each)
-        raised = all(weight >= row.weight for weight, row in zip(found, rows))
+        lower = [weight for weight, row, each, mine in zip(found, rows, may, own)
+                 if each and not mine and weight < row.weight]
+        level = max(lower, default=max(TRIED))
+        low = at_level(rows, may, own, level)
+        assert all(weight == row.weight for weight, row, mine in zip(found, low, own) if not mine)
+        for higher in range(level + 1, max(TRIED) + 1):
+            high = at_level(rows, may, own, higher)
+            assert not any(is_met(host, with_weights(high, weights), goals, guaranteed=guaranteed)
+                           for weights in choices(high, own, False)), told
+        raised = all(weight >= row.weight for weight, row in zip(found, low))
         if not raised:
-            assert not any(is_met(host, with_weights(rows, weights), goals, guaranteed=guaranteed)
-                           for weights in choices(rows, may, True)), told
-        for weights in choices(rows, may, raised):
-            if is_met(host, with_weights(rows, weights), goals, guaranteed=guaranteed):
+            assert not any(is_met(host, with_weights(low, weights), goals, guaranteed=guaranteed)
+                           for weights in choices(low, own, True)), told
+        for weights in choices(low, own, raised):
+            if is_met(host, with_weights(low, weights), goals, guaranteed=guaranteed):
                 for row in range(1, len(rows)):
                     if agrees_above(rows, found, weights, row):
-                        assert found[row] <= weights[row], f"{told}: {found}, {weights}"
+                        assert found[row] <= weights[row], f"{told}, {weights}"
         changes = any(weight != row.weight for weight, row in zip(found, rows))
-        seen["lowered" if not raised else "raised" if changes else "as they stand"] += 1
+        seen["others lowered" if lower else "lowered" if not raised
+             else "raised" if changes else "as they stand"] += 1
     print(seen)
     assert min(seen.values()) >= LEAST_OF_EACH, seen

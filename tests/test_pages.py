@@ -308,22 +308,27 @@ CALLS_OF_THE_LOCK = {
 # What may stand in the sources of lent seats, with each function that has it, once.
 CALLS_OF_LENT_SEATS = {
     r"\.park\w*\(": [("sleeping.rt", "sleep")],
-    r"\.wake_\w+\(": [("waking.rt", "rouse")],
+    r"\.wake_\w+\(": [("visits.rt", "rouse_first"), ("visits.rt", "rouse")],
     r"\bspin_loop\(": [("lending.rt", "is_served_soon")],
     r"\byield_now\(": [],
     r"\bCount::none\(": [("sleeping.rt", "of")],
     # the loads that are no steps of a table
-    r"\.peek\(": [("errands.rt", "hint"), ("sleeping.rt", "read")],
+    r"\.peek\(": [("helping.rt", "help_one"), ("helping.rt", "return_one"),
+                    ("sleeping.rt", "read"), ("visits.rt", "peek")],
     r"\.look\(": [("lending.rt", "is_served_soon"), ("sleeping.rt", "look")],
-    # each call that is made has its errand
-    r"\.finish\w*\(": [("errands.rt", "finish_owing"), ("seat.rt", "call")],
-    r"\.hint\(": [("errands.rt", "seek")],
-    r"\bTableHints::of\(": [("helping.rt", "help_one")],
-    # a wake is owed for each place that is given back, and the words of the table get it
-    r"\bOwed::to\(": [("steps.rt", "give_back")],
-    r"\.rouse\(": [("waking.rt", "wake_first"), ("waking.rt", "wake_all")],
-    r"\bTableBells::of\(": [("helping.rt", "help_one"), ("helping.rt", "help")],
-    r"\bTableWord::of\(": [("lending.rt", "wait_for_place")],
+    # each call that is made has its visit
+    r"\.finish\w*\(": [("helping.rt", "make"), ("helping.rt", "leave_with"), ("seat.rt", "call")],
+    r"\bTableVisit::of\(": [("lending.rt", "finish_and_help")],
+    # a claim and a place that is given back are noted
+    r"::<Claim>": [("steps.rt", "claim")],
+    r"::<GiveBack>": [("steps.rt", "give_back")],
+    r"\bTried \{ place": [("steps.rt", "claim")],
+    r"\n +Given \{": [("steps.rt", "give_back")],
+    r"\.rouse\w*\(": [("visits.rt", "wake_first"), ("visits.rt", "wake_all")],
+    # an owner has one word for its whole wait, and forgets what it read only where that was lost
+    r"\bTableWord::of\(": [("lending.rt", "finish_lent")],
+    r"\bLost \{ state": [("steps.rt", "take_back")],
+    r"::<TakeBack>": [("steps.rt", "take_back")],
 }
 
 # The loops in the lock's sources. The number of turns of each is in its function's contract, but
@@ -441,9 +446,9 @@ def test_calls_of_lent_seats():
 
 
 @pytest.mark.parametrize("call", ["table.park(rt, 2, 1)", "table.wake_all(2)", "yield_now()",
-                                  "table.peek(2)", "lock.look()", "Owed::to(place)",
-                                  "bells.rouse(place)", "TableBells::of(table)",
-                                  "seat.finish(rt, lock)", "hints.hint(ticket)"])
+                                  "table.peek(2)", "lock.look()", "visit.rouse(place)",
+                                  "TableVisit::of(table, ticket)", "seat.finish(rt, lock)",
+                                  "table.store::<GiveBack>(token, place, state)"])
 def test_another_call_of_lent_seats_is_found(call):
     """One call more in any file is found."""
     sources = code_of("bw_lend")
@@ -580,7 +585,7 @@ ROWS = {
                       "| `Host.Shape` | the value of a host |",
                       "| `History.replay` | the machine after all calls of the history, played by "
                       "one thread |"),
-    "--clauses": ("| `steps.rt:claim` | table claimed | Takes the place if the seat of this ticket is "
+    "--clauses": ("| `steps.rt:claim` | table tried claimed | Takes the place if the seat of this ticket is "
                   "lent there. |",
                   "| `gate.rt:uses` |  | Whether a leaf uses its slices. The planner does not know "
                   "it. |",

@@ -48,7 +48,21 @@ def copy_of_the_clone(tmp_path_factory):
 
 @pytest.mark.parametrize("edit", [each for each in EDITS if not each.is_slow], ids=named)
 def test_edit_is_refused(copy, edit, program, library):
-    """The test fails with the edit. Without it `./test` runs the test itself."""
+    """The test fails with the edit. Without it `./test` runs the test itself, or skips it."""
     if edit.call and not (shutil.which("gcc") and shutil.which("objcopy")):
         pytest.skip("no gcc, or no objcopy of binutils")
-    same(promises.judged(copy, edit, promises.Path(program.path), library), "", edit.promise)
+    path = promises.Path(program.path)
+    why = promises.judged(copy, edit, path, library)
+    lacks = why and promises.skipped(promises.run(copy, edit.by, path, library)[1])
+    if lacks:
+        pytest.skip(lacks)
+    same(why, "", edit.promise)
+
+
+def test_a_test_that_is_skipped_tells_nothing(copy, program, library, monkeypatch):
+    """Its reason is told, as where strace is missing. There is none where a test of a run ran."""
+    monkeypatch.setenv("PATH", "")
+    status, output = promises.run(copy, ["test_security.py::test_what_the_program_opens"],
+                                  program.path, library)
+    assert status == 0 and promises.skipped(output).endswith(": no strace"), output
+    same(promises.skipped(re.sub(r"\d+ skipped", "1 passed, 1 skipped", output)), "", "one ran")

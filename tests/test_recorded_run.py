@@ -1,9 +1,9 @@
 """The lock's code beside its models: recorded periods are replayed as events of `Crowd.antt` and
 turns of `Turns.antt`.
 
-The code makes its accesses by inspection, so here each access of runs of 4 and of 16 threads is
-looked at. lock/record.c gives the threads their turns in an order that a seed picks. lock/replay.py
-says what it refuses.
+A seat that is not lent makes its accesses by inspection. So each access of runs of 4 and of 16
+threads is looked at here. lock/record.c gives the threads their turns in an order that a seed
+picks. lock/replay.py says what it refuses.
 """
 import collections
 import functools
@@ -89,9 +89,8 @@ def test_recorded_run(made, threads, slices, order, record_property):
 
 
 def test_all_states_of_two_seats():
-    """The most rounds that raise what is served, in the model and of the accesses of the code. No
-    state of the code has a hint that is passed over."""
-    same(explore.most_rounds(2, explore.model_steps), (1095, 12))
+    """The most rounds that raise what is served, in the model and of the accesses of the code."""
+    same(explore.most_rounds(2, explore.model_steps), (1119, 12))
     same(explore.most_rounds(2, explore.code_steps), (803, 14))
 
 

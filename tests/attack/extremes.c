@@ -10,6 +10,8 @@
 #include <sys/mman.h>
 
 #define NONE ARBITER_NO_LIMIT
+/* The greatest sum that arbiter_lost takes. */
+#define SUM ((uint64_t)1 << 60)
 #define MOST 16385
 #define FLAT 0
 #define CHAIN 1
@@ -392,6 +394,38 @@ static void numbers(void)
             number = arbiter_weight_of_shares(ends[other], (uint32_t)ends[each]);
             demand(ends[each] == 1 || ends[each] == 2 ? number >= 1 && number <= 10000 : (uint32_t)ends[each] == 1 || (uint32_t)ends[each] == 2 || number == 0, __LINE__);
         }
+    for (uint32_t formula = 0; formula < 8; formula++)
+        for (size_t each = 0; each < many; each++)
+            for (size_t other = 0; other < many; other++) {
+                uint64_t weight = 7, least = 7, quota = 7, period = 7;
+                uint32_t known = formula >= 1 && formula <= 6 ? 0 : 11;
+                IS(known, arbiter_owned_weight(formula, ends[each], &weight));
+                demand(known ? weight == 7 : weight >= 1 && weight <= 10000, __LINE__);
+                uint32_t answer = known ? 11 : ends[each] < 1 || ends[each] > 10000 ? 12 : 0;
+                IS(answer, arbiter_least_owned(formula, ends[each], &least));
+                demand(answer ? least == 7 : least <= 262144, __LINE__);
+                known = formula >= 1 && formula <= 4 ? 0 : 11;
+                IS(known, arbiter_owned_limit(formula, ends[each], ends[other], &quota, &period));
+                demand(known ? quota == 7 && period == 7 : quota >= 1000 && period >= 1000 && period <= 1000000, __LINE__);
+                demand(known || quota == NONE || quota <= (uint64_t)1000000000000000, __LINE__);
+                const uint8_t kinds[2] = {(uint8_t)ends[each], (uint8_t)formula};
+                const uint64_t amounts[2] = {ends[each], ends[other]};
+                IS(50, arbiter_pod_amount(kinds, 1, amounts, 2, &weight));
+                IS(0, arbiter_pod_amount(kinds, 2, amounts, 2, &weight));
+                demand(weight >= ends[each] && weight >= ends[other], __LINE__);
+                known = formula >= 1 && formula <= 6 ? 0 : 11;
+                uint64_t written = 7, greatest = 7, allowed = 7, lost = 7;
+                IS(known, arbiter_owned_number(formula, ends[each], &written));
+                demand(known ? written == 7 : written <= 262144 || written == ends[each], __LINE__);
+                IS(50, arbiter_greatest_part(kinds, 2, amounts, 2, 2, weight, &greatest));
+                IS(0, arbiter_greatest_part(kinds, 2, amounts, 2, 1, weight, &greatest));
+                demand(weight == NONE || greatest >= ends[other], __LINE__);
+                IS(ends[each] ? 0 : 15, arbiter_allowed(ends[other], ends[each], weight, ends[other], &allowed));
+                demand(ends[each] ? allowed >= weight : allowed == 7, __LINE__);
+                uint32_t great = (ends[each] > SUM || ends[other] > SUM) ? 9 : 0;
+                IS(great, arbiter_lost(ends[each], ends[other], ends[other], ends[each], &lost));
+                demand(great ? lost == 7 : lost <= ends[each], __LINE__);
+            }
     for (uint64_t number = 0; number < 5000; number++)
         for (size_t room = 0; room <= ARBITER_NAME_ROOM; room++) {
             char *name = guard_block(room, 0);

@@ -666,6 +666,113 @@ uint64_t arbiter_weight_of_shares(uint64_t shares, uint32_t conversion)
     return answer;
 }
 
+uint32_t arbiter_owned_weight(uint32_t formula, uint64_t number, uint64_t *weight)
+{
+    begin("owned_weight");
+    put(' ', formula);
+    put(' ', number);
+    put(' ', *weight);
+    uint32_t answer = (uint32_t)sent_line();
+    *weight = (uint64_t)get();
+    pthread_mutex_unlock(&lock);
+    return answer;
+}
+
+uint32_t arbiter_owned_limit(uint32_t formula, uint64_t number, uint64_t own_period_us, uint64_t *quota, uint64_t *period)
+{
+    begin("owned_limit");
+    put(' ', formula);
+    put(' ', number);
+    put(' ', own_period_us);
+    put(' ', *quota);
+    put(' ', *period);
+    uint32_t answer = (uint32_t)sent_line();
+    *quota = (uint64_t)get();
+    *period = (uint64_t)get();
+    pthread_mutex_unlock(&lock);
+    return answer;
+}
+
+uint32_t arbiter_least_owned(uint32_t formula, uint64_t weight, uint64_t *least)
+{
+    begin("least_owned");
+    put(' ', formula);
+    put(' ', weight);
+    put(' ', *least);
+    uint32_t answer = (uint32_t)sent_line();
+    *least = (uint64_t)get();
+    pthread_mutex_unlock(&lock);
+    return answer;
+}
+
+uint32_t arbiter_owned_number(uint32_t formula, uint64_t request, uint64_t *number)
+{
+    begin("owned_number");
+    put(' ', formula);
+    put(' ', request);
+    put(' ', *number);
+    uint32_t answer = (uint32_t)sent_line();
+    *number = (uint64_t)get();
+    pthread_mutex_unlock(&lock);
+    return answer;
+}
+
+uint32_t arbiter_pod_amount(const uint8_t *kinds, size_t kinds_length, const uint64_t *amounts, size_t amounts_length,
+                            uint64_t *amount)
+{
+    begin("pod_amount");
+    COLUMN(kinds, kinds_length);
+    COLUMN(amounts, amounts_length);
+    put(' ', *amount);
+    uint32_t answer = (uint32_t)sent_line();
+    *amount = (uint64_t)get();
+    pthread_mutex_unlock(&lock);
+    return answer;
+}
+
+uint32_t arbiter_greatest_part(const uint8_t *kinds, size_t kinds_length, const uint64_t *amounts, size_t amounts_length,
+                               uint32_t part, uint64_t room, uint64_t *greatest)
+{
+    begin("greatest_part");
+    COLUMN(kinds, kinds_length);
+    COLUMN(amounts, amounts_length);
+    put(' ', part);
+    put(' ', room);
+    put(' ', *greatest);
+    uint32_t answer = (uint32_t)sent_line();
+    *greatest = (uint64_t)get();
+    pthread_mutex_unlock(&lock);
+    return answer;
+}
+
+uint32_t arbiter_allowed(uint64_t quota_us, uint64_t own_period_us, uint64_t burst_us, uint64_t passed_ns, uint64_t *allowed)
+{
+    begin("allowed");
+    put(' ', quota_us);
+    put(' ', own_period_us);
+    put(' ', burst_us);
+    put(' ', passed_ns);
+    put(' ', *allowed);
+    uint32_t answer = (uint32_t)sent_line();
+    *allowed = (uint64_t)get();
+    pthread_mutex_unlock(&lock);
+    return answer;
+}
+
+uint32_t arbiter_lost(uint64_t free_used, uint64_t free_planned, uint64_t held_used, uint64_t held_planned, uint64_t *lost)
+{
+    begin("lost");
+    put(' ', free_used);
+    put(' ', free_planned);
+    put(' ', held_used);
+    put(' ', held_planned);
+    put(' ', *lost);
+    uint32_t answer = (uint32_t)sent_line();
+    *lost = (uint64_t)get();
+    pthread_mutex_unlock(&lock);
+    return answer;
+}
+
 uint32_t arbiter_version(char *version, size_t version_length)
 {
     begin("version");

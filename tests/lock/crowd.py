@@ -71,13 +71,20 @@ class Giving:
 
 
 @dataclasses.dataclass(frozen=True)
+class GivingLast:
+    """It has left for this seat, and found no later ticket drawn."""
+
+    seat: int
+
+
+@dataclasses.dataclass(frozen=True)
 class Returning:
     """It has claimed this seat, and gives it back without its call made."""
 
     seat: int
 
 
-Errand = Union[Peeking, Claiming, EnteringFor, Helping, Giving, Returning]
+Errand = Union[Peeking, Claiming, EnteringFor, Helping, Giving, GivingLast, Returning]
 
 
 class Has(NamedTuple):
@@ -277,6 +284,17 @@ def glance(s: Crowd, i: int) -> Optional[Crowd]:
     return None
 
 
+def look_behind(s: Crowd, i: int) -> Optional[Crowd]:
+    """The seat looks whether the ticket that it works on next was drawn: `look_behind_by`."""
+    match s.phase[i]:
+        case Leaves(x, js, Peeking(k)) if k > 0:
+            return moved(s, i, Leaves(x, js, Peeking(k - 1)) if x < s.next else Wakes(js))
+        case Leaves(x, js, Giving(j, k)) if k > 0:
+            is_drawn = x + 1 < s.next
+            return moved(s, i, Leaves(x, js, Giving(j, k - 1) if is_drawn else GivingLast(j)))
+    return None
+
+
 def peek(s: Crowd, i: int) -> Optional[Crowd]:
     """The seat looks for the hint of the ticket that it works on: `peek_by`, `hinted`."""
     match s.phase[i]:
@@ -302,6 +320,8 @@ def give(s: Crowd, i: int, ks: tuple[int, ...]) -> Optional[Crowd]:
     match s.phase[i]:
         case Leaves(x, js, Giving(j, _)) if {j, *js} <= set(ks):
             return placed(s, i, Leaves(x + 1, ks, Peeking(0)), j, Place(Code.DONE, x, i))
+        case Leaves(x, js, GivingLast(j)) if {j, *js} <= set(ks):
+            return placed(s, i, Wakes(ks), j, Place(Code.DONE, x, i))
         case Leaves(x, js, Returning(j)) if set(js) <= set(ks):
             return placed(s, i, Wakes((j, *ks)), j, Place(Code.BACK, x, i))
     return None
@@ -330,7 +350,7 @@ class Event(NamedTuple):
 AFTER: dict[str, Callable[[Crowd, int], Optional[Crowd]]] = {
     "Take": take, "Look": look, "Lend": lend, "StoreHint": store_hint, "Read": read,
     "Retract": retract, "Park": park, "SpuriousWake": spurious_wake, "Fetch": fetch, "Leave": leave,
-    "Glance": glance, "Peek": peek, "Wake": wake,
+    "Glance": glance, "LookBehind": look_behind, "Peek": peek, "Wake": wake,
     "ClaimToHelp": lambda s, i: claim(s, i, EnteringFor),
     "ClaimToReturn": lambda s, i: claim(s, i, Returning),
 }

@@ -1,8 +1,7 @@
 """All states that a few seats reach, and the most rounds in which the served ticket is raised.
 
 Explored are the model `Crowd`, in which a move is an event, and the code, in which it is an access.
-The code makes the model's events and two loads more for a ticket. A seat that sees no ticket drawn
-behind it makes no `Peek`.
+The code makes the model's events and two loads more for a ticket.
 
 usage: PYTHONPATH=tests python3 -m lock.explore [SEATS]
 """
@@ -16,8 +15,8 @@ from collections.abc import Callable, Iterator
 from typing import NamedTuple, Optional
 
 from lock import crowd
-from lock.crowd import OWN_LOADS, Crowd, EnteringFor, Event, Giving, Has, Helping, Hint
-from lock.crowd import Leaves, Peeking, Phase, Stage, Wakes
+from lock.crowd import OWN_LOADS, Crowd, EnteringFor, Event, Giving, GivingLast, Has, Helping
+from lock.crowd import Hint, Leaves, Peeking, Phase, Stage, Wakes
 
 # More rounds than any law has: the ticket that is served is never raised.
 NEVER = 100
@@ -41,7 +40,7 @@ def gives(phase: Phase) -> Iterator[tuple[int, ...]]:
     """The orders in which a seat may wake those that it will owe wakes."""
     if isinstance(phase, Leaves):
         owed = set(phase.owed)
-        if isinstance(phase.errand, Giving):
+        if isinstance(phase.errand, (Giving, GivingLast)):
             owed.add(phase.errand.seat)
         yield from itertools.permutations(sorted(owed))
 
@@ -69,13 +68,6 @@ def model_steps(state: State, i: int) -> Iterator[State]:
         yield State(after(state.crowd, event), state.marks)
 
 
-def ended(s: Crowd, i: int, *made: Event) -> Crowd:
-    """The state after events of which the last is a `Peek` that no access stands for."""
-    found = after(s, *made)
-    assert isinstance(found.phase[i], Wakes), "a hint is passed over"
-    return found
-
-
 def mark_of(old: Phase, new: Phase) -> int:
     """Whether a seat that has moved so has a load before its next event, or has looked once."""
     match new:
@@ -87,8 +79,7 @@ def mark_of(old: Phase, new: Phase) -> int:
 
 
 def code_steps(state: State, i: int) -> Iterator[State]:
-    """The accesses of the code. A mark is of a load that is due, a look that was made in vain, or a
-    ticket behind that was not drawn."""
+    """The accesses of the code. A mark is of a load that is due, or a look that was made in vain."""
     s, mark = state
     phase = s.phase[i]
 
@@ -100,17 +91,10 @@ def code_steps(state: State, i: int) -> Iterator[State]:
         case (Has(_, (Stage.ENTERING | Stage.INSIDE))
               | Leaves(_, _, (EnteringFor() | Helping()))) if mark[i]:
             yield marked(s, 0)
-        case Leaves(x, _, Peeking(k)) if k == OWN_LOADS and s.next <= x:
-            yield marked(ended(s, i, Event("Peek", i)))
-        case Leaves(_, _, Peeking(k)):
-            yield marked(after(s, Event("Glance" if k else "Peek", i)))
-        case Leaves(x, _, Giving(_, k)) if k and not mark[i]:
-            is_last = k == OWN_LOADS and s.next <= x + 1
-            yield marked(after(s, Event("Glance", i)), int(is_last))
-        case Leaves(_, _, Giving()):
-            for ks in gives(phase):
-                give = Event("Give", i, ks)
-                yield marked(ended(s, i, give, Event("Peek", i)) if mark[i] else after(s, give))
+        case Leaves(_, _, (Peeking(k) | Giving(_, k))) if k == OWN_LOADS:
+            yield marked(after(s, Event("LookBehind", i)))
+        case Leaves(_, _, (Peeking(k) | Giving(_, k))) if k:
+            yield marked(after(s, Event("Glance", i)))
         case _:
             for event in events(s, i):
                 # a seat looks before it lends itself

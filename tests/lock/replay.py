@@ -4,8 +4,7 @@ An access is refused if its seat can make no such event where it is. So it is if
 another value than in the model, before or after it.
 
 Two loads of the served ticket stand for no event: one before a seat enters, and one before it
-leaves. A seat that sees no ticket drawn behind it looks for no hint. There the event `Peek` is
-replayed without an access, and has to find no hint.
+leaves.
 """
 from __future__ import annotations
 
@@ -14,8 +13,8 @@ from collections.abc import Iterable
 from typing import NamedTuple, Optional
 
 from lock import crowd, turns
-from lock.crowd import Claiming, Code, Crowd, EnteringFor, Errand, Event, Giving, Has, Helping
-from lock.crowd import Leaves, Peeking, Phase, Place, Returning, Stage, Wakes
+from lock.crowd import Claiming, Code, Crowd, EnteringFor, Errand, Event, Giving, GivingLast, Has
+from lock.crowd import Helping, Leaves, Peeking, Phase, Place, Returning, Stage, Wakes
 from lock.turns import FIRST_WAKE_WORD, NEXT, SERVING, Turn
 
 PLACES = 64
@@ -141,9 +140,9 @@ class Replay:
             raise Refused(f"{len(self.seats)} threads, {seats} seats")
         self.chosen = chosen(run, self.seats)
         self.crowd, self.hall = crowd.start(seats, PLACES), turns.opened(seats, calls)
-        # of each seat: loads that stand for none since it could enter or was inside, whether the
-        # seat that it has left for has no ticket behind it, and the state that it read last
-        self.loads, self.is_last, self.read = [0] * seats, [False] * seats, [0] * seats
+        # of each seat: loads that stand for none since it could enter or was inside, and the state
+        # that it read last
+        self.loads, self.read = [0] * seats, [0] * seats
         self.steps: list[Step] = []
 
     def word(self, access: Access) -> int:
@@ -189,10 +188,10 @@ class Replay:
             self.hall = hall
         if access.after != self.word(access):
             raise Refused(f"the word has {self.word(access)} after it")
-        self.agrees(i, access, [event.name for event in events])
+        self.agrees(i, access)
 
-    def agrees(self, i: int, access: Access, names: list[str]) -> None:
-        """Asks that the outcome of a sleep, a wake or a `Peek` that is made up is the model's."""
+    def agrees(self, i: int, access: Access) -> None:
+        """Asks that the outcome of a sleep or a wake is the model's."""
         phase, before = self.crowd.phase[i], self.steps[-1].crowd
         if access.kind == "sleep" and bool(access.result) != crowd.is_still(phase):
             raise Refused(f"it slept: {access.result}")
@@ -200,9 +199,6 @@ class Replay:
             slept = before.phase[access.word] != self.crowd.phase[access.word]
             if access.word != i and access.result != slept:
                 raise Refused(f"it woke {access.result}")
-        is_made_up = "Peek" in names and (access.block, access.kind) != (self.run.places, "load")
-        if is_made_up and not isinstance(phase, Wakes):
-            raise Refused("a hint is passed over")
 
     def meant(self, at: int, i: int, access: Access) -> tuple[list[Event], Optional[Turn]]:
         """The events and the turn that an access of a seat stands for, where the seat is."""
@@ -217,11 +213,8 @@ class Replay:
                 return [Event("Leave", i)], Turn("Serves", self.inside(i, phase))
             case "lock", "load", _ if access.word == SERVING:
                 return self.look(i, phase)
-            case "lock", "load", Leaves(x, _, errand) if access.word == NEXT:
-                is_drawn = access.before > (x if isinstance(errand, Peeking) else x + 1)
-                self.is_last[i] = not is_drawn
-                is_over = isinstance(errand, Peeking) and not is_drawn
-                return [Event("Peek" if is_over else "Glance", i)], left("PeeksNext", i, errand)
+            case "lock", "load", Leaves(_, _, errand) if access.word == NEXT:
+                return [Event("LookBehind", i)], left("PeeksNext", i, errand)
             case "lock", "load", Leaves(_, _, errand) if access.word >= FIRST_WAKE_WORD:
                 return [Event("Glance", i)], left("PeeksWord", i, errand)
             case "hints", "load", Leaves(x, _, Peeking()) if self.is_hint(access, x):
@@ -277,10 +270,7 @@ class Replay:
             case "cas", Leaves(x, _, Claiming(j)) if access.word == j:
                 if access.given == in_word(Place(Code.POSTED, x)):
                     return [Event("ClaimToReturn" if self.chosen[at][0] else "ClaimToHelp", i)]
-            case "swap", Leaves(_, _, Giving(j)) if access.word == j:
-                gives = Event("Give", i, self.chosen[at][1])
-                return [gives, Event("Peek", i)] if self.is_last[i] else [gives]
-            case "swap", Leaves(_, _, Returning(j)) if access.word == j:
+            case "swap", Leaves(_, _, (Giving(j) | GivingLast(j) | Returning(j))) if access.word == j:
                 return [Event("Give", i, self.chosen[at][1])]
             case "wake", Wakes((j, *_)) if access.word == j:
                 return [Event("Wake", i)]

@@ -1,0 +1,99 @@
+"""A model of what numbers that owners set make: weights, limits, and amounts of pods. And of what
+limits allow, and when they do harm.
+
+It goes by fractions, by real numbers and by time, and shares no code with the library.
+"""
+import math
+from fractions import Fraction
+
+from arbiter import LimitFormula, WeightFormula
+
+
+def bounded(low, number, high):
+    return sorted((low, number, high))[1]
+
+
+def on_line(shares):
+    """From 2 shares and weight 1 to 262144 shares and weight 10000."""
+    return math.floor(1 + Fraction(9999, 262142) * (bounded(2, shares, 262144) - 2))
+
+
+def on_curve(shares):
+    """Through 2 shares and weight 1, 1024 and 100, 262144 and 10000."""
+    shares = bounded(2, shares, 262144)
+    if shares in (2, 1024, 262144):
+        return {2: 1, 1024: 100, 262144: 10000}[shares]
+    log = math.log2(shares)
+    return math.ceil(10 ** ((log * log + 125 * log) / 612 - 7 / 34))
+
+
+def shares_of(request):
+    return bounded(2, math.floor(Fraction(1024, 1000) * request), 262144)
+
+
+# The weight of a number by each formula.
+WEIGHTS = {
+    WeightFormula.SHARES_LINEAR: on_line,
+    WeightFormula.SHARES_LOGARITHMIC: on_curve,
+    WeightFormula.REQUEST_LINEAR: lambda number: on_line(shares_of(number)),
+    WeightFormula.REQUEST_LOGARITHMIC: lambda number: on_curve(shares_of(number)),
+    WeightFormula.UNIT_SHARES: lambda number: bounded(1, math.floor(number * Fraction(100, 1024)),
+                                                      10000),
+    WeightFormula.UNIT_WEIGHT: lambda number: bounded(1, number, 10000)}
+
+
+def limit_by(formula, number, period):
+    """The quota and the period of a number."""
+    own = 100000 if period == 0 else bounded(1000, period, 10**6)
+    if formula == LimitFormula.PER_SECOND:
+        needed = 10**6 if number == 0 else math.floor(Fraction(10**9, number))
+        own = bounded(1000, max(own, needed), 10**6)
+        return bounded(1000, math.floor(Fraction(number, 10**6) * own), 10**15), own
+    if formula == LimitFormula.NANO_CPUS:
+        own, number = 100000, math.floor(Fraction(number, 10**9) * 100000)
+    if number == 0:
+        return None, own
+    quota = math.floor(Fraction(number, 1000) * own) if formula == 1 else number
+    return bounded(1000, quota, 10**15), own
+
+
+def pod_amount(kinds, amounts):
+    """The most at any time: at each start of a part, and once all have started."""
+    now, most = 0, 0
+    for kind, amount in zip(kinds, amounts):
+        most = max(most, now + (0 if kind == 0 else amount))
+        now += amount if kind == 2 else 0
+    return max(most, now + sum(each for kind, each in zip(kinds, amounts) if kind not in (1, 2)))
+
+
+def number_for(formula, request):
+    """What is written for a request of so many thousandths of a CPU."""
+    if formula in (WeightFormula.REQUEST_LINEAR, WeightFormula.REQUEST_LOGARITHMIC):
+        return request
+    if formula == WeightFormula.UNIT_WEIGHT:
+        return bounded(1, math.ceil(100 * Fraction(request, 1000)), 10000)
+    return shares_of(request)
+
+
+def greatest_part(kinds, amounts, part, room):
+    """The greatest amount of one part; None where the others alone take more. Beyond all amounts
+    the pod takes as much more as the part does."""
+    def taken(own):
+        return pod_amount(kinds, [*amounts[:part], own, *amounts[part + 1:]])
+
+    far = sum(amounts) + room + 1
+    return None if taken(0) > room else min(room + far - taken(far), 2**64 - 1)
+
+
+def allowed(quota, period, burst, passed):
+    """Nanoseconds that a limit allows: by CPUs."""
+    return min(math.floor(Fraction(quota, period) * passed) + 1000 * burst, 2**64 - 1)
+
+
+def lost(free, held):
+    """The least number of slices more with which no twentieth of the plan is lost."""
+    def part(used, planned):
+        return min(Fraction(used, planned), Fraction(1)) if planned else Fraction(1)
+
+    short = part(*free) - Fraction(1, 20) - part(*held)
+    return math.ceil(short * held[1]) if short > 0 else 0
