@@ -255,6 +255,6 @@ def test_patterns_by_another_way():
 
 def test_no_name_makes_a_pattern_slow():
     """Not even one on which each part of the pattern fits at hundreds of places."""
-    begun = time.monotonic()
+    begun = time.process_time()
     assert not names.pattern("*a*b*c*d").fullmatch("a" * 240 + "b" * 240 + "c" * 240)
-    assert time.monotonic() - begun < 1
+    assert time.process_time() - begun < 1

@@ -530,11 +530,12 @@ def dripping(first, again):
 
 
 def is_told_in_time(url):
-    """Whether a question ends by a fault of one line soon after a deadline of a second."""
+    """Whether a question ends by a fault of one line soon after a deadline of a second, on a busy
+    machine too."""
     began = time.monotonic()
     with pytest.raises(HostFault, match=r"^http.*: no whole answer in 1 seconds$") as fault:
         asked(url)
-    assert 0.9 < time.monotonic() - began < 3 and "\n" not in fault.value.message
+    assert 0.9 < time.monotonic() - began < 15 and "\n" not in fault.value.message
 
 
 @pytest.mark.parametrize("first, again", SLOW.values(), ids=list(SLOW))
