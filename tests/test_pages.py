@@ -309,17 +309,22 @@ CALLS_OF_THE_LOCK = {
 CALLS_OF_LENT_SEATS = {
     r"\.park\w*\(": [("sleeping.rt", "sleep")],
     r"\.wake_\w+\(": [("visits.rt", "rouse_first"), ("visits.rt", "rouse")],
-    r"\bspin_loop\(": [("lending.rt", "is_served_soon")],
+    r"\bspin_loop\(": [("lending.rt", "is_soon")],
     r"\byield_now\(": [],
     r"\bCount::none\(": [("sleeping.rt", "of")],
     # the loads that are no steps of a table
     r"\.peek\(": [("helping.rt", "help_one"), ("helping.rt", "return_one"),
                     ("sleeping.rt", "read"), ("visits.rt", "peek")],
-    r"\.look\(": [("lending.rt", "is_served_soon"), ("sleeping.rt", "look")],
+    r"\.look\(": [("lending.rt", "is_soon"), ("sleeping.rt", "look")],
     # each call that is made has its visit
     r"\.finish\w*\(": [("helping.rt", "make"), ("helping.rt", "leave_with"), ("seat.rt", "call")],
-    r"\bTableVisit::of\(": [("lending.rt", "finish_and_help")],
-    # a claim and a place that is given back are noted
+    r"\bTableVisit::of\(": [("seat.rt", "finish")],
+    # what is lent, hinted at and taken back is noted, as what is claimed and given back
+    r"::<Post>": [("steps.rt", "post")],
+    r"::<Hint>": [("steps.rt", "store_hint")],
+    r"\bOffer \{ ticket \}": [("steps.rt", "post")],
+    r"\bStoredHint \{ ticket \}": [("steps.rt", "store_hint")],
+    r"\bTakenBack \{ ticket, made \}": [("steps.rt", "take_back")],
     r"::<Claim>": [("steps.rt", "claim")],
     r"::<GiveBack>": [("steps.rt", "give_back")],
     r"\bTried \{ place": [("steps.rt", "claim")],

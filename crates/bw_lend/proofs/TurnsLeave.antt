@@ -1,30 +1,40 @@
--- Each turn of a seat that has left is one event of the crowd.
-use Rattle.std.proofs.Common.{◌≡◌, ◌≢◌, ℕ, ◌+◌, ◌-◌, ◌*◌, ◌%◌, ◌/◌, ◌<◌}
+-- Each turn of a visit, before the seat waits and after it has left, is one event of the crowd.
+use Rattle.std.proofs.Common.{◌≡◌, ◌≢◌, ℕ, ◌+◌, ◌-◌, ◌*◌, ◌%◌, ◌/◌, ◌==◌, ◌<◌}
 use Rattle.std.proofs.Common.{Bool, true, false, List, ◌∷◌, Option, Some, None}
 use Rattle.std.proofs.Common.{if◌then◌else◌, is_some, refl, sym, ap, ◌∙◌, subst, arith}
 use Rattle.std.proofs.Common.{⊎_elim, eq-eqb, ne_eqb}
 use mathlib.Core.Logic.{dite}
 use native.Mathlib.Decide.{ℕ_discrete}
 use Rattle.bw_lend.specs.declared.task.Task.{Task}
-use Rattle.bw_lend.specs.declared.task.Task.TheVariants.{ToClaim, ToHelp, ToReturn}
+use Rattle.bw_lend.specs.declared.task.Task.TheVariants.{ToLook, ToEnter, ToClaim, ToHelp, ToReturn}
 use Rattle.bw_lend.specs.declared.task.Task.TheVariants.{ToWakeFrom}
 use Rattle.bw_lend.specs.Crowd.{Errand, Peeking, Claiming, EnteringFor, Giving, GivingLast}
-use Rattle.bw_lend.specs.Crowd.{Returning, Asleep, Phase, Has, Leaves, Wakes}
+use Rattle.bw_lend.specs.Crowd.{Drawn, Hinting, Entering, Returning, Asleep, Phase, Has, Leaves, Wakes}
 use Rattle.bw_lend.specs.Crowd.{Place, Away, Posted, Claimed, Done, Back, Hint}
-use Rattle.bw_lend.specs.Crowd.{Crowd, Event, Peek, ClaimToHelp, ClaimToReturn, Give, Wake}
+use Rattle.bw_lend.specs.Crowd.{Crowd, Event, Look, Lend, StoreHint, Peek, ClaimToHelp}
+use Rattle.bw_lend.specs.Crowd.{ClaimToReturn, Give, Wake, look_by, lend_by, store_hint_by}
 use Rattle.bw_lend.specs.Crowd.{after, or_same, put, moved, placed, woken, hinted}
 use Rattle.bw_lend.specs.Crowd.{is_posted_with, peek_by, claim_by, give_by, wake_by}
 use Rattle.bw_lend.specs.CrowdLaws.{seat_of}
-use Rattle.bw_lend.specs.Turns.{Hall, Peeks, ClaimsToHelp, ClaimsToReturn, Gives, GivesLast}
+use Rattle.bw_lend.specs.Rule.{hint_for}
+use Rattle.bw_lend.specs.Turns.{Hall, LooksAhead, LendsItself, StoresHint, Peeks, ClaimsToHelp}
+use Rattle.bw_lend.specs.Turns.{ClaimsToReturn, Gives, GivesLast, stores}
 use Rattle.bw_lend.specs.Turns.{Returns, RousesFirst, Rouses, Shows, ShowsHint, is_waiting}
 use Rattle.bw_lend.specs.Turns.{Visits, Claims, goes_on, puts, IsTurn}
 use Rattle.bw_lend.specs.Visits.{Names, places_from, phase_of, IsPlaceOf, after_peek}
+use Rattle.bw_lend.proofs.CrowdInvariant.{OkPlace, Ok}
 use Rattle.bw_lend.proofs.CrowdErrands.{at_errand}
 use Rattle.bw_lend.proofs.CrowdHands.{is_with, are_all}
 use Rattle.bw_lend.proofs.CrowdKept.{put_here, put_else}
 use Rattle.bw_lend.proofs.PlacesOwed.{all_owed, next_place}
 use Rattle.bw_lend.proofs.Turned.{Meets, Goes}
 use Rattle.bw_lend.proofs.TurnsRun.{makes}
+
+-- the phase and the task of a seat that has looked whether its ticket is served
+sight_is : (t : ℕ) (own : Bool) → Has t (if own then Entering else Drawn)
+    ≡ phase_of 0 t 0 (if own then ToEnter else ToLook)
+sight_is t true = refl
+sight_is t false = refl
 
 -- a hint that names a place names it in the model, and one that names none names none
 hint_is : (t w owed : ℕ) (o : Option Hint) (found : Option ℕ) → 0 < t → ShowsHint w o
@@ -116,6 +126,36 @@ module _ (h : Hall) (m : Meets h) (i : ℕ) where
       ∙ put_here h.crowd.place j c)))
       (λ ne. put_else h.word j x word ne))
       refl refl m.hints
+
+  pub looks_ahead : (k : Hall) → IsTurn (LooksAhead i) h k → Goes h k i
+  looks_ahead k turn = let t = turn.0 in let own : Bool = t == h.crowd.serving in
+      subst (λ x. Goes h x i) (sym turn.2)
+      (moves_on (Look i) (Has t Drawn) (phase_of 0 t 0 (if own then ToEnter else ToLook)) refl turn.1
+      refl (ap (look_by h.crowd i) turn.1
+      ∙ ap (λ (p : Phase). Some (moved h.crowd i p)) (sight_is t own)))
+
+  pub lends_itself : (k : Hall) → IsTurn (LendsItself i) h k → Goes h k i
+  lends_itself k turn = let t = turn.0 in
+      let ok = (subst (λ p. Ok h.crowd i p (h.crowd.place i)) turn.1 (m.sound.each i)).3 in
+      subst (λ x. Goes h x i) (sym turn.2)
+      (puts_on (Lend i) (Has t Drawn) (Has t Hinting) i (t * 8 + 3) (Posted t) refl turn.1 refl
+      (ap (lend_by h.crowd i) turn.1) refl
+      (λ same. (subst (OkPlace h.crowd i t Drawn) same ok).2))
+
+  pub stores_hint : (k : Hall) → IsTurn (StoresHint i) h k → Goes h k i
+  stores_hint k turn = let t = turn.0 in let b : ℕ = t % h.crowd.words in
+      let stored : Option Hint = Some (record { ticket = t; seat = i }) in
+      subst (λ x. Goes h x i) (sym turn.3)
+      (by_event (stores h i t) (StoreHint i) (Has t Hinting) refl turn.1 refl
+      (ap (store_hint_by h.crowd i) turn.1) m.shows (λ j same. refl) refl refl
+      (λ w. dite (ℕ_discrete w b)
+      (λ (here : w ≡ b).
+      subst (λ x. ShowsHint (put h.hint b (hint_for t i) x) (put h.crowd.hint b stored x)) (sym here)
+      (subst (λ x. ShowsHint x (put h.crowd.hint b stored b)) (sym (put_here h.hint b (hint_for t i)))
+      (subst (ShowsHint (hint_for t i)) (sym (put_here h.crowd.hint b stored)) (refl, turn.2))))
+      (λ ne. subst (λ x. ShowsHint x (put h.crowd.hint b stored w))
+      (sym (put_else h.hint b w (hint_for t i) ne))
+      (subst (ShowsHint (h.hint w)) (sym (put_else h.crowd.hint b w stored ne)) (m.hints w)))))
 
   pub peeks : (k : Hall) → IsTurn (Peeks i) h k → Goes h k i
   peeks k turn = let n = turn.0 in let t = turn.1 in let owed = turn.2 in let found = turn.3 in

@@ -4,17 +4,22 @@ use Rattle.std.proofs.Common.{refl, sym, ap, ◌∙◌, subst, arith, inl, inr, 
 use Rattle.bw_lend.specs.Crowd.{Crowd, Event, happens, start, run}
 use Rattle.bw_lend.specs.CrowdLaws.{seat_of}
 use Rattle.bw_lend.specs.CrowdRounds.{MakesOne, AreRounds, run_rounds}
-use Rattle.bw_lend.specs.Turns.{Hall, Turn, Reads, Looks, TakesBack, Sleeps, Peeks, ClaimsToHelp}
+use Rattle.bw_lend.specs.Turns.{Hall, Turn, LooksAhead, LendsItself, StoresHint, Reads, Looks}
+use Rattle.bw_lend.specs.Turns.{TakesBack, Sleeps, Peeks, ClaimsToHelp}
 use Rattle.bw_lend.specs.Turns.{ClaimsToReturn, Gives, GivesLast, Returns, RousesFirst, Rouses}
 use Rattle.bw_lend.specs.Turns.{Makes, opened, IsTurn, Leads, maker, MakesTurn, LeadsInRounds}
 use Rattle.bw_lend.specs.Turns.{TurnsAreEvents, TurnsLeaveDrawnTickets}
 use Rattle.bw_lend.proofs.CrowdRises.{drawn_tickets_are_left}
 use Rattle.bw_lend.proofs.Turned.{Meets, Goes, at_start}
 use Rattle.bw_lend.proofs.TurnsRun.{makes, reads, looks, takes_back, sleeps}
+use Rattle.bw_lend.proofs.TurnsLeave.{looks_ahead, lends_itself, stores_hint}
 use Rattle.bw_lend.proofs.TurnsLeave.{peeks, claims_to_help, claims_to_return, gives, gives_last}
 use Rattle.bw_lend.proofs.TurnsLeave.{returns, rouses_first, rouses}
 
 one_turn : (h k : Hall) → Meets h → (t : Turn) → IsTurn t h k → Goes h k (maker t)
+one_turn h k m (LooksAhead i) turn = looks_ahead h m i k turn
+one_turn h k m (LendsItself i) turn = lends_itself h m i k turn
+one_turn h k m (StoresHint i) turn = stores_hint h m i k turn
 one_turn h k m (Reads i) turn = reads h m i k turn
 one_turn h k m (Looks i) turn = looks h m i k turn
 one_turn h k m (TakesBack i) turn = takes_back h m i k turn

@@ -1,19 +1,22 @@
--- Runs of seats that wait while they are lent, and of seats that leave, turn by turn, and what is
+-- Runs of seats that lend themselves, wait while they are lent, and leave, turn by turn. What is
 -- claimed of them: each turn is one event of the crowd.
 use Rattle.std.specs.Prelude.{◌≡◌, ◌≢◌, ℕ, ◌+◌, ◌-◌, ◌*◌, ◌^◌, ◌%◌, ◌<◌, ◌≤◌, ◌⊎◌}
 use Rattle.std.specs.Prelude.{Bool, true, false, List, [], ◌∷◌, Option, None, Some, map, length}
-use Rattle.bw_lend.specs.Crowd.{Stage, Reading, Looking, Retracting, Parking, ParkingHeld, Asleep}
-use Rattle.bw_lend.specs.Crowd.{Fetching, Entering, Phase, Has, Wakes}
+use Rattle.bw_lend.specs.Crowd.{Stage, Drawn, Reading, Looking, Retracting, Parking, ParkingHeld}
+use Rattle.bw_lend.specs.Crowd.{Asleep, Fetching, Entering, Phase, Has, Wakes}
 use Rattle.bw_lend.specs.Crowd.{Place, Away, Posted, Claimed, Done, Back}
 use Rattle.bw_lend.specs.Crowd.{Crowd, Event, put, start, moved, placed, is_possible, woken}
-use Rattle.bw_lend.specs.Crowd.{happens, run, Hint, Peek, ClaimToHelp, ClaimToReturn, Give, Wake}
+use Rattle.bw_lend.specs.Crowd.{happens, run, Hint, Look, Lend, StoreHint, Peek, ClaimToHelp}
+use Rattle.bw_lend.specs.Crowd.{ClaimToReturn, Give, Wake}
 use Rattle.bw_lend.specs.declared.task.Task.{Task}
-use Rattle.bw_lend.specs.declared.task.Task.TheVariants.{ToPeek, ToClaim, ToHelp, ToGive}
+use Rattle.bw_lend.specs.declared.task.Task.TheVariants.{ToLook, ToHint, ToWait, ToPeek}
+use Rattle.bw_lend.specs.declared.task.Task.TheVariants.{ToClaim, ToHelp, ToGive}
 use Rattle.bw_lend.specs.declared.task.Task.TheVariants.{ToGiveLast, ToReturn, ToWakeFirst}
 use Rattle.bw_lend.specs.declared.task.Task.TheVariants.{ToWakeFrom}
 use Rattle.bw_lend.specs.Bells.{IsIn, IsWith}
 use Rattle.bw_lend.specs.Rule.{hint_for}
 use Rattle.bw_lend.specs.Visits.{Names, places_from, phase_of, IsPlaceOf, after_peek}
+use Rattle.bw_lend.specs.Visits.{after_sight}
 use Rattle.bw_lend.specs.CrowdLaws.{is_still, seat_of}
 use Rattle.bw_lend.specs.Waits.{MayTakeBack, MaySleep, stage_of}
 
@@ -26,10 +29,14 @@ pub record Hall : Type 0 where
   pub state : ℕ → Option ℕ
   pub found : ℕ → Option ℕ
 
--- One turn. A seat that waits while it is lent reads its place, looks which ticket is served, tries
--- to take its place back, or tries to sleep. A seat that has left reads a hint, tries to claim a
+-- One turn. A seat that has drawn a ticket looks whether it is served, lends itself, and stores its
+-- hint. A seat that waits while it is lent reads its place, looks which ticket is served, tries to
+-- take its place back, or tries to sleep. A seat that has left reads a hint, tries to claim a
 -- place, gives it back, or wakes an owner. Every other turn is an event of the crowd.
 pub data Turn : Type 0 where
+  LooksAhead : ℕ → Turn
+  LendsItself : ℕ → Turn
+  StoresHint : ℕ → Turn
   Reads : ℕ → Turn
   Looks : ℕ → Turn
   TakesBack : ℕ → Turn
@@ -129,6 +136,16 @@ puts h i t owed task j word place = record h {
   word = put h.word j word;
 }
 
+-- the seat i with the ticket t waits from now on, and its hint is stored in the word of its ticket
+abbrev pub stores : Hall → ℕ → ℕ → Hall
+stores h i t = record h {
+  crowd = record h.crowd {
+    phase = put h.crowd.phase i (phase_of 0 t 0 ToWait);
+    hint = put h.crowd.hint (t % h.crowd.words) (Some (record { ticket = t; seat = i }));
+  };
+  hint = put h.hint (t % h.crowd.words) (hint_for t i);
+}
+
 -- The seat i tries to claim the place j, for this task. The exchange compares the word with that of
 -- a seat which is lent with the ticket.
 abbrev pub Claims : Hall → Hall → ℕ → ℕ → ℕ → ℕ → Task → Type 0
@@ -136,14 +153,17 @@ Claims h k i t owed j task =
     ((h.word j ≡ t * 8 + 3) × (k ≡ puts h i t owed task j (t * 8 + 2) (Claimed t i)))
     ⊎ ((h.word j ≢ t * 8 + 3) × (k ≡ goes_on h i t owed (ToWakeFrom 0)))
 
--- whether the event is none of the turns of a seat that has left
-abbrev pub is_other : Event → Bool
-is_other (Peek i) = false
-is_other (ClaimToHelp i) = false
-is_other (ClaimToReturn i) = false
-is_other (Give i ks) = false
-is_other (Wake i) = false
-is_other _ = true
+-- whether the event, of a seat in this phase, is none of the turns of a visit
+abbrev pub is_other : Event → Phase → Bool
+is_other (Look i) (Has t Drawn) = false
+is_other (Lend i) p = false
+is_other (StoreHint i) p = false
+is_other (Peek i) p = false
+is_other (ClaimToHelp i) p = false
+is_other (ClaimToReturn i) p = false
+is_other (Give i ks) p = false
+is_other (Wake i) p = false
+is_other _ p = true
 
 -- An event, by a seat that does not wait lent. It may change the words of places and hints, if each
 -- still shows its place or its hint.
@@ -158,9 +178,14 @@ IsEvent e h k = (is_waiting (h.crowd.phase (seat_of e)) ≡ false)
 -- The turn leads from one state to the other. A read, a look, a try to take back and a sleep are
 -- made where the contracts of `PlaceWord` allow them, and do what these say. The exchange of a try
 -- to take back compares the whole word with the state that was read, and a sleep the half. A place
--- that is taken has its call made or not. A read of a hint, a try to claim, a place that is given
--- back and a wake are made where the contracts of `Visit` allow them, and do what these say.
+-- that is taken has its call made or not. All other turns but `Makes` are made where the contracts
+-- of `Visit` allow them, and do what these say.
 abbrev pub IsTurn : Turn → Hall → Hall → Type 0
+IsTurn (LooksAhead i) h k = (t : ℕ) × Visits h i 0 t 0 ToLook
+    × (k ≡ goes_on h i t 0 (after_sight t h.crowd.serving))
+IsTurn (LendsItself i) h k = (t : ℕ) × Visits h i 0 t 0 ToLook
+    × (k ≡ puts h i t 0 ToHint i (t * 8 + 3) (Posted t))
+IsTurn (StoresHint i) h k = (t : ℕ) × Visits h i 0 t 0 ToHint × (i < 64) × (k ≡ stores h i t)
 IsTurn (Reads i) h k =
     (t : ℕ) × Waits h i t × (h.state i ≡ None) × (k ≡ sees h i t (Some (h.word i)) None)
 IsTurn (Looks i) h k = (t : ℕ) × (n : ℕ) × Waits h i t × (h.state i ≡ Some n) × (n % 8 ≡ 3)
@@ -194,7 +219,7 @@ IsTurn (Rouses i) h k = (t : ℕ) × (owed : ℕ) × (j : ℕ) × Visits h i 0 t
     × (j < 64) × IsIn owed j × (k ≡ record h {
       crowd = woken h.crowd i (places_from (64 - (j + 1)) (j + 1) owed) j (h.crowd.phase j);
     })
-IsTurn (Makes e) h k = (is_other e ≡ true) × IsEvent e h k
+IsTurn (Makes e) h k = (is_other e (h.crowd.phase (seat_of e)) ≡ true) × IsEvent e h k
 
 -- these turns, one after another, lead from one state to the other
 abbrev pub Leads : Hall → List Turn → Hall → Type 0
@@ -203,6 +228,9 @@ Leads h (t ∷ ts) k = (m : Hall) × IsTurn t h m × Leads m ts k
 
 -- the seat that makes a turn
 abbrev pub maker : Turn → ℕ
+maker (LooksAhead i) = i
+maker (LendsItself i) = i
+maker (StoresHint i) = i
 maker (Reads i) = i
 maker (Looks i) = i
 maker (TakesBack i) = i

@@ -1,14 +1,16 @@
--- The visit of a seat to the lock, from where it enters until it owes no wake.
+-- The visit of a seat to the lock, from where it has drawn a ticket until it owes no wake.
 use Rattle.std.specs.Prelude.{◌≡◌, ◌≢◌, ℕ, zero, suc, ◌+◌, ◌-◌, ◌/◌, ◌==◌, ◌<◌, List, [], ◌∷◌}
 use Rattle.std.specs.Prelude.{Option, None, Some, if◌then◌else◌}
 use Rattle.std.specs.Int.{bit_at}
 use Rattle.atomic_table.specs.Seated.{TableId}
 use Rattle.bw_lend.specs.declared.task.Task.{Task}
-use Rattle.bw_lend.specs.declared.task.Task.TheVariants.{ToEnter, ToPeek, ToClaim, ToHelp, ToGive}
+use Rattle.bw_lend.specs.declared.task.Task.TheVariants.{ToLook, ToHint, ToWait, ToEnter}
+use Rattle.bw_lend.specs.declared.task.Task.TheVariants.{ToPeek, ToClaim, ToHelp, ToGive}
 use Rattle.bw_lend.specs.declared.task.Task.TheVariants.{ToGiveLast, ToReturn, ToWakeFirst}
 use Rattle.bw_lend.specs.declared.task.Task.TheVariants.{ToWakeFrom}
-use Rattle.bw_lend.specs.Crowd.{Entering, Peeking, Claiming, EnteringFor, Giving, GivingLast}
-use Rattle.bw_lend.specs.Crowd.{Returning, Phase, Has, Leaves, Wakes}
+use Rattle.bw_lend.specs.Crowd.{Drawn, Hinting, Reading, Entering, Peeking, Claiming}
+use Rattle.bw_lend.specs.Crowd.{EnteringFor, Giving, GivingLast, Returning}
+use Rattle.bw_lend.specs.Crowd.{Phase, Has, Leaves, Wakes}
 use Rattle.bw_lend.specs.Rule.{hint_for}
 
 -- The table of places, the ticket that the seat works on, the set of the places whose owners it
@@ -43,8 +45,12 @@ places_from (suc n) k set = if bit_at set k == 1 then k ∷ places_from n (k + 1
     else places_from n (k + 1) set
 
 -- The phase of a seat on its visit, by its ticket, the wakes that it owes and its task. It makes at
--- most n more loads of the lock's own. It wakes in the order of the places.
+-- most n more loads of the lock's own. It wakes in the order of the places. One that waits begins
+-- with a read.
 abbrev pub phase_of : ℕ → ℕ → ℕ → Task → Phase
+phase_of n t owed ToLook = Has t Drawn
+phase_of n t owed ToHint = Has t Hinting
+phase_of n t owed ToWait = Has t Reading
 phase_of n t owed ToEnter = Has t Entering
 phase_of n t owed ToPeek = Leaves t (places_from 64 0 owed) (Peeking n)
 phase_of n t owed (ToClaim j) = Leaves t (places_from 64 0 owed) (Claiming j)
@@ -59,6 +65,10 @@ phase_of n t owed (ToWakeFrom k) = Wakes (places_from (64 - k) k owed)
 abbrev pub IsPlaceOf : Option ℕ → Type 0
 IsPlaceOf None = Unit {0}
 IsPlaceOf (Some place) = place < 64
+
+-- the task of a seat with this ticket that has looked which one is served
+abbrev pub after_sight : ℕ → ℕ → Task
+after_sight ticket served = if ticket == served then ToEnter else ToLook
 
 -- the task of a seat that has read a hint
 abbrev pub after_peek : Option ℕ → Task

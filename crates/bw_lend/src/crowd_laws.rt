@@ -61,7 +61,8 @@ pub fn at_most_one_is_inside()
 ///
 /// A round is a list of events in which each seat that is neither idle nor asleep at its beginning
 /// makes one. Tickets may be drawn in it, and seats may wake without a wake. The law assumes a hint
-/// word for each seat. It holds for every number of seats, and of calls in one visit.
+/// word for each seat. It holds for every number of seats, and of calls in one visit. Of all states
+/// of two seats `tests/lock/explore.py` finds the greatest number that is needed.
 pub fn seventeen_rounds_raise_serving()
     ensures { SeventeenRoundsRaiseServing }
 {}
@@ -75,13 +76,14 @@ pub fn drawn_tickets_are_left()
     ensures { DrawnTicketsAreLeft }
 {}
 
-/// Each turn of a seat that waits while it is lent, or that has left, is one event of the model, by
-/// the same seat.
+/// Each turn of a seat that lends itself, waits while it is lent, or has left, is one event of the
+/// model, by the same seat.
 ///
-/// Such a turn is a read, a look, a try to take back or a sleep. Or it is a read of a hint, a try
-/// to claim, a place that is given back or a wake. It is made where the contracts of these calls
-/// allow it, and with what they say. Every other turn is taken to be an event of the model. The law
-/// assumes a hint word for each seat.
+/// Before it waits, such a turn is a look, a seat that is lent or a hint that is stored. While it
+/// waits, the turn is a read, a look, a try to take back or a sleep. After it has left, the turn is
+/// a read of a hint, a try to claim, a place that is given back or a wake. It is made where the
+/// contracts of these calls allow it, and with what they say. Every other turn is taken to be an
+/// event of the model. The law assumes a hint word for each seat.
 pub fn turns_are_events()
     ensures { TurnsAreEvents }
 {}

@@ -1,15 +1,17 @@
 //! The wait of a seat, which lends itself until its call is made.
-ghost use Rattle.std.specs.Prelude.{◌≡◌, ◌<◌, None, [], ◌∷◌, IsSome};
+ghost use Rattle.std.specs.Prelude.{◌≡◌, ◌<◌, None, [], ◌∷◌, IsSome, MatchBool};
 ghost use Rattle.bw_lend.specs.declared.stake.Part.TheVariants.{Lends};
-ghost use Rattle.bw_lend.specs.Lent.{HasTicket, IsFinished, Returns};
+ghost use Rattle.bw_lend.specs.declared.task.Task.TheVariants.{ToLook, ToWait, ToEnter};
+ghost use Rattle.bw_lend.specs.Lent.{HasTicket, IsFinished, IsMade, Returns};
 ghost use Rattle.bw_lend.specs.Parts.{IsTable, IsOwner};
 ghost use Rattle.bw_lend.specs.Rule.{stake};
+ghost use Rattle.bw_lend.specs.Visits.{to};
 
 use crate::helping::finish_visit;
 use crate::sleeping::{PlaceWord, TableWord, may_take_back, sleep_lent};
-use crate::steps::{post, take_back};
+use crate::steps::{TakenBack, post, store_hint, take_back};
 use crate::table::{Content, Place, Shared, Token, low_half};
-use crate::visits::TableVisit;
+use crate::visits::Visit;
 use bw_machine::Machine;
 use bw_ticket::{Answer, Seat, TicketLock};
 use std::hint::spin_loop;
@@ -24,14 +26,21 @@ const LOOKS: u32 = 50;
 // once, so that few seats look at the lock's words.
 const NEAR: u64 = 1;
 
-// Looks whether the ticket is served, some times while it is the next one.
-fn is_served_soon<M: Machine>(lock: &TicketLock<M>, ticket: u64) -> bool {
+/// Looks whether the seat's ticket is served, some times while it is the next one. If it is, the
+/// seat enters. Otherwise it may lend itself.
+pub(crate) fn is_soon<M: Machine, V: Visit>(lock: &TicketLock<M>, visit: &mut V) -> bool
+    requires task { (V.state visit.old).task ≡ ToLook }
+    ensures soon { MatchBool result (V.state visit.new ≡ to (V.state visit.old) ToEnter)
+        (V.state visit.new ≡ V.state visit.old) }
+{
+    let ticket = visit.ticket();
     for _look in 0..LOOKS {
-        let ahead = ticket.saturating_sub(lock.look().served());
-        if ahead == 0 {
+        let sighting = lock.look();
+        let served = sighting.served();
+        if visit.note(sighting) {
             return true;
         }
-        if ahead > NEAR {
+        if ticket.saturating_sub(served) > NEAR {
             return false;
         }
         spin_loop();
@@ -43,85 +52,106 @@ fn is_served_soon<M: Machine>(lock: &TicketLock<M>, ticket: u64) -> bool {
 //
 // Each turn reads the state of the place. While nobody has claimed the seat, it then looks whether
 // its ticket is served: no other seat wakes it for that. It sleeps only if that look was in vain.
-fn wait_for_place<M: Machine, R: Wait, W: PlaceWord>(
+fn wait_for_place<M: Machine, R: Wait, W: PlaceWord, V: Visit>(
     rt: &R,
     lock: &TicketLock<M>,
     table: &Shared<M>,
     token: &mut Token<M>,
     place: usize,
     word: &mut W,
+    visit: &V,
     lent: &Snapshot<Seat<M>>,
-    ticket: u64,
-) -> Content<M>
+) -> (Content<M>, TakenBack)
     requires table { (token.old.table_id ≡ table.now.table_id) × IsTable table.now.table_id }
     requires lends { token.old.me ≡
         (stake lent.now.value.lock_id place (Lends lent.now.value) ∷ [], []) }
     requires place { place < 64 }
-    requires ticket { HasTicket lent.now.value ticket }
+    requires ticket { HasTicket lent.now.value (V.state visit.now).ticket }
+    requires task { (V.state visit.now).task ≡ ToWait }
     requires word { W.exists word.old × (W.state word.old ≡ None) }
+    requires own { W.place word.old ≡ place }
     ensures table { token.new.table_id ≡ token.old.table_id }
     ensures owner { IsOwner lent.now.value.lock_id place token.new.me }
-    ensures back { Returns lent.now.value result }
+    ensures back { Returns lent.now.value result.0 }
+    ensures taken { (result.1.ticket ≡ (V.state visit.now).ticket) ×
+        IsMade result.1.made result.0 }
 {
     for _ in rt.forever() {
         let state = word.read();
-        if !may_take_back(word, lock, state, ticket) {
-            sleep_lent(rt, word, low_half(state), ticket);
+        if !may_take_back(word, lock, state, visit) {
+            sleep_lent(rt, word, visit, low_half(state));
             continue;
         }
-        match take_back(table, token, place, word, lent, state, ticket) {
-            Ok(content) => return content,
+        match take_back(table, token, place, word, visit, lent, state) {
+            Ok(taken) => return taken,
             Err(lost) => word.retry(lost),
         }
     }
     unreachable!()
 }
 
-/// Whether the pending call of the seat can be made at once or nearly so.
-pub(crate) fn is_soon<M: Machine>(lock: &TicketLock<M>, seat: &Seat<M>) -> bool {
-    match seat.pending() {
-        Some(ticket) => is_served_soon(lock, ticket),
-        None => false,
-    }
-}
-
-/// Makes the seat's own call, and then helps the next ones.
-pub(crate) fn finish_and_help<M: Machine, R: Wait + Clock>(
+// Goes on with what came back: the call is made, or the seat makes it now, and then helps the next
+// ones.
+fn go_on<M: Machine, R: Wait + Clock, V: Visit>(
     rt: &R,
     lock: &TicketLock<M>,
     table: &Shared<M>,
     token: &mut Token<M>,
-    seat: &mut Seat<M>,
-) -> Answer<M::Reply>
+    lent: &Snapshot<Seat<M>>,
+    content: Content<M>,
+    taken: TakenBack,
+    visit: V,
+) -> (Seat<M>, Answer<M::Reply>)
     requires table { (token.old.table_id ≡ table.now.table_id) × IsTable table.now.table_id }
+    requires visit { (V.state visit).table ≡ table.now.table_id }
     requires owner { (mine : _) × IsOwner lock.now.lock_id mine token.old.me }
-    requires lock { seat.old.lock_id ≡ lock.now.lock_id }
-    requires pending { IsSome seat.old.pending }
+    requires lock { lent.now.value.lock_id ≡ lock.now.lock_id }
+    requires pending { IsSome lent.now.value.pending }
+    requires ticket { HasTicket lent.now.value (V.state visit).ticket }
+    requires task { (V.state visit).task ≡ ToWait }
+    requires nobody { (V.state visit).owed ≡ 0 }
+    requires back { Returns lent.now.value content }
+    requires taken { (taken.ticket ≡ (V.state visit).ticket) × IsMade taken.made content }
     ensures table { token.new.table_id ≡ token.old.table_id }
     ensures same { token.new.me ≡ token.old.me }
-    ensures finished { IsFinished seat.old result seat.new }
+    ensures finished { IsFinished lent.now.value result.1 result.0 }
 {
-    let Some(ticket) = seat.pending() else {
-        unreachable!()
-    };
-    let visit = TableVisit::of(table, ticket);
-    finish_visit(rt, lock, table, token, seat, visit)
+    let _ = lent;
+    match content {
+        Place::Made(seat, answer) => {
+            visit.end_made(taken);
+            (seat, answer)
+        }
+        Place::Lent(seat) => {
+            let mut seat = seat;
+            let mut visit = visit;
+            visit.come_back(taken);
+            let answer = finish_visit(rt, lock, table, token, &mut seat, visit);
+            (seat, answer)
+        }
+        Place::Empty => unreachable!(),
+    }
 }
 
 /// Lends the seat until a helper has made its pending call, or it has to make that itself.
-pub(crate) fn finish_lent<M: Machine, R: Wait + Clock>(
+pub(crate) fn finish_lent<M: Machine, R: Wait + Clock, V: Visit>(
     rt: &R,
     lock: &TicketLock<M>,
     table: &Shared<M>,
     token: &mut Token<M>,
     place: usize,
     seat: Seat<M>,
+    visit: V,
 ) -> (Seat<M>, Answer<M::Reply>)
     requires table { (token.old.table_id ≡ table.now.table_id) × IsTable table.now.table_id }
+    requires visit { (V.state visit).table ≡ table.now.table_id }
     requires owner { IsOwner lock.now.lock_id place token.old.me }
     requires place { place < 64 }
     requires lock { seat.lock_id ≡ lock.now.lock_id }
     requires pending { IsSome seat.pending }
+    requires ticket { HasTicket seat (V.state visit).ticket }
+    requires task { (V.state visit).task ≡ ToLook }
+    requires nobody { (V.state visit).owed ≡ 0 }
     ensures table { token.new.table_id ≡ token.old.table_id }
     ensures owner { IsOwner lock.now.lock_id place token.new.me }
     ensures finished { IsFinished seat result.1 result.0 }
@@ -130,15 +160,10 @@ pub(crate) fn finish_lent<M: Machine, R: Wait + Clock>(
         unreachable!()
     };
     let lent = Snapshot::of(&seat);
-    post(table, token, place, seat, ticket);
+    let mut visit = visit;
+    visit.lend(post(table, token, place, seat, ticket));
+    visit.hint(store_hint(table, token, place, &lent, ticket));
     let mut word = TableWord::of(table, place);
-    match wait_for_place(rt, lock, table, token, place, &mut word, &lent, ticket) {
-        Place::Made(seat, answer) => (seat, answer),
-        Place::Lent(seat) => {
-            let mut seat = seat;
-            let answer = finish_and_help(rt, lock, table, token, &mut seat);
-            (seat, answer)
-        }
-        Place::Empty => unreachable!(),
-    }
+    let (content, taken) = wait_for_place(rt, lock, table, token, place, &mut word, &visit, &lent);
+    go_on(rt, lock, table, token, &lent, content, taken, visit)
 }

@@ -9,10 +9,12 @@ ghost use Rattle.bw_lend.specs.Rule.{Each, stakes_from};
 ghost use Rattle.std.specs.Arc.{arc_value};
 ghost use Rattle.bw_ticket.specs.declared.limits.TheConstants.{MAX_SEATS};
 
-use crate::lending::{finish_and_help, finish_lent, is_soon};
+use crate::helping::finish_visit;
+use crate::lending::{finish_lent, is_soon};
 use crate::plays::HandOut;
 use crate::steps::open_place;
 use crate::table::{Content, PLACES, Place, Places, Token, WORDS};
+use crate::visits::TableVisit;
 use atomic_table::Table;
 use bw_machine::Machine;
 use bw_ticket::{Answer, CallsSpent, Seat, TicketLock};
@@ -183,9 +185,13 @@ impl<M: Machine> LendingSeat<M> {
         let Some(seat) = &mut self.seat else {
             unreachable!()
         };
+        let Some(ticket) = seat.pending() else {
+            unreachable!()
+        };
+        let mut visit = TableVisit::of(&self.places.shared, ticket);
         // a seat that need not wait is not moved
-        if is_soon(lock, seat) {
-            return finish_and_help(rt, lock, &self.places.shared, &mut self.token, seat);
+        if is_soon(lock, &mut visit) {
+            return finish_visit(rt, lock, &self.places.shared, &mut self.token, seat, visit);
         }
         let Some(seat) = self.seat.take() else {
             unreachable!()
@@ -197,6 +203,7 @@ impl<M: Machine> LendingSeat<M> {
             &mut self.token,
             self.place,
             seat,
+            visit,
         );
         self.seat = Some(seat);
         answer

@@ -4,10 +4,12 @@
 //! so they are asked by contract. The wait is proved of any [`PlaceWord`], which alone says where
 //! the owner is: each call asks for the stage of the model `Crowd` in which the model makes it.
 ghost use Rattle.std.specs.Prelude.{◌≡◌, ℕ, ◌+◌, ◌%◌, ◌^◌, ◌<◌, ◌≤◌, Option, Some, None, MatchBool};
+ghost use Rattle.bw_lend.specs.declared.task.Task.TheVariants.{ToWait};
 ghost use Rattle.bw_lend.specs.Waits.{IsPosted, MaySleep, MayTakeBack};
 
 use crate::steps::Lost;
 use crate::table::{POSTED, Shared, code_of};
+use crate::visits::Visit;
 use bw_machine::{Count, Machine};
 use bw_ticket::{Sighting, TicketLock};
 use std::sync::Wait;
@@ -18,6 +20,9 @@ use std::sync::Wait;
 /// was found served since that read. Both say what the owner does next: `Waits.antt:stage_of`.
 pub(crate) trait PlaceWord {
     ghost exists: { Self → Type 0 };
+
+    // Its place, the state, the ticket that was found, and the number of sleeps.
+    ghost place: { Self → ℕ };
 
     ghost state: { Self → Option ℕ };
 
@@ -51,9 +56,10 @@ pub(crate) trait PlaceWord {
         ensures sleeps { sleeps self.new ≡ sleeps self.old };
 
     /// Sleeps while the lower half of the word is the expected one, until a wake or for no reason.
-    fn sleep<R: Wait>(&mut self, rt: &R, expected: u32, ticket: u64)
+    fn sleep<R: Wait, V: Visit>(&mut self, rt: &R, visit: &V, expected: u32)
         requires exists { exists self.old }
-        requires seen { MaySleep (state self.old) (found self.old) ticket }
+        requires task { (V.state visit.now).task ≡ ToWait }
+        requires seen { MaySleep (state self.old) (found self.old) (V.state visit.now).ticket }
         requires expected { (n : ℕ) × (state self.old ≡ Some n) × (expected ≡ n % 2 ^ 32) }
         ensures exists { exists self.new }
         ensures anew { state self.new ≡ None }
@@ -92,6 +98,8 @@ impl<'a, M: Machine> PlaceWord for TableWord<'a, M> {
 
     ghost exists = { λ w. IsTable w.table.now.table_id × (w.place < 64) };
 
+    ghost place = { λ w. w.place };
+
     ghost state = { λ w. w.state };
 
     ghost found = { λ w. w.found };
@@ -114,8 +122,8 @@ impl<'a, M: Machine> PlaceWord for TableWord<'a, M> {
         self.state = None;
     }
 
-    fn sleep<R: Wait>(&mut self, rt: &R, expected: u32, ticket: u64) {
-        let _ = ticket;
+    fn sleep<R: Wait, V: Visit>(&mut self, rt: &R, visit: &V, expected: u32) {
+        let _ = visit;
         self.table.park(rt, self.place, expected);
         self.state = None;
         self.sleeps = self.sleeps.one_more();
@@ -138,20 +146,22 @@ fn look<M: Machine, W: PlaceWord>(word: &mut W, lock: &TicketLock<M>) -> u64
 
 /// Whether the owner may take its place back: a helper is done with it, or nobody has claimed it
 /// and its ticket is served. Otherwise the owner may sleep.
-pub(crate) fn may_take_back<M: Machine, W: PlaceWord>(
+pub(crate) fn may_take_back<M: Machine, W: PlaceWord, V: Visit>(
     word: &mut W,
     lock: &TicketLock<M>,
     state: u64,
-    ticket: u64,
+    visit: &V,
 ) -> bool
     requires exists { W.exists word.old }
     requires read { (W.state word.old ≡ Some state) × (W.found word.old ≡ None) }
     ensures exists { W.exists word.new }
-    ensures may { MatchBool result (MayTakeBack (W.state word.new) (W.found word.new) ticket)
-        (MaySleep (W.state word.new) (W.found word.new) ticket) }
+    ensures may { MatchBool result
+        (MayTakeBack (W.state word.new) (W.found word.new) (V.state visit.now).ticket)
+        (MaySleep (W.state word.new) (W.found word.new) (V.state visit.now).ticket) }
     ensures state { W.state word.new ≡ Some state }
 {
     let code = code_of(state);
+    let ticket = visit.ticket();
     code > POSTED || (code == POSTED && look(word, lock) == ticket)
 }
 
@@ -161,14 +171,20 @@ pub(crate) fn may_take_back<M: Machine, W: PlaceWord>(
 /// The expected half is that of the state that was read last. If nobody had claimed the seat then,
 /// its owner has looked since, and found another ticket served. Premise: the system compares the
 /// word and goes to sleep in one atomic step.
-pub(crate) fn sleep_lent<R: Wait, W: PlaceWord>(rt: &R, word: &mut W, expected: u32, ticket: u64)
+pub(crate) fn sleep_lent<R: Wait, W: PlaceWord, V: Visit>(
+    rt: &R,
+    word: &mut W,
+    visit: &V,
+    expected: u32,
+)
     requires exists { W.exists word.old }
-    requires seen { MaySleep (W.state word.old) (W.found word.old) ticket }
+    requires task { (V.state visit.now).task ≡ ToWait }
+    requires seen { MaySleep (W.state word.old) (W.found word.old) (V.state visit.now).ticket }
     requires expected { (state : ℕ) × (W.state word.old ≡ Some state) ×
         (expected ≡ state % 2 ^ 32) }
     ensures exists { W.exists word.new }
     ensures anew { W.state word.new ≡ None }
     ensures made { W.sleeps word.new ≡ W.sleeps word.old + 1 }
 {
-    word.sleep(rt, expected, ticket);
+    word.sleep(rt, visit, expected);
 }

@@ -3,7 +3,8 @@
 //! Word k is the state of place k, and slot k its content. A state has a ticket and one of six
 //! codes. The ticket is that of the seat that was lent. The other 64 words are hints: the hint of a
 //! ticket names the place where its seat is lent. Any value of a hint is safe.
-ghost use Rattle.std.specs.Prelude.{◌≡◌, ◌≢◌, ◌/◌, ◌%◌, ◌^◌, ◌<◌, IfSome, IfNone, MatchBool};
+ghost use Rattle.std.specs.Prelude.{◌≡◌, ◌≢◌, ◌==◌, ◌/◌, ◌%◌, ◌^◌, ◌<◌, IfSome, IfNone};
+ghost use Rattle.std.specs.Prelude.{MatchBool};
 ghost use Rattle.bw_lend.specs.Rule.{hint_word, hint_for};
 ghost use Rattle.bw_lend.specs.declared.table.TheConstants.{TICKETS, DONE, BACK};
 
@@ -114,6 +115,13 @@ pub fn code_of(state: u64) -> u64
     ensures { result ≡ state % 8 }
 {
     state % CODES
+}
+
+/// Whether the state is of a seat whose call a helper made.
+pub fn is_done(state: u64) -> bool
+    ensures { result ≡ (state % 8 == 4) }
+{
+    code_of(state) == DONE
 }
 
 /// The half of a state that a sleep compares.

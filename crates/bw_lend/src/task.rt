@@ -1,8 +1,14 @@
-//! Ghost state: what a seat that visits the lock does next.
+//! Ghost state: what a seat that has drawn a ticket does next.
 
 /// The task of a visit. It names the places of other seats. Nothing reads it at run time.
 #[derive(Clone, Copy)]
 pub enum Task {
+    /// It has drawn its ticket. It looks whether that is served, or lends itself.
+    ToLook,
+    /// It has lent itself, and stores its hint.
+    ToHint,
+    /// It is lent. The word of its place says what it does next.
+    ToWait,
     /// It enters the lock, makes its own call, and leaves.
     ToEnter,
     /// It reads the hint of its ticket.

@@ -1,12 +1,16 @@
-//! The visit of a seat to the lock, from where it enters until it owes no wake.
+//! The visit of a seat to the lock, from where it has drawn a ticket until it owes no wake.
 //!
-//! A visit is a value that cannot be dropped. Each access of a seat that leaves asks for its task
-//! in the model `Crowd`, and sets the next one. The code that leaves is proved of any [`Visit`], so
-//! only the calls of this trait change the task: `Visits.antt:phase_of` says where in the model it
-//! is. No other file of the crate names `.wake_one(`.
-ghost use Rattle.std.specs.Prelude.{◌≡◌, ℕ, ◌+◌, ◌<◌, ◌≤◌, MatchBool, MatchOption, true, false};
+//! A visit is a value that cannot be dropped. Each access of a seat that lends itself or leaves
+//! asks for its task in the model `Crowd`, and sets the next one. That code is proved of any
+//! [`Visit`], so only the calls of this trait change the task: `Visits.antt:phase_of` says where in
+//! the model it is. No other file of the crate names `.wake_one(`.
+ghost use Rattle.std.specs.Prelude.{◌≡◌, ◌≢◌, ℕ, ◌+◌, ◌<◌, ◌≤◌, MatchBool, MatchOption};
+ghost use Rattle.std.specs.Prelude.{true, false};
 ghost use Rattle.atomic_table.specs.Seated.{TableId};
 ghost use Rattle.bw_lend.specs.declared.task.Task.TheVariants.{
+  ToLook,
+  ToHint,
+  ToWait,
   ToEnter,
   ToPeek,
   ToClaim,
@@ -22,11 +26,11 @@ ghost use Rattle.bw_lend.specs.Parts.{IsTable, IsOwner};
 ghost use Rattle.bw_lend.specs.Visits.{Visiting, to, gone, gave, Names};
 ghost use Rattle.bw_lend.specs.declared.table.TheConstants.{TICKETS};
 
-use crate::steps::{Given, Tried};
+use crate::steps::{Given, Offer, StoredHint, TakenBack, Tried};
 use crate::table::{PLACES, Shared, Token, hint_word_of, hinted_place};
 use crate::task::Task;
 use bw_machine::Machine;
-use bw_ticket::Behind;
+use bw_ticket::{Behind, Sighting};
 use std::snapshot::Snapshot;
 
 /// A visit to the lock. It is not `Drop`.
@@ -39,6 +43,37 @@ pub(crate) trait Visit {
     /// The ticket that it works on.
     fn ticket(&self) -> u64
         ensures { result ≡ (state self.now).ticket };
+
+    /// Notes what a look found. Returns whether the seat's own ticket is served: then it enters.
+    fn note(&mut self, sighting: Sighting) -> bool
+        requires task { (state self.old).task ≡ ToLook }
+        ensures seen { MatchBool result
+            ((state self.new ≡ to (state self.old) ToEnter) ×
+            (sighting.served ≡ (state self.old).ticket))
+            ((state self.new ≡ state self.old) × (sighting.served ≢ (state self.old).ticket)) };
+
+    /// Notes that the seat is lent in its place.
+    fn lend(&mut self, offer: Offer)
+        requires task { (state self.old).task ≡ ToLook }
+        requires own { offer.ticket ≡ (state self.old).ticket }
+        ensures { state self.new ≡ to (state self.old) ToHint };
+
+    /// Notes that the hint of the seat is stored.
+    fn hint(&mut self, stored: StoredHint)
+        requires task { (state self.old).task ≡ ToHint }
+        requires own { stored.ticket ≡ (state self.old).ticket }
+        ensures { state self.new ≡ to (state self.old) ToWait };
+
+    /// Notes that the place is taken back with the call not made. The seat enters.
+    fn come_back(&mut self, taken: TakenBack)
+        requires task { (state self.old).task ≡ ToWait }
+        requires own { (taken.ticket ≡ (state self.old).ticket) × (taken.made ≡ false) }
+        ensures { state self.new ≡ to (state self.old) ToEnter };
+
+    /// Ends the visit: the place is taken back with the call made.
+    fn end_made(self, taken: TakenBack)
+        requires task { (state self).task ≡ ToWait }
+        requires own { (taken.ticket ≡ (state self).ticket) × (taken.made ≡ true) };
 
     /// Notes what the seat found behind it when it had left. Returns whether the next ticket was
     /// drawn. If it was not, its seat will find it served.
@@ -178,19 +213,19 @@ pub(crate) struct TableVisit<'a, M: Machine> {
 }
 
 impl<'a, M: Machine> TableVisit<'a, M> {
-    /// The visit of a seat that enters the lock with this ticket.
+    /// The visit of a seat that has drawn this ticket.
     pub(crate) fn of(table: &'a Shared<M>, ticket: u64) -> TableVisit<'a, M>
         ensures table { result.table.now ≡ table.now }
         ensures ticket { result.ticket ≡ ticket }
         ensures nobody { result.owed ≡ 0 }
-        ensures task { result.task.value ≡ ToEnter }
+        ensures task { result.task.value ≡ ToLook }
     {
         TableVisit {
             table,
             ticket,
             owed: 0,
             hint: 0,
-            task: Snapshot::of(&Task::ToEnter),
+            task: Snapshot::of(&Task::ToLook),
         }
     }
 }
@@ -207,6 +242,40 @@ impl<'a, M: Machine> Visit for TableVisit<'a, M> {
 
     fn ticket(&self) -> u64 {
         self.ticket
+    }
+
+    fn note(&mut self, sighting: Sighting) -> bool {
+        if sighting.served() == self.ticket {
+            self.task = Snapshot::of(&Task::ToEnter);
+            return true;
+        }
+        false
+    }
+
+    fn lend(&mut self, offer: Offer) {
+        offer.end();
+        self.task = Snapshot::of(&Task::ToHint);
+    }
+
+    fn hint(&mut self, stored: StoredHint) {
+        stored.end();
+        self.task = Snapshot::of(&Task::ToWait);
+    }
+
+    fn come_back(&mut self, taken: TakenBack) {
+        taken.end();
+        self.task = Snapshot::of(&Task::ToEnter);
+    }
+
+    fn end_made(self, taken: TakenBack) {
+        taken.end();
+        let TableVisit {
+            table: _,
+            ticket: _,
+            owed: _,
+            hint: _,
+            task: _,
+        } = self;
     }
 
     fn leave(&mut self, behind: Behind) -> bool {

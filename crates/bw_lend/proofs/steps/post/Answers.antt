@@ -1,12 +1,11 @@
--- The rule allows the steps post and hint.
-use Rattle.std.proofs.Common.{arith, ◌≡◌, ℕ, [], ◌∷◌, ap, ◌∙◌, refl, sym, subst, map, drop}
+-- The rule allows the step post.
+use Rattle.std.proofs.Common.{arith, ◌≡◌, ℕ, [], ◌∷◌, ap, ◌∙◌, refl, sym, subst}
 use Rattle.atomic_table.specs.Table.{rest}
-use Rattle.bw_lend.specs.declared.stake.Part.TheVariants.{Owns, Hints}
+use Rattle.bw_lend.specs.declared.stake.Part.TheVariants.{Owns}
 use Rattle.bw_lend.specs.declared.table.Place.TheVariants.{Lent}
 use Rattle.bw_lend.specs.Lent.{HasTicket}
-use Rattle.bw_lend.specs.Plays.{lent_by}
 use Rattle.bw_lend.specs.Rule.{stake}
-use Rattle.bw_lend.proofs.Kept.{may_post, may_hint}
+use Rattle.bw_lend.proofs.Kept.{may_post}
 use Rattle.bw_lend.proofs.steps.post.Goals as goal
 
 pub store-requires : goal.store-requires
@@ -20,17 +19,4 @@ store-requires g c = let k = c.args.place in let seat = c.args.seat in
           (omega (arith, c.requires.table.1.1, c.requires.place)) c.state_of.ensures.code refl
           c.requires.pending
           (subst (λ (t : ℕ). HasTicket seat t) (sym c.state_of.ensures.ticket) c.requires.ticket),
-    )
-
-pub store-requires-2 : goal.store-requires-2
-store-requires-2 g c = let k = c.args.place in let seat = c.args.seat in
-    let lies : c.exchange-empty.new.seat.me ≡ (stake seat.lock_id k Owns ∷ [], (k, Lent seat) ∷ []) =
-    c.exchange-empty.ensures.3
-    ∙ ap (λ m. (m.0, (k, Lent seat) ∷ rest m.1)) c.requires.owner.1 in
-    let hints : c.store.new.seat.me ≡ (stake seat.lock_id k (Hints seat) ∷ [], []) =
-    c.store.ensures.2 ∙ ap (λ m. (map (lent_by m.1) m.0, drop 1 m.1)) lies in (
-      c.store.ensures.0 ∙ (c.exchange-empty.ensures.0 ∙ c.requires.table.0),
-      omega (arith, c.requires.table.1.0, c.hint_word_of.ensures.range),
-      may_hint c.args.table.now.key.value.lock_id _ _ seat.lock_id k c.args.ticket _ _ seat _ hints
-          c.requires.ticket c.hint_word_of.ensures.word c.hint_of.ensures,
     )
