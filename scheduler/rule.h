@@ -245,7 +245,8 @@ static __always_inline u64 rate_of(struct leaf *leaf)
     return most < leaf->guarantee ? most : leaf->guarantee;
 }
 
-/* What a leaf that wants nothing keeps, and the most that it may hold. */
+/* What a leaf that wants nothing keeps, and the most that it may hold. Each step of the leaf bounds
+ * what it holds; deadlines are compared by all that it is owed. */
 static __always_inline u64 credit_of(struct leaf *leaf)
 {
     return QUANTUM_NS * ONE_CPU + leaf->guarantee * CREDIT_NS;

@@ -12,6 +12,10 @@ HEAD = "processors 4\nslice 10\nleaf 0 1\nleaf 1 1\n"
 BEHIND = (HEAD + "wake 0 1\npick 2 0\nend 2 10 1\nbound 0 2 1\nwake 1 1\npick 0 1\nend 0 20 1\n")
 # Leaf 0 is stopped at its limit of 10.
 LIMIT = HEAD + "wake 0 2\nwake 1 1\npick 0 0\nend 0 10 1\nstop 0 1\npick 0 1\nend 0 20 1\n"
+# Leaf 0 is owed 120 and leaf 1 65, each more than it may keep. The deadline of leaf 0 is 100 ago,
+# that of leaf 1 90.
+OWED = ("processors 2\nslice 10\nterms 10 10 20\nleaf 0 1 1048576\nleaf 1 1 524288\nwake 0 1\n"
+        "pass 10\nwake 1 1\npass 100\n")
 TRACES = {
     "a bound task is passed by": (BEHIND + "pick 0 1\n", {outside.ALLOWED: 2, outside.BOUND: 1}),
     "its CPU may not": (BEHIND + "pick 2 1\n", {outside.ALLOWED: 2, outside.WRONG: 1}),
@@ -24,6 +28,8 @@ TRACES = {
     "a stopped leaf lifts nobody": (
         LIMIT + "leaf 2 1\nwake 2 1\npick 0 1\n",
         {outside.ALLOWED: 2, outside.STOPPED: 1, outside.LIFTED: 1}),
+    "deadlines are of all that is owed": (OWED + "pick 0 0\n", {outside.ALLOWED: 1}),
+    "a later one does not go first": (OWED + "pick 0 1\n", {outside.WRONG: 1}),
 }
 
 
@@ -66,3 +72,5 @@ def test_the_proved_program_allows_what_is_passed_by():
     assert traced.replayed(BEHIND + "pick 0 1\n") == "allowed: 4 picks"
     assert traced.replayed(LIMIT + "pick 0 1\n") == "allowed: 4 picks"
     assert "lesser clock" in traced.replayed(BEHIND + "bound 0 2 0\npick 0 1\n")
+    assert traced.replayed(OWED + "pick 0 0\n") == "allowed: 1 picks"
+    assert "earlier deadline" in traced.replayed(OWED + "pick 0 1\n")

@@ -205,7 +205,8 @@ class Replay:
     def pick(self, processor: int, row: int) -> None:
         """A processor takes a task. Before there were terms a CPU was two processors."""
         cpu = processor if self.terms.quantum else processor // 2
-        leaf = self.capped(row)
+        # (compared by all that it is owed, and bounded by the step)
+        leaf = self.leaves[row]
         before = {each: other.held_back(cpu) for each, other in enumerate(self.leaves)
                   if other.waiting and other.is_before(leaf, self.terms)}
         is_wrong = processor in self.runs or not leaf.waiting or (
@@ -217,6 +218,7 @@ class Replay:
         self.lines += [f"pick {at} {each}" for at, each in enumerate(away, self.count)]
         self.lines.append(f"pick {processor} {row}")
         self.lines += [f"end {at} 0 1" for at in range(self.count, self.count + len(away))]
+        self.capped(row)
         leaf.charged += self.slice
         leaf.waiting -= 1
         leaf.running += 1
