@@ -11,6 +11,8 @@ import fleets
 import pytest
 import trees
 import yaml
+from arbiter_host.answers import explain
+from arbiter_host.fleet import hosts
 from arbiter_host.sources import pods
 
 FIXTURES = Path(__file__).parent / "fixtures"
@@ -377,6 +379,62 @@ def test_jobs_of_a_cron_job_are_its_own():
     assert owner(f"report-{minute}", "2026-01-07T10:00:03Z") == ""
     assert owner("report-12345678", "2026-01-05T10:00:03Z") == owner("report", "") == ""
     assert pods.names_by("CronJob x/report").fullmatch(f"report-{minute}-bcdfg")
+
+
+def test_explain_tells_what_an_autoscaler_drives(ctl, folder):
+    """Of one node in the rows of its pods, on a page and a picture too; in a list in those of
+    containers."""
+    words = ("explain", "-", "--node", "n2", "--want", "busy")
+    forms = [word for form in ("json", "html", "svg") for word in ("-o", f"{form}={folder}/{form}")]
+    out, _ = ctl.run(*words, "-o", "text", *forms, given=cluster(*SHOP))
+    names = [line.split("  ")[-1].strip() for line in out.split("\n")]
+    assert {"shop:web-66f-hjklm (HPA)", "shop:db-0", "c"} <= {*names}
+    assert "c (HPA)" not in names and explain.SCALED_NOTE in out.split("\n")
+    groups = json.loads((folder / "json").read_text())["groups"]
+    assert {each["group"].rpartition("/")[2] for each in groups if each["scaled"]} == {
+        "shop:web-66f-hjklm", "c"}
+    for form in ("html", "svg"):
+        drawn = (folder / form).read_text()
+        assert "shop:web-66f-hjklm / c (HPA)" in drawn and "shop:db-0 / c (HPA)" not in drawn
+    out, _ = ctl.run(*words, "--state", "hurt", given=cluster(*SHOP))
+    assert "shop:web-66f-hjklm/c (HPA)\n" in out and "shop:db-0/c\n" in out
+
+
+def test_notes_of_the_nodes_of_a_cluster(ctl):
+    """What explain says of one node it says of many too: once where numbers alone differ."""
+    leaving = [running(f"p{at}", node_, deletionTimestamp="2026-01-01T00:00:00Z")
+               for at, node_ in enumerate(("n1", "n2", "n2"))]
+    given = cluster(node("n1"), node("n2"), running("big", "n2", "3"), *leaving)
+    gone = "pods that are deleted and have not ended: {}: they count until then"
+    asked = ("the pods request 3200m of the 2000m that the node has for them: the scheduler puts"
+             " no such pods there")
+    _, one = ctl.run("explain", "-", "--node", "n2", given=given)
+    found, many = planned(ctl, "-", given=given)
+    assert gone.format(2) in one and asked in one
+    assert [each["notes"] for each in found["hosts"]] == [[gone.format(1)],
+                                                          [gone.format(2), asked]]
+    assert many.split("\n")[:-1] == [
+        f"arbiterctl: warning: n1: {gone.format(1)} (so of 1 more: -o json)",
+        f"arbiterctl: warning: n2: {asked}"]
+
+
+def test_notes_of_a_change_of_many(ctl):
+    """A change that no scheduler takes says so."""
+    given = cluster(node("n1"), node("n2"), running("a", "n1"), running("b", "n2"))
+    _, err = ctl.run("diff", "-", "--set", "x/a.request=5", given=given)
+    assert err == ("arbiterctl: warning: n1: the pods request 5000m of the 2000m that the node has"
+                   " for them: the scheduler puts no such pods there\n")
+
+
+def test_a_cluster_of_one_namespace_is_told_once():
+    """A node may have pods of one namespace alone, or none, where others have others."""
+    nodes = [{**node(name), "status": {**node(name)["status"], "nodeInfo": {"kubeletVersion": "v1"}}}
+             for name in ("n1", "n2")]
+    one, two = running("a", "n1"), running("b", "n2", namespace="y")
+    for pods_, spaces in (([one, two], 2), ([one], 1), ([one, {**two, "metadata": one["metadata"]
+                                                              | {"name": "b"}}], 1)):
+        fleet = hosts.of_cluster("F", [*nodes, *pods_], lambda: None)
+        assert sum("all pods are of the namespace x" in each for each in fleet.notes) == (spaces == 1)
 
 
 def test_recommend_tells_what_an_autoscaler_drives(ctl, folder):

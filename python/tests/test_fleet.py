@@ -191,7 +191,10 @@ LIES = {
                         "a host of other than whole numbers"),
     "names that are none": (lambda sent: renamed(sent, lambda paths: [".", 7, *paths[2:]]),
                             "cannot be read"),
-    "no number": (lambda sent: sent._replace(told={**sent.told, "notes": "x"}), "cannot be read"),
+    "no number": (lambda sent: sent._replace(told={**sent.told, "workloads": [
+        ("w", "x", 0, False, ["t0/g0"])]}), "cannot be read"),
+    "notes of other than words": (lambda sent: sent._replace(told={**sent.told, "notes": [7]}),
+                                  "cannot be read: TypeError"),
     "nothing": (lambda sent: sent._replace(told={}), "cannot be read: KeyError"),
 }
 

@@ -41,6 +41,9 @@ MOST_RANGES = 20
 ELSEWHERE = "throttled, not by its limit"
 UNKNOWN_NOTE = ("(not known: tasks that sleep often or fork, nice values that differ, kernels after"
                 " 6.12)")
+# The mark of pods of which an autoscaler sets how many there are.
+SCALED = " (HPA)"
+SCALED_NOTE = f"{SCALED[1:]} an autoscaler sets how many such pods run"
 THROTTLED_NOTE = f"* {ELSEWHERE}: it gets less than its limit"
 
 
@@ -124,7 +127,14 @@ def row_name(group: PlannedGroup, one: PlannedGroup) -> str:
     """The last name of a group, with that of the container that its row shows."""
     paths = dict.fromkeys([group.path, one.path])
     return " / ".join("the host" if path == "." else short(shown(last_name(path)))
-                      for path in paths)
+                      for path in paths) + scaled(group)
+
+
+def scaled(group: PlannedGroup, is_alone: bool = False) -> str:
+    """The mark of a pod of which an autoscaler sets how many there are. In a list a container of
+    such a pod has it too."""
+    of = group.group
+    return SCALED if of and of.is_scaled and (is_alone or not of.pod[2]) else ""
 
 
 def row_reason(plan: Plan, group: PlannedGroup, one: PlannedGroup) -> Explanation:
@@ -149,11 +159,12 @@ def label(group: PlannedGroup, view: View, depth: int) -> str:
     if group.parent is None:
         return "the host (.)"
     if view.only or depth == 0:
-        return short(shown(group.path))
+        return short(shown(group.path)) + scaled(group, True)
     below = sum(1 for _ in walk(group.children)) if view.is_folded(group) else 0
     more = f" (+{below} below)" if below else ""
     people = f"  {shown(group.title)}" if group.title and "/" not in group.title else ""
-    return "  " * depth + short(shown(last_name(group.path))) + more + people
+    name = short(shown(last_name(group.path))) + scaled(group)
+    return "  " * depth + name + more + people
 
 
 def reasons(plan: Plan, group: PlannedGroup, view: View) -> list[str]:
@@ -313,6 +324,8 @@ def range_lines(plan: Plan, view: View, ranges: Mapping[int, tuple[int, int]]) -
 def foot(plan: Plan, view: View, lines: Sequence[str]) -> Iterator[str]:
     if any("throttled*" in line for line in lines):
         yield THROTTLED_NOTE
+    if any(line.endswith(SCALED) for line in lines):
+        yield SCALED_NOTE
     idle = sum(1 for group in plan.groups[1:] if group.want == 0 and view.has(group)
                and view.has(plan.groups[group.parent or 0]))
     if idle and not view.everything and not view.only:
@@ -389,6 +402,7 @@ def columns(plan: Plan, view: View, outlook: Outlook | None = None) -> list[Colu
         own("burst_usec", lambda each: each.burst, 0), own("tasks", lambda each: each.tasks),
         own("asks_millicpu", lambda each: float(each.demand)),
         own("request_millicpu", lambda each: None if each.request is None else float(each.request)),
+        own("scaled", lambda each: each.is_scaled, False),
         Column("request", request, forms=PAGES, is_optional=True),
         *starmap(amount, view.amounts.items()),
         *([Column(BAR_HEAD, bar, True, forms=TEXT)] if view.width >= WIDE else []),

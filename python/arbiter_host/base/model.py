@@ -97,7 +97,7 @@ class Group:
     path says it. `identity` is the device and inode of the folder that it was read from. `request`
     is in thousandths of a CPU, and None where the source has none. `pod` has namespace, pod and
     container as Kubernetes names them. `keeps_to` is the number of CPUs that it keeps to, and None
-    where it may run on all.
+    where it may run on all. `is_scaled` says that an autoscaler sets how many pods are like it.
     """
 
     path: str
@@ -114,6 +114,7 @@ class Group:
     request: Fraction | None = None
     pod: PodNames = NO_POD
     keeps_to: int | None = None
+    is_scaled: bool = False
 
     @property
     def is_pause(self) -> bool:

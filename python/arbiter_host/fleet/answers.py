@@ -90,8 +90,7 @@ def explained(_: Job, plans: Iterator[Plan], told: dict[str, Any]) -> dict[str, 
             "limits": len(limiting), "limiting": limiting[:MOST_NAMED],
             "worst": [[path, plan.groups[row].gets, plan.groups[row].want]
                       for _, path, row in worst],
-            "demands": str(told["demands"]), "weights": str(told["weights"]),
-            "notes": int(told["notes"]), "refused": int(told["refused"])}
+            "demands": str(told["demands"]), "weights": str(told["weights"])}
 
 
 def moved(before: Plan, after: Plan, chosen: Chosen = None) -> list[tuple[int, str]]:
@@ -123,6 +122,13 @@ def compared(_: Job, plans: Iterator[Plan], told: dict[str, Any]) -> dict[str, A
             "changes": sorted(Counter(rise for rise, _ in rises).items()),
             "changed_groups": sum(of_set), "others": sum(rise for rise, _ in rises) - sum(of_set),
             "gains": losses(rises, 1), "losses": losses(rises)}
+
+
+def words_in(told: Any) -> list[str]:
+    """Words that a worker sent. A TypeError where they are no list of words."""
+    if not isinstance(told, list) or not all(isinstance(each, str) for each in told):
+        raise TypeError(told)
+    return told
 
 
 def amounts(told: dict[str, Any]) -> dict[str, int]:
@@ -184,10 +190,11 @@ def answer_of(job: Job, sent: Sent | str, engine: Engine) -> dict[str, Any]:
         answer = ACTIONS[job.action](
             job, (accepted(engine, host, each) for each in sent.plans), sent.told
         ) if job.action in ACTIONS else replayed(engine, host, sent)
+        told = {key: words_in(sent.told[key]) for key in ("refused", "notes")}
     except BROKEN as error:
         raise HostFault(f"what its worker answers cannot be read: {type(error).__name__}"
                         ) from error
     except StopIteration as error:
         raise HostFault("its worker answers fewer plans than were asked") from error
     return {"cpus": host.processors, "period_usec": host.period_us, "slice_usec": host.slice_us,
-            "capacity": host.capacity, "groups": groups, **answer}
+            "capacity": host.capacity, "groups": groups, **answer, **told}

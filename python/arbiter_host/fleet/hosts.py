@@ -152,6 +152,8 @@ def of_cluster(word: str, items: Sequence[dict[str, Any]], library: Callable[[],
             "used by pods that no node here has": [name for name in metrics if name not in here]}
     notes = [f"{words}: {some(list(map(names.shown, each)))}"
              for words, each in told.items() if each]
+    notes += kubernetes.namespace_note({pods.names_of(each)[0] for of in of_node.values()
+                                        for each in of}, nodes)
     return Fleet(hosts_, tuple(pending_of(each, library()) for each in pending), tuple(notes),
                  functools.partial(neighbours_of, nodes, of_node))
 

@@ -111,8 +111,7 @@ def chosen(job: Job, model: Model) -> list[str] | None:
 
 def explained(_: Job, model: Model, engine: Engine) -> SentPlans:
     workloads = model.owned.workloads() if model.owned is not None else []
-    return rows(engine, model), {"notes": len(model.notes), "refused": len(model.refused),
-                                 "demands": model.asked, "weights": model.weighed,
+    return rows(engine, model), {"demands": model.asked, "weights": model.weighed,
                                  "workloads": [tuple(each) for each in workloads]}
 
 
@@ -131,7 +130,8 @@ def matched(model: Model, words: Sequence[str]) -> tuple[list[str], set[str]]:
 
 def compared(job: Job, model: Model, engine: Engine) -> SentPlans:
     words, paths = matched(model, job.sets)
-    return rows(engine, model, change.changed(model, words)), {"matched": sorted(paths)}
+    after = change.changed(model, words)
+    return rows(engine, model, after), {"matched": sorted(paths), "notes": after.notes}
 
 
 def with_pod(model: Model, pod: Model) -> tuple[Model, list[str]]:
@@ -223,7 +223,8 @@ def planned(job: Job, host: HostFile) -> Sent:
         kind = load.kind_in(options, [(host.path, host.data)])
         model = options.of_samples(engine.library, kind, model, job.unit, job.sample_usec)
         plans, told = replayed(job, model, engine, host.history)
-    return Sent(model.host, plans, told)
+    notes = list(dict.fromkeys([*model.notes, *told.get("notes", [])]))
+    return Sent(model.host, plans, {**told, "notes": notes, "refused": model.refused})
 
 
 def answered(job: Job, host: HostFile) -> Sent | str:

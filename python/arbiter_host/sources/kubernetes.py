@@ -10,7 +10,7 @@ import functools
 import math
 import re
 from collections import Counter
-from collections.abc import Iterable, Iterator, Mapping, Sequence
+from collections.abc import Iterable, Iterator, Mapping, Sequence, Set
 from contextlib import suppress
 from dataclasses import dataclass, replace
 from fractions import Fraction
@@ -242,12 +242,12 @@ class PodBuilder:
         return self.source.library.owned_weight(units.OF_REQUESTS[conversion], request or 0)
 
     def add(self, parent: str, raw: str, weight: int, place: str, title: str = "",
-            limit: int | None = None, pod: PodNames = NO_POD) -> str:
+            limit: int | None = None, pod: PodNames = NO_POD, is_scaled: bool = False) -> str:
         """Makes a child whose name no other has, and returns its path."""
         name = names.path_name(raw, self.model.groups, parent)
         quota, _ = self.source.library.owned_limit(LimitFormula.THOUSANDTHS, limit or 0)
         return self.model.add(Group(names.joined(parent, name), weight, title=title, place=place,
-                                    quota=quota, pod=pod)).path
+                                    quota=quota, pod=pod, is_scaled=is_scaled)).path
 
     def classes(self) -> None:
         """Makes kubepods and its two classes."""
@@ -264,9 +264,10 @@ class PodBuilder:
         """Makes a pod, its pause container and its containers."""
         amounts = Amounts() if pod.quality == "BestEffort" else pod.amounts
         folder, options = folder_of(pod, self.options.driver), self.options
+        is_scaled = pod.owner in self.source.scaled
         path = self.add(CLASSES[pod.quality], f"{pod.namespace}:{pod.name}",
                         self.weight(amounts.request, options.kubelet), folder, pod.title,
-                        amounts.limit, (pod.namespace, pod.name, ""))
+                        amounts.limit, (pod.namespace, pod.name, ""), is_scaled)
         if self.has_pauses:
             pause = self.add(path, "pause", 1, NOWHERE, f"{pod.title}/pause")
             self.measured[pause] = Measured(request=Fraction(0), tasks=0)
@@ -275,7 +276,7 @@ class PodBuilder:
                 given = pod.given(each)
                 made = self.add(path, each.name, self.weight(given.request, options.runtime),
                                 scope_of(folder, each, options.driver), f"{pod.title}/{each.name}",
-                                given.limit, (pod.namespace, pod.name, each.name))
+                                given.limit, (pod.namespace, pod.name, each.name), is_scaled)
                 self.places[made] = (place, number)
                 self.measured[made] = replace(self.source.known.get((place, number), Measured()),
                                               request=Fraction(each.amounts.request or 0))
@@ -651,19 +652,23 @@ def rest_note(pod: Pod) -> list[str]:
             " the rest"] if own is not None and own > asked else []
 
 
-def pods_notes(pods: Sequence[Pod], node: dict[str, Any] | None, allocatable: int | None
-               ) -> list[str]:
-    """Notes of the pods of a node which cannot be all of them, or not these."""
-    found, asked, spaces = list[str](), requested_by(pods), {each.namespace for each in pods}
+def namespace_note(namespaces: Set[str], nodes: Iterable[dict[str, Any] | None]) -> list[str]:
+    """A note of pods that are not all of their nodes: of one namespace alone. A node that a cluster
+    has runs pods of the cluster's own too."""
+    if len(namespaces) != 1 or not any(field(each, "status", "nodeInfo") for each in nodes):
+        return []
+    return [f"all pods are of the namespace {shown(*namespaces)}: where others run on this node too,"
+            " these are given what is theirs (kubectl get pods -A)"]
+
+
+def pods_notes(pods: Sequence[Pod], allocatable: int | None) -> list[str]:
+    """Notes of the pods of a node that ask for more than there is, or otherwise than Kubernetes
+    takes."""
+    found, asked = list[str](), requested_by(pods)
     if allocatable is not None and asked > allocatable:
         found.append(f"the pods request {asked}m of the {allocatable}m that the node has for them:"
                      " the scheduler puts no such pods there")
-    found += [note for each in pods for note in (*rest_note(each), *refused_notes(each))]
-    # (a node that a cluster has runs pods of the cluster's own too)
-    if field(node, "status", "nodeInfo") and len(spaces) == 1:
-        found.append(f"all pods are of the namespace {shown(spaces.pop())}: where others run on"
-                     " this node too, these are given what is theirs (kubectl get pods -A)")
-    return found
+    return found + [note for each in pods for note in (*rest_note(each), *refused_notes(each))]
 
 
 def node_notes(node: dict[str, Any] | None) -> list[str]:
@@ -696,9 +701,12 @@ def read(files: Sequence[File], library: Library, options: SourceOptions) -> Mod
         notes.append(f"the node has {capacity}m: the plan is of its {host.processors} whole CPUs")
     pods = pods_on(items, text_field(node, "metadata", "name") if node else options.node, library,
                    notes)
-    if not (pods or any("none of the pods" in each for each in notes)):
+    if not (pods or options.is_part or any("none of the pods" in each for each in notes)):
         notes.append("no pod is in these files that has not ended")
-    notes += [*pods_notes(pods, node, allocatable), *node_notes(node)]
+    notes += pods_notes(pods, allocatable)
+    if not options.is_part:
+        notes += namespace_note({each.namespace for each in pods}, [node])
+    notes += node_notes(node)
     with naming("node, allocatable"):
         has = {name: math.floor(number_of(value, shown(name)))
                for name, value in table(node, "status", "allocatable").items() if name != "cpu"}

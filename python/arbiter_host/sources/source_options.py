@@ -66,6 +66,8 @@ class SourceOptions:
     # None for the kind that is found.
     kind: str | None = None
     node: str = ""
+    # Whether other nodes of the cluster are read beside it, with the pods of each.
+    is_part: bool = False
     kubelet: str = "linear"
     runtime: str = "linear"
     # Whether these conversions are asked for, or else those are taken that a tree has.

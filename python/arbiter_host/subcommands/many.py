@@ -66,7 +66,7 @@ def job_of(options: argparse.Namespace, action: Action, fleet: Fleet) -> Job:
     labels_of(meant.selectors)
     reading = replace(source, uses=None, check=None)
     if fleet.is_cluster:
-        reading = replace(reading, kind="kubernetes")
+        reading = replace(reading, kind="kubernetes", is_part=True)
         if source.uses and action is not Action.SAMPLES:
             used.check_want(source.uses)
             reading = replace(reading, want="usage")
