@@ -1,7 +1,7 @@
 """The crates of crates.txt. Read at the top of the repository."""
 
 
-def crates():
+def crates() -> dict[str, list[str]]:
     """Each crate, and the crates of the repository that its line names."""
     found = {}
     with open("crates.txt", encoding="utf-8") as lines:
@@ -12,7 +12,7 @@ def crates():
     return {name: [each for each in named if each in found] for name, named in found.items()}
 
 
-def may_wait():
+def may_wait() -> dict[str, int]:
     """The number of functions that may wait, of each crate whose line gives it."""
     found = {}
     with open("crates.txt", encoding="utf-8") as lines:
@@ -25,9 +25,10 @@ def may_wait():
     return found
 
 
-def with_all_below(name):
+def with_all_below(name: str) -> list[str]:
     """A crate and all crates below it."""
-    stands_on, found, waiting = crates(), [], [name]
+    stands_on, waiting = crates(), [name]
+    found: list[str] = []
     while waiting:
         each = waiting.pop()
         if each not in found:

@@ -1,8 +1,11 @@
 #!/usr/bin/env python3
 """Runs the merge gate, `rt ci`, shows how far it is, and prints what took its time. For ./test.
 
-usage: gate.py LOG [WORD..]     LOG gets all that the gate says. The words are handed to `rt ci`:
-                                --anew takes nothing that an earlier run on this machine proved
+usage: gate.py LOG COUNTS KIT [WORD..]
+
+LOG gets all that the gate says. COUNTS is the folder in which scripts/counts.py keeps what the gate
+counted, by the line KIT of `rt version`. The words are handed to `rt ci`: --anew takes nothing that
+an earlier run on this machine proved.
 
 At its end it prints each failure, a table by crate and kind of task, and the gate's last line. The
 exit status is the gate's.
@@ -21,7 +24,9 @@ import subprocess
 import sys
 import threading
 import time
+from pathlib import Path
 
+import counts
 from crates import crates, may_wait
 from processes import BASE, EDITS, KINDS, LINK, PROOF, RUN, TESTS, Watch, boot_seconds
 from progress import Progress
@@ -37,9 +42,6 @@ GOOD = re.compile(
 )
 # The lines of the log that say that a crate was proved, or taken from an earlier run.
 PROVED = re.compile(r"^rt: (\w+) (?:proved|is kept: .*)$")
-# What the gate counted of a crate that it proved: the functions that may wait, of all.
-COUNTED = re.compile(r"^logic=proved functions=\d+(?:.*? may-wait=(\d+))?.*\n"
-                     r"(?:(?!rt: |== |logic=).*\n)*rt: (\w+) proved$", re.M)
 LAST = re.compile(r"^\d+ passed, \d+ failed$")
 
 
@@ -189,17 +191,18 @@ def failures(text):
 
 def miscounts(text, said):
     """What crates.txt says of functions that may wait, where the gate counted another number."""
-    for counted, crate in COUNTED.findall(text):
-        written = said.get(crate, 0)
-        if int(counted or 0) != written:
-            yield f"crates.txt: {crate}: may_wait={written}, and the gate counted {counted or 0}"
+    for crate, found in counts.counted(text).items():
+        written, number = said.get(crate, 0), found.get("proof", {}).get("may_wait")
+        if number not in (None, written):
+            yield f"crates.txt: {crate}: may_wait={written}, and the gate counted {number}"
 
 
 class Run:
     """One run of the gate."""
 
-    def __init__(self, log, words):
+    def __init__(self, log, folder, kit, words):
         self.log, self.crates, self.proved = log, crates(), []
+        self.folder, self.kit, self.before = Path(folder), kit, counts.look(kit)
         self.progress, self.seen = Progress("test"), Seen()
         given = {"stdin": subprocess.DEVNULL, "stdout": subprocess.PIPE}
         self.gate = subprocess.Popen([*GATE, *words], stderr=subprocess.STDOUT, **given)
@@ -252,11 +255,20 @@ class Run:
         else:
             print("gate: seconds from the first to the last seen, and processor seconds:\n")
             print(*table(self.seen.by_kind(), whole, used), sep="\n")
+        self.keep(text)
         wrong = list(miscounts(text, may_wait()))
         print(*[f"gate: {line}\n" for line in wrong], sep="", end="")
         last = [line for line in text.split("\n") if LAST.match(line)]
         print(*last[-1:], sep="\n", flush=True)
         return wrong
+
+
+    def keep(self, text):
+        """Keeps what the gate counted, for a release."""
+        try:
+            counts.keep(self.folder, text, self.before, counts.look(self.kit))
+        except OSError as error:
+            print(f"gate: what it counted is not kept: {error}")
 
 
 def children_used():
@@ -266,10 +278,10 @@ def children_used():
 
 
 def main():
-    log, *words = sys.argv[1:]
+    log, folder, kit, *words = sys.argv[1:]
     began, used = time.monotonic(), children_used()
     try:
-        run = Run(log, words)
+        run = Run(log, folder, kit, words)
     except OSError as error:
         print(f"gate: {' '.join(GATE)} cannot be started: {error.strerror}", file=sys.stderr)
         return 2

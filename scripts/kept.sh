@@ -1,5 +1,6 @@
 # shellcheck shell=bash
-# Files that this machine keeps outside the sources: the checked build, and times of commands.
+# Files that this machine keeps outside the sources: the checked build, times of commands, and what
+# the gate counted.
 
 # Sets `here` to the folder for it, without links, or to nothing if this user has none that can be
 # written, and that no other user may change.
@@ -27,6 +28,9 @@ is_ours() { # PATH
 }
 
 find_here
+# The folder of what the gate counted, for scripts/counts.py.
+# shellcheck disable=SC2034
+counts=${here:-$PWD/out}/counts
 
 # Prints a number of seconds in words: '7 s', '12 min 5 s', '1 h 4 min'.
 in_words() { # SECONDS

@@ -1,12 +1,12 @@
 #!/usr/bin/env python3
 """Makes the files that a maintainer uploads, of what ./build --install installs. For ./build.
 
-usage: release.py INSTALLED OUT VERSION COMMIT SECONDS KIT IMAGE [DEB..]
+usage: release.py INSTALLED OUT VERSION COMMIT SECONDS KIT COUNTS IMAGE [DEB..]
 
 INSTALLED is a folder that ./build has installed in, OUT gets the files, and SECONDS is the time of
-the commit since 1970. IMAGE has Debian's packages for an image of containers, or is empty. The same
-input gives the same bytes: archives are sorted, their files belong to root and have that time, and
-no name of the machine is in them.
+the commit since 1970. COUNTS has what the gate counted, by scripts/counts.py. IMAGE has Debian's
+packages for an image of containers, or is empty. The same input gives the same bytes: archives are
+sorted, their files belong to root and have that time, and no name of the machine is in them.
 """
 from __future__ import annotations
 
@@ -21,10 +21,11 @@ import tempfile
 import time
 import tomllib
 import zipfile
-from collections.abc import Iterable, Mapping, Sequence
+from collections.abc import Mapping, Sequence
 from pathlib import Path
 from typing import Any
 
+import counts
 import image
 from archives import Fault, File, Files, Release, tar
 
@@ -37,8 +38,6 @@ BESIDE = ("LICENSE-MIT", "LICENSE-APACHE", "CHANGELOG.md", "examples", "share/ru
           "share/kubernetes")
 # Folders of what is made of sources.
 OF_SOURCES = frozenset({"__pycache__", "target"})
-LOGS = ("out/gate.log", "out/library.log", "crates/arbiter/out/build.log",
-        "crates/bw_exports/out/build.log")
 # Programs and libraries that came of proofs, by their places below an installation.
 MADE = re.compile(r"bin/arbiter(-check|-script)?|lib/libarbiter\.(a|so\.[0-9.]+)")
 # A path of whoever made a file, or of this clone.
@@ -170,50 +169,6 @@ def tarball(installed: Files, release: Release) -> dict[str, File]:
 # What was proved
 
 
-def said() -> dict[str, str]:
-    """The logs of the kit that are there. One that is older than a source tells nothing."""
-    sources = [path for folder in ("src", "specs", "proofs", "must-fail")
-               for path in (TOP / "crates").glob(f"*/{folder}/**/*") if path.is_file()]
-    newest, found = max((path.stat().st_mtime for path in sources), default=0), {}
-    for name in LOGS:
-        path = TOP / name
-        if path.is_file() and path.stat().st_mtime > newest:
-            found[name] = path.read_text(encoding="utf-8", errors="replace")
-    return found
-
-
-def counted(texts: Iterable[str]) -> dict[str, dict[str, int]]:
-    """The crates with their numbers of proved functions, of axioms and of functions that may wait,
-    as the kit counted them."""
-    found: dict[str, dict[str, int]] = {}
-    for text in texts:
-        name = ""
-        # (a log of one crate has no heading, so its items name it)
-        for head, item, line in re.findall(
-                r"^(?:== (\w+)(?:: its tests)?|\w+ (\w+)::.*: proved|(logic=proved .*))$", text,
-                re.M):
-            name = head or item or name
-            if not (name and line):
-                continue
-            words = dict(each.split("=", 1) for each in line.split() if "=" in each)
-            its = found.setdefault(name, {})
-            # a crate of tests has none of its own, and those of its tests in a second line
-            for key, word in (("functions", "functions"), ("axioms", "axioms"),
-                              ("may_wait", "may-wait")):
-                its[key] = max(its.get(key, 0), int(words.get(word, 0)))
-    return found
-
-
-def refused(texts: Iterable[str]) -> dict[str, list[str]]:
-    """The wrong bodies that the gate saw refused, by their crates."""
-    found: dict[str, set[str]] = {}
-    for text in texts:
-        for crate, edit in re.findall(
-                r"^rt: must-fail (\w+)/([\w.-]+)\.edit: refused, as it must be", text, re.M):
-            found.setdefault(crate, set()).add(edit)
-    return {crate: sorted(edits) for crate, edits in sorted(found.items())}
-
-
 def theorems() -> list[str]:
     """The theorems that Coq found to assume nothing. independent/build ends otherwise."""
     folder = TOP / "out/independent"
@@ -227,17 +182,17 @@ def theorems() -> list[str]:
     return names
 
 
-def proved(installed: Files, release: Release) -> dict[str, Any]:
+def proved(installed: Files, folder: Path, release: Release) -> dict[str, Any]:
     """PROVED.json: what was proved, by what, and the hash of each file that came of it."""
-    logs = said()
+    told = counts.told(folder, release.kit)
+    if told.lacks:
+        raise Fault(counts.message(told.lacks))
     kit, _, logic = release.kit.partition(" logic ")
-    crates = counted(logs.values())
-    named = re.findall(r"^(\w+)[^#:\n]*:", (TOP / "crates.txt").read_text(), re.M)
     return {
         "version": release.version, "commit": release.commit, "date": release.day,
-        "kit": kit, "logic": logic, "crates": dict(sorted(crates.items())),
-        "not_counted": [each for each in named if each not in crates],
-        "refused_edits": refused(logs.values()), "coq_theorems_without_axioms": theorems(),
+        "kit": kit, "logic": logic, "crates": dict(sorted(told.crates.items())),
+        "refused_edits": dict(sorted(told.refused.items())),
+        "coq_theorems_without_axioms": theorems(),
         "files": {place: hashed(file) for place, file in sorted(installed.items())
                   if MADE.fullmatch(place) and file.data},
     }
@@ -313,27 +268,27 @@ def text_of(value: object) -> File:
     return File((json.dumps(value, indent=1) + "\n").encode())
 
 
-def release_of(installed: Files, debs: Sequence[Path], folder: Path | None,
+def release_of(installed: Files, debs: Sequence[Path], kept: Path, folder: Path | None,
                release: Release) -> dict[str, File]:
-    """All files of a release by name, with their sums last. The folder has Debian's packages for
-    the image."""
+    """All files of a release by name, with their sums last. One folder has what the gate counted,
+    the other Debian's packages for the image."""
     project = tomllib.loads((TOP / "python/pyproject.toml").read_text())["project"]
     check_paths(installed)
     made = {**tarball(installed, release), **wheel(installed, project, release),
             **sdist(installed, project, release), **{each.name: read(each) for each in debs},
             **(image.image(debs, folder, release) if folder else {})}
     made = dict(sorted({**made, **plug_in(made, release)}.items()))
-    made["PROVED.json"] = text_of(proved(installed, release))
+    made["PROVED.json"] = text_of(proved(installed, kept, release))
     made[f"arbiter-{release.version}.spdx.json"] = text_of(bill(made, project, release))
     sums = [f"{hashlib.sha256(file.data).hexdigest()}  {name}\n" for name, file in made.items()]
     return {**made, "SHA256SUMS": File("".join(sums).encode())}
 
 
 def main(words: Sequence[str]) -> int:
-    installed, out, version, commit, seconds, kit, base, *debs = words
+    installed, out, version, commit, seconds, kit, kept, base, *debs = words
     release = Release(version, commit, int(seconds), kit)
     try:
-        made = release_of(below(Path(installed)), sorted(map(Path, debs)),
+        made = release_of(below(Path(installed)), sorted(map(Path, debs)), Path(kept),
                           Path(base) if base else None, release)
         Path(out).mkdir(parents=True, exist_ok=True)
         # (each has its name when all are whole)

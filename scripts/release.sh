@@ -8,9 +8,13 @@ need_release() {
     echo "build: /usr/bin/python3 has to be 3.11 or later: sudo apt-get install -y python3" >&2
     exit 2
   fi
-  find_commit && return
-  echo "build: a release is of a commit, without a changed file: see git status" >&2
-  exit 2
+  if ! find_commit; then
+    echo "build: a release is of a commit, without a changed file: see git status" >&2
+    exit 2
+  fi
+  find_kit
+  # before the hour of a build that could not be released
+  /usr/bin/python3 scripts/counts.py "$counts" "$kit" || exit 1
 }
 
 # Sets `image` to the folder of Debian's packages for an image of containers. It is empty where they
@@ -36,5 +40,5 @@ make_release() ( # DIR LOG
   find_image
   install_below "$scratch/installed" >/dev/null && make_debs "$scratch/debs" "$2" >/dev/null &&
     /usr/bin/python3 scripts/release.py "$scratch/installed" "$1" "$version" "$commit" \
-      "$commit_time" "$kit" "$image" "$scratch"/debs/*.deb
+      "$commit_time" "$kit" "$counts" "$image" "$scratch"/debs/*.deb
 )

@@ -59,7 +59,7 @@ def test_types():
     """mypy and pyflakes find nothing in the modules that are typed."""
     typed = ["calm_rounds.py", "instructions.py", "locks.py", "periods.py", "perturbed.py",
              "questions.py", "runs.py", "shapes.py", "waits.py", "../tests/meeting_names.py",
-             "../scripts/indexes.py", "../scripts/kit.py", "../scripts/telling",
+             "../scripts/counts.py", "../scripts/indexes.py", "../scripts/kit.py", "../scripts/telling",
              *map(str, sorted((ROOT / "bench/kernel/laboratory").glob("*.py"))),
              *map(str, sorted((ROOT / "tests/lock").glob("*.py")))]
     words = {"mypy": ["--strict", "--cache-dir", "/dev/null", *typed],

@@ -53,7 +53,9 @@ def installed_files(program, library, tmp_path_factory):
 
 @pytest.fixture(name="whole")
 def lets_through(release, library, monkeypatch):
-    """Lets the checked library through, which names the folder that it was made in."""
+    """Lets the checked library through, which names the folder that it was made in. Each crate is
+    counted."""
+    monkeypatch.setattr(release.counts, "told", lambda *_: release.counts.Counts({}, {}, []))
     if release.OF_MACHINE.search(library.read_bytes()):
         assert b"/checked/" in library.read_bytes() or CHECKED in library.parents
         monkeypatch.setattr(release, "OF_MACHINE", re.compile(rb"/no/such/path"))
@@ -62,7 +64,7 @@ def lets_through(release, library, monkeypatch):
 
 def made(release, installed, out, *debs, image=""):
     """The files of a release, with Debian's packages for an image in a folder."""
-    words = [installed, out, VERSION, COMMIT, SECONDS, KIT, image, *debs]
+    words = [installed, out, VERSION, COMMIT, SECONDS, KIT, "counts", image, *debs]
     same(release.main(list(map(str, words))), 0, "the status")
     return {path.name: path.read_bytes() for path in out.iterdir()}
 
@@ -153,7 +155,7 @@ def test_a_folder_of_the_machine(release, installed, tmp_path, capsys, file, hea
     for each in ("bin/arbiter", "lib/libarbiter.a", f"lib/libarbiter.so.{VERSION}"):
         (tmp_path / "in" / each).write_bytes(b"\x7fELF\0")
     (tmp_path / "in" / file).write_bytes(head + place.encode() + b"\0")
-    words = [str(tmp_path / "in"), str(tmp_path / "out"), VERSION, COMMIT, str(SECONDS), KIT, ""]
+    words = [str(tmp_path / "in"), str(tmp_path / "out"), VERSION, COMMIT, str(SECONDS), KIT, "", ""]
     same((release.main(words), (tmp_path / "out").exists()), (1, False), "the status")
     same(capsys.readouterr().err,
          f"build: no release: {file} names a folder of this machine: {place}\n", "the message")
@@ -276,56 +278,161 @@ LOG = """== bw_text
 fn bw_text::a: proved
 logic=proved functions=27 sum=d native=nat axioms=2 x=y
 rt: bw_text proved
+== bw_low
+logic=proved functions=8 sum=d
+rt: bw_low NOT PROVED
 == arbiter
 logic=proved functions=9 may-wait=4 sum=d axioms=20
+rt: arbiter proved
 rt: must-fail bw_text/other.edit: refused, as it must be: fn bw_text::a
 rt: must-fail bw_text/missed.edit: NOT REFUSED: the crate is still proved with this edit
 rt: must-fail arbiter/one.edit: refused, as it must be (only by a limit of the prover)
 == bw_tests
 logic=proved functions=0 sum=d
+rt: bw_tests proved
 == bw_tests: its tests
 fn bw_tests::a: proved
 logic=proved tests=3 functions=5 axioms=1 sum=d
+rt: bw_tests: its tests are proved
 """
+# A gate that proves what the one before refused, and takes the rest from it.
+LATER = """rt: bw_text is kept: an earlier run on this machine proved the same files
+rt: arbiter is kept: an earlier run on this machine proved the same files
+== bw_low
+logic=proved functions=8 sum=d
+rt: bw_low proved
+rt: must-fail bw_text/missed.edit: refused, as it must be: fn bw_text::a
+"""
+NUMBERS = {"arbiter": {"functions": 9, "axioms": 20, "may_wait": 4},
+           "bw_low": {"functions": 8, "axioms": 0, "may_wait": 0},
+           "bw_tests": {"functions": 5, "axioms": 1, "may_wait": 0},
+           "bw_text": {"functions": 27, "axioms": 2, "may_wait": 0}}
 
 
-def test_log_of_one_crate(release):
-    """The log of a library that ./test makes has no heading: its items name the crate."""
-    alone = ("rt: chose --jobs 1 for bw_exports\nso far: 0 of 2 functions checked\n"
-             "impl bw_exports::fault::Debug: proved\nfn bw_exports::fit: proved\n\n"
-             "logic=proved functions=59 axioms=3 sum=d\n")
-    wanted = {"bw_exports": {"functions": 59, "axioms": 3, "may_wait": 0}}
-    same(release.counted([alone]), wanted, "alone")
-    same(release.counted([f"{alone}== arbiter\nrt: no crate is proved\n"]), wanted, "and another")
+class Gates:
+    """A small repository, and the records of its gates."""
 
+    def __init__(self, counts, folder):
+        self.counts, self.folder = counts, folder
 
-def test_what_was_proved(release, installed, tmp_path, monkeypatch):
-    """Crates are counted as the logs of the kit have them, and files have their hashes. Logs that
-    are older than a source, and Coq's that are not there, tell nothing."""
-    monkeypatch.setattr(release, "TOP", tmp_path)
-    source = tmp_path / "crates/bw_text/src/lib.rt"
-    for path, text in ((source, ""), (tmp_path / "out/gate.log", LOG), (
-            tmp_path / "crates.txt", "bw_text:\nbw_low: bw_text\narbiter: bw_low # x\nbw_tests:\n")):
+    def write(self, place, text):
+        path = self.folder / "top" / place
         path.parent.mkdir(parents=True, exist_ok=True)
         path.write_text(text)
-    os.utime(source, (10**9, 10**9))
+
+    def gate(self, log, during=lambda: None, kit=KIT):
+        """A gate that says this, while something happens."""
+        before = self.counts.look(kit)
+        during()
+        self.counts.keep(self.folder / "counts", log, before, self.counts.look(kit))
+
+    def told(self, kit=KIT):
+        return self.counts.told(self.folder / "counts", kit)
+
+
+@pytest.fixture(name="gates")
+def gates_of(release, tmp_path, monkeypatch):
+    """Four crates, one above another, with edits and with tests in the last."""
+    made = Gates(release.counts, tmp_path)
+    made.write("crates.txt", "# A: B\nbw_text: itoa\nbw_low: bw_text\n"
+                             "arbiter may_wait=4: bw_low # x\nbw_tests: bw_text\n")
+    made.write("HANDLES", "Handles allowed: Wait\n")
+    for name in NUMBERS:
+        made.write(f"crates/{name}/src/lib.rt", "#[test] fn a() {}\n" * (name == "bw_tests"))
+    for place in ("bw_text/must-fail/other", "bw_text/must-fail/missed", "arbiter/must-fail/one"):
+        made.write(f"crates/{place}.edit", f"old: {place}\n")
+    monkeypatch.chdir(tmp_path / "top")
+    return made
+
+
+def test_counts_of_two_gates(gates):
+    """A gate counts what it proved, an earlier one what this one took from it. What failed, and
+    what no gate tried, lacks."""
+    assert len(gates.told().lacks) == 7
+    gates.gate(LOG)
+    found = gates.told()
+    same(found.lacks, ["bw_low", "bw_text/missed.edit"], "lacks after the first")
+    same(found.crates, {each: NUMBERS[each] for each in ("arbiter", "bw_tests", "bw_text")},
+         "the first")
+    gates.gate(LATER)
+    found = gates.told()
+    same((found.crates, found.lacks), (NUMBERS, []), "both")
+    same(found.refused, {"arbiter": ["one"], "bw_text": ["missed", "other"]}, "refused")
+
+
+@pytest.mark.parametrize("place, text, lacks", [
+    ("crates/arbiter/src/lib.rt", "new", ["arbiter", "arbiter/one.edit"]),
+    ("crates/bw_low/proofs/new.antt", "new", ["bw_low", "arbiter", "arbiter/one.edit"]),
+    ("crates/bw_text/must-fail/other.edit", "new", ["bw_text/other.edit"]),
+    ("crates/bw_text/must-fail/new.edit", "new", ["bw_text/new.edit"]),
+    ("crates/bw_text/README", "new", []),
+    ("crates.txt", "bw_text: itoa\nbw_low: bw_text memchr\narbiter may_wait=4: bw_low\n"
+                   "bw_tests: bw_text\n", ["bw_low", "arbiter", "arbiter/one.edit"]),
+    ("HANDLES", "none", ["bw_text", "bw_low", "arbiter", "bw_tests", "bw_text/missed.edit",
+                         "bw_text/other.edit", "arbiter/one.edit"])])
+def test_a_change_has_no_count(gates, place, text, lacks):
+    """Neither a crate that changed, nor one above it, nor an edit. What is put back has its own."""
+    gates.gate(LOG)
+    gates.gate(LATER)
+    path = gates.folder / "top" / place
+    before = path.read_text() if path.exists() else None
+    gates.write(place, text)
+    same(gates.told().lacks, lacks, place)
+    if before is None:
+        path.unlink()
+    else:
+        path.write_text(before)
+    same(gates.told().lacks, [], "put back")
+    same(len(gates.told(f"{KIT}0").lacks), 7, "another kit")
+
+
+def test_a_change_while_the_gate_runs(gates):
+    """A crate that changed while the gate ran is not counted, also where it was changed back."""
+    def change(place):
+        text = Path(place).read_text()
+        Path(place).write_text(f"{text}\n")
+        Path(place).write_text(text)
+
+    gates.gate(LOG + LATER, lambda: change("crates/bw_low/src/lib.rt"))
+    same(gates.told().lacks, ["bw_low", "arbiter", "arbiter/one.edit"], "a source")
+    gates.gate(LOG + LATER, lambda: gates.write("crates/arbiter/must-fail/one.edit", "new"))
+    same(gates.told().lacks, ["arbiter/one.edit"], "an edit")
+
+
+@pytest.mark.parametrize("part", ["rt: bw_tests proved\n", "rt: bw_tests: its tests are proved\n"])
+def test_half_a_count(gates, part):
+    """A crate with tests is counted by both its proofs."""
+    gates.gate((LOG + LATER).replace(part, ""))
+    same(gates.told().lacks, ["bw_tests"], part)
+
+
+def test_damaged_records(gates):
+    """They count as none."""
+    gates.gate(LOG + LATER)
+    for path in (gates.folder / "counts").iterdir():
+        path.write_text(path.read_text()[:-1])
+    same(len(gates.told().lacks), 7, "lacks")
+
+
+def test_what_was_proved(release, installed, gates, monkeypatch):
+    """Crates are counted as gates counted them, and files have their hashes. Where a count lacks,
+    nothing is released."""
+    monkeypatch.setattr(release, "TOP", gates.folder)
     its = release.Release(VERSION, COMMIT, SECONDS, KIT)
-    found = release.proved(release.below(installed), its)
-    same(found["crates"], {"arbiter": {"functions": 9, "axioms": 20, "may_wait": 4},
-                           "bw_text": {"functions": 27, "axioms": 2, "may_wait": 0},
-                           "bw_tests": {"functions": 5, "axioms": 1, "may_wait": 0}}, "crates")
-    same((found["not_counted"], found["refused_edits"]),
-         (["bw_low"], {"arbiter": ["one"], "bw_text": ["other"]}), "the rest")
+    gates.gate(LOG)
+    with pytest.raises(release.Fault, match="no gate on this machine counted bw_low, bw_text/missed"
+                                            r"\.edit: \./test --anew does$"):
+        release.proved(release.below(installed), gates.folder / "counts", its)
+    gates.gate(LATER)
+    found = release.proved(release.below(installed), gates.folder / "counts", its)
+    same((found["crates"], found["refused_edits"]),
+         (NUMBERS, {"arbiter": ["one"], "bw_text": ["missed", "other"]}), "counts")
     same((found["kit"], found["logic"], found["commit"], found["coq_theorems_without_axioms"]),
          ("rattle-kit-13f", "dac8208d650f15bf", COMMIT, []), "by what")
     same(set(found["files"]), {"bin/arbiter", "lib/libarbiter.a", f"lib/libarbiter.so.{VERSION}"},
          "files")
     for place, told in found["files"].items():
         same(told["sha256"], hashlib.sha256((installed / place).read_bytes()).hexdigest(), place)
-    os.utime(source)
-    os.utime(tmp_path / "out/gate.log", (10**9, 10**9))
-    found = release.proved(release.below(installed), its)
-    same((found["crates"], found["refused_edits"], len(found["not_counted"])), ({}, {}, 4), "old")
 
 
 def test_theorems_of_coq(release, tmp_path, monkeypatch):
@@ -511,7 +618,7 @@ def test_no_image_of_others(whole, installed, tmp_path, parts, capsys, wrong, me
         ours[2].write_bytes(deb("libarbiter1",
                                 ("usr/share/doc/arbiter/examples/of", b"two", 0o644)))
     words = [str(installed), str(tmp_path / "out"), VERSION, COMMIT, str(SECONDS), KIT,
-             str(folder), *map(str, ours)]
+             "counts", str(folder), *map(str, ours)]
     same((whole.main(words), (tmp_path / "out").exists()), (1, False), "the status")
     assert capsys.readouterr().err.endswith(f"{message}\n")
 
@@ -589,12 +696,19 @@ def a_copy(scratch):
     return copy
 
 
+def counts_all(copy):
+    """A gate that counts each crate of a copy."""
+    words = ["python3", "scripts/gate.py", "out.log", f"{copy.cache}/arbiter/counts"]
+    copy.call([*words, copy.read("../kit/KIT-ID").strip()])
+
+
 def test_build_makes_a_release(copy):
     """Both are proved, and all files come below a folder that is named from the caller's; a second
     run gives the same bytes. Packages have the time of the commit, and say of which they are."""
     os.makedirs(f"{copy.folder}/from")
     words = [f"{copy.top}/build", "--release"]
     found = []
+    counts_all(copy)
     for name in ("one", "two"):
         status, out, err = copy.call([*words, name], cwd=f"{copy.folder}/from", seconds=240)
         same(status, 0, f"./build --release: {err}")
@@ -607,7 +721,9 @@ def test_build_makes_a_release(copy):
     said = found[0]["arbiter_1_all.deb"].decode()
     same(said, f'{SECONDS} {{"commit": "{COMMIT}", "kit": "kit 1 logic dac8208d650f15bf"}}\n',
          "a package")
-    assert json.loads(found[0]["PROVED.json"])["commit"] == COMMIT
+    proved = json.loads(found[0]["PROVED.json"])
+    same((proved["commit"], sorted(proved["crates"])), (COMMIT, sorted(copy.crates)), "PROVED.json")
+    same({each["functions"] for each in proved["crates"].values()}, {3}, "counts")
     same((len(found[0]), sorted(os.listdir(f"{copy.folder}/from"))), (8, ["one", "two"]), "files")
 
 
@@ -625,6 +741,13 @@ def test_a_release_is_of_a_commit(copy, why):
     holds("build: a release is of a commit, without a changed file: see git status\n", err, why)
     copy.installs("there", why, [PROVED, LIBRARY_PROVED])
     same(copy.there("there/lib/arbiter/arbiter/made.json"), False, "the file")
+
+
+def test_a_release_needs_a_gate(copy):
+    """Without its counts nothing is built."""
+    status, out, err = copy.call(["./build", "--release", "there"])
+    same((status, out, copy.proved(), copy.there("there")), (1, "", [], False), err)
+    holds("build: no release: no gate on this machine counted bw_text, bw_streams, ", err, "why")
 
 
 def test_a_release_needs_debhelper(copy):

@@ -4,6 +4,7 @@ What they run, what counts as up to date, what they say, and how an interrupted 
 """
 import ast
 import concurrent.futures
+import json
 import os
 import pty
 import re
@@ -953,6 +954,8 @@ def test_test_compares_counts(copy, counted, last):
     with_gate(copy, "5 passed, 0 failed", "cat; printf '"
               f"logic=proved functions=82 {counted}sum=0\nrt: bw_ticket proved\n'")
     status, out, err = copy.call(["./test"])
+    (record,) = Path(copy.cache).glob("arbiter/counts/bw_ticket-*.json")
+    same(json.loads(record.read_text())["proof"]["functions"], 82, "what a release has of it")
     same((status, out.split("\n")[-2]), (int(" 1 " in last), last), f"{out}{err}")
     same("gate: crates.txt: bw_ticket: may_wait=8, and the gate counted" in out, " 1 " in last)
 
