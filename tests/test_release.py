@@ -91,6 +91,7 @@ def test_twice_the_same(whole, installed, tmp_path):
     same(set(one) - {wheel}, {f"{TARBALL}.tar.gz", f"arbiter_host-{VERSION}.tar.gz", deb.name,
                               "PROVED.json", f"arbiter-{VERSION}.spdx.json", "SHA256SUMS",
                               "arbiter.krew.yaml"}, "files")
+    holds("it was run in no real cluster", one["arbiter.krew.yaml"].decode(), "the plug-in")
     krew = yaml.safe_load(one["arbiter.krew.yaml"])["spec"]
     (platform,) = krew["platforms"]
     same((krew["version"], platform["sha256"], platform["uri"].rpartition("/")[2]),
