@@ -142,7 +142,8 @@ def test_a_release_is_twice_the_same(release, tmp_path):
 def test_what_was_proved(release):
     """Each crate of crates.txt is counted, and the files that came of proofs have their hashes."""
     found = json.loads((release / "PROVED.json").read_text())
-    same(found["not_counted"], [], "crates that no log counts")
+    named = re.findall(r"^(\w+)[^#:\n]*:", (ROOT / "crates.txt").read_text(), re.M)
+    same(sorted(found["crates"]), sorted(named), "crates")
     assert found["commit"] == ended("git", "-C", ROOT, "rev-parse", "HEAD").strip()
     assert min(each["functions"] for each in found["crates"].values()) > 0
     asked = (ROOT / "independent/Assumptions.v").read_text()
