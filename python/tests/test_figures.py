@@ -220,6 +220,18 @@ def test_a_request_is_no_demand(ctl, two):
     assert (busy["kubepods/burstable/n:a/c0"], busy["kubepods/burstable/m:b/c0"]) == (125, -125)
     out, _ = ctl.run("diff", two, "--set", "n/a/c0.request=700m")
     assert "\nif all are busy (--want busy):\n" in out and "0.750  0.875  +0.125" in out
+    assert "  all that it wants; weight 28 (before: weight 12)  kubepods/burstable/n:a\n" in out
+
+
+def test_the_page_of_a_request_says_who_pays(ctl, two):
+    """Both tables stand before the groups. What is alike before and after has one bar, and a row
+    that differs by its weight alone says so."""
+    page, _ = ctl.run("diff", two, "--set", "n/a/c0.request=700m", "-o", "html")
+    heads = re.findall("<h2>(.*?)</h2>", page)
+    assert heads == ["Before and after", "If all are busy", "Groups"]
+    assert re.findall('<div class="when">(.*?)</div>', page) == ["before and after"]
+    assert "all that it wants; weight 28 <span" in page and "before: weight 12<" in page
+    assert "The proved check accepted all plans." in page and "-0.125" in page
 
 
 def test_other_changes_are_not_shown_for_busy(ctl, two):

@@ -61,19 +61,35 @@ class Pair:
         _, _, decimals = text.amount(self.plans[0], self.plans[0].root.gets, unit).partition(".")
         return (*gets, f"{change:+.{len(decimals)}f}" if change else "0", *wants)
 
-    def reason(self, is_wide: bool, has_before: bool) -> str:
+    def settings(self, unit: str) -> tuple[str, str]:
+        """The weight and the limit in both plans, those that differ. They have words where nothing
+        else tells why the group has a line."""
+        before, after = map(facts, self.plans, self.groups)
+        if before is None or after is None or before[:2] + before[4:] != after[:2] + after[4:]:
+            return "", ""
+        cells = [(f"weight {group.weight}", f"limit {text.amount(plan, group.limit, unit)}")
+                 for plan, group in zip(self.plans, self.groups) if group]
+        differ = [each for each in zip(*cells) if each[0] != each[1]]
+        was, now = zip(*differ) if differ else ((), ())
+        return "; ".join(was), "; ".join(now)
+
+    def reason(self, is_wide: bool, has_before: bool, unit: str) -> str:
         """Why the second plan gives its amount, and why the first did where that differs."""
         before, after = (explain.why(plan, group, is_wide) if group else None
                          for plan, group in zip(self.plans, self.groups))
         if before is None or after is None:
             return f"only before: {before}" if after is None else f"only after: {after}"
+        was, now = self.settings(unit)
+        if now:
+            before, after = was, f"{after}; {now}"
         return after if before == after or not has_before else f"{after} (before: {before})"
 
     def reasons(self, view: View) -> list[str]:
         """Its reason from long to short, as a table of that width may have it."""
-        whole = [self.reason(True, True)] if view.width >= WIDE else []
-        middle = [self.reason(False, True)] if whole else []
-        return [*whole, *map(explain.starred, whole), *middle, self.reason(False, False)]
+        whole = [self.reason(True, True, view.unit)] if view.width >= WIDE else []
+        middle = [self.reason(False, True, view.unit)] if whole else []
+        return [*whole, *map(explain.starred, whole), *middle,
+                self.reason(False, False, view.unit)]
 
 
 def name(pair: Pair) -> str:

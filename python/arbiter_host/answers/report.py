@@ -119,15 +119,17 @@ def change(pair: Pair, one: Pair, view: View) -> Row:
     was, now = (re.split("(?<=[;:]) ", "; ".join([*each, words]))
                 for each, words in ((was_marks, was_why), (marks, why)))
     same = len(os.path.commonprefix([was, now]))
+    set_before, set_now = pair.settings(view.unit)
     named = [(group, leaf) for group, leaf in zip(pair.groups, one.groups) if group and leaf]
     return {"name": explain.row_name(*named[-1]), "wants": wants,
             "wanted": wanted if wanted != wants else "",
-            "marks": marks, "why": why, "was": "" if was == now else " ".join(was[same:]),
+            "marks": marks, "why": f"{why}; {set_now}" if set_now else why,
+            "was": set_before if was == now else " ".join(was[same:]),
             "kind": KINDS.get(pair.style, "")}
 
 
-def changes(before: Plan, plan: Plan, view: View, words: Sequence[str]) -> dict[str, Any]:
-    """The table of what differs from an earlier plan, as a tree, and the words that change it."""
+def changes(before: Plan, plan: Plan, view: View) -> dict[str, Any]:
+    """The table of what differs from an earlier plan, as a tree."""
     differ, depth, rows = differing(before, plan, view), {".": -1}, []
     columns = Table(diff.columns(view), [one for _, one in differ]).shown_in("html")
     prefix = common_parent(pair.path for pair, one in differ
@@ -142,19 +144,25 @@ def changes(before: Plan, plan: Plan, view: View, words: Sequence[str]) -> dict[
                      "between": within(pair.path, prefix if above == "." else above),
                      "within": within(pair.path, prefix)})
     heads = [next(explain.head(each, view)) for each in (before, plan)]
-    return {"heads": list(dict.fromkeys(heads)), "rows": rows, "words": list(words),
+    return {"heads": list(dict.fromkeys(heads)), "rows": rows,
             "columns": [each.title for each in columns],
             "is_flat": bool(view.sort), "prefix": short(shown(prefix)),
             "is_below": all(path.startswith(f"{prefix}/") for path in depth if path != ".")}
 
 
 def page(plan: Plan, view: View = View(), title: str = "Plan", before: Plan | None = None,
-         words: Sequence[str] = ()) -> str:
-    """The whole page. With an earlier plan it also has what differs, by the words of a change."""
+         words: Sequence[str] = (), busy: tuple[Plan, Plan] | None = None) -> str:
+    """The whole page. With an earlier plan it also has what differs, by the words of a change, and
+    what differs if all are busy, where these plans are given."""
+    pairs = {"Before and after": (before, plan), "If all are busy": busy or (None, plan)}
+    tables = [{"title": name, **changes(one, two, view)} for name, (one, two) in pairs.items()
+              if one is not None]
     notes = [shown(each) for each in (*plan.model.refused, *plan.model.notes)]
-    hosts = [host(plan, view)] if before is None else [host(before, view, "before"),
-                                                       host(plan, view, "after")]
+    hosts = [host(plan, view)]
+    if before is not None:
+        both = host(before, view, "before"), host(plan, view, "after")
+        is_same = both[0]["figures"] == both[1]["figures"]
+        hosts = [host(plan, view, "before and after")] if is_same else [*both]
     return rendered("plan.html", title, explain.head(plan, view), hosts=hosts,
                     rows=rows_of(plan, view), notes=notes, elsewhere=explain.ELSEWHERE,
-                    open_changes=OPEN_CHANGES,
-                    changes=None if before is None else changes(before, plan, view, words))
+                    open_changes=OPEN_CHANGES, tables=tables, words=list(words))

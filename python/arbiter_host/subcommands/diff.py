@@ -78,7 +78,8 @@ def forms(options: argparse.Namespace, files: Sequence[Opened]) -> Forms:
     models = change.if_busy(before, after, options.set)
     busy = None if models is None else (plan(by, models[0]), plan(by, models[1]))
     return {**diff.answer(one, two, view, busy).forms(), "html": lambda: report.page(
-        two, view, f"Change of {source_name(options.source)}", one, [*map(shown, options.set)])}
+        two, view, f"Change of {source_name(options.source)}", one, [*map(shown, options.set)],
+        busy)}
 
 
 def run(options: argparse.Namespace) -> None:
