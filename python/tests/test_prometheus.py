@@ -530,12 +530,12 @@ def dripping(first, again):
 
 
 def is_told_in_time(url):
-    """Whether a question ends by a fault of one line soon after a deadline of a second, on a busy
-    machine too."""
+    """Whether a question ends by a fault of one line soon after a deadline of a second. Without it
+    there is no end. (a machine under load takes seconds for each step)"""
     began = time.monotonic()
     with pytest.raises(HostFault, match=r"^http.*: no whole answer in 1 seconds$") as fault:
         asked(url)
-    assert 0.9 < time.monotonic() - began < 15 and "\n" not in fault.value.message
+    assert 0.9 < time.monotonic() - began < 30 and "\n" not in fault.value.message
 
 
 @pytest.mark.parametrize("first, again", SLOW.values(), ids=list(SLOW))
@@ -553,7 +553,7 @@ def test_servers_that_are_slow_otherwise(monkeypatch):
         is_told_in_time(f"https://{address}")
     with dripping(b"", b"") as address, answering(moved(f"http://{address}/x")) as url:
         is_told_in_time(url)
-    monkeypatch.setattr(socket, "getaddrinfo", lambda *_, **__: time.sleep(5))
+    monkeypatch.setattr(socket, "getaddrinfo", lambda *_, **__: time.sleep(60))
     is_told_in_time("http://prometheus.invalid")
 
 
