@@ -296,6 +296,13 @@ def test_the_page_has_the_pods(ctl, folder):
     assert "Pods that no node has yet" in text and "team/huge" in text
 
 
+def test_the_page_has_the_notes(ctl):
+    given = cluster(node("n1"), node("n2"), running("big", "n2", "3"))
+    page, _ = ctl.run("explain", "-", *NEEDS, "-o", "html", given=given)
+    assert "<summary>Warnings: 1</summary>" in page
+    assert "<li>n2: the pods request 3000m of the 2000m that the node has" in page
+
+
 # As kubectl has it
 
 def running(name, node_, request="100m", namespace="x", owner=(), **metadata):
@@ -428,13 +435,14 @@ def test_notes_of_a_change_of_many(ctl):
 
 def test_a_cluster_of_one_namespace_is_told_once():
     """A node may have pods of one namespace alone, or none, where others have others."""
-    nodes = [{**node(name), "status": {**node(name)["status"], "nodeInfo": {"kubeletVersion": "v1"}}}
-             for name in ("n1", "n2")]
-    one, two = running("a", "n1"), running("b", "n2", namespace="y")
-    for pods_, spaces in (([one, two], 2), ([one], 1), ([one, {**two, "metadata": one["metadata"]
-                                                              | {"name": "b"}}], 1)):
-        fleet = hosts.of_cluster("F", [*nodes, *pods_], lambda: None)
-        assert sum("all pods are of the namespace x" in each for each in fleet.notes) == (spaces == 1)
+    nodes = [node("n1"), node("n2")]
+    for each in nodes:
+        each["status"]["nodeInfo"] = {"kubeletVersion": "v1"}
+    one, same, other = (running("a", "n1"), running("b", "n2"),
+                        running("b", "n2", namespace="y"))
+    for pods_, is_told in (([one, other], False), ([one], True), ([one, same], True)):
+        notes = hosts.of_cluster("F", [*nodes, *pods_], lambda: None).notes
+        assert any("all pods are of the namespace x" in each for each in notes) == is_told
 
 
 def test_recommend_tells_what_an_autoscaler_drives(ctl, folder):

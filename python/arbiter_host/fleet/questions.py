@@ -2,7 +2,6 @@
 from __future__ import annotations
 
 import os
-import re
 from collections.abc import Callable, Iterator, Sequence
 from contextlib import closing
 from dataclasses import replace
@@ -93,25 +92,12 @@ def asked(planners: Planners, job: Job, fleet: Fleet,
     return [found[name] for name in sorted(found)], sorted(missing.items())
 
 
-def tell(hosts: Sequence[HostAnswer]) -> None:
-    """Tells on standard error what the sources of hosts could not say. Notes that differ in numbers
-    alone are told once: the first of them, and of how many more hosts there are such."""
-    alike: dict[str, dict[str, str]] = {}
-    for host in hosts:
-        lines = len(host.answer["refused"])
-        for note in [*([f"lines refused: {lines}"] if lines else []), *host.answer["notes"]]:
-            alike.setdefault(re.sub("[0-9]+", "0", note), {}).setdefault(host.name, note)
-    Remarks().tell(f"{next(iter(notes))}: {next(iter(notes.values()))}" + (
-        f" (so of {len(notes) - 1} more: -o json)" if len(notes) > 1 else "")
-                   for notes in alike.values())
-
-
 def reported(name: str, planners: Planners, job: Job, fleet: Fleet, rule: str,
              samples: Samples | None = None) -> tuple[Report, Callable[[], None]]:
     """The report of a question of some name, and what raises a fault where a host is not answered,
     or where a pod fits on none. With the plans of a cluster goes where its pods go that wait."""
     hosts, missing = asked(planners, job, fleet, samples)
-    tell(hosts)
+    Remarks().tell(report.notes_of(hosts))
     words, asks = job.selection.words, job.action is Action.PLAN
     if words and hosts and not (any(host.answer["groups"] for host in hosts) or asks and any(
             is_chosen(job.selection, each) for each in fleet.pending)):

@@ -1,6 +1,7 @@
 """The report of many hosts: what each question's answers come to, as lines, rows and data."""
 from __future__ import annotations
 
+import re
 from collections.abc import Callable, Iterable, Mapping, Sequence
 from dataclasses import dataclass, replace
 from fractions import Fraction
@@ -44,6 +45,20 @@ class Report:
     missing: list[tuple[str, str]]
     data: dict[str, Any]
     bars: list[dict[str, Any]]
+    notes: list[str]
+
+
+def notes_of(hosts: Sequence[HostAnswer]) -> list[str]:
+    """The notes of what the sources of hosts could not say. Of those that differ in numbers alone
+    the first stands for all, and says how many more hosts have such."""
+    alike: dict[str, dict[str, str]] = {}
+    for host in hosts:
+        lines = len(host.answer["refused"])
+        for note in [*([f"lines refused: {lines}"] if lines else []), *host.answer["notes"]]:
+            alike.setdefault(re.sub("[0-9]+", "0", note), {}).setdefault(host.name, note)
+    return [f"{next(iter(notes))}: {next(iter(notes.values()))}" + (
+        f" (so of {len(notes) - 1} more: -o json)" if len(notes) > 1 else "")
+            for notes in alike.values()]
 
 
 # Lines, tables, the same as data, and the CPUs of each bar by its name.
@@ -339,7 +354,7 @@ def built(action: Action, name: str, hosts: Sequence[HostAnswer],
     if action is Action.PODS:  # (whose order it is stands before anything that is ordered)
         lines[:2] = lines[1::-1]
     return Report(TITLES[action], lines, tables if has_any else [],
-                  list(missing), data, bars if has_any else [])
+                  list(missing), data, bars if has_any else [], notes_of(hosts))
 
 
 class Waiting(NamedTuple):
@@ -441,4 +456,5 @@ def page(report: Report, words: Sequence[str] = ()) -> str:
     missing = [(shown(name), shown(why)) for name, why in report.missing]
     return rendered("fleet.html", report.title, report.lines, hosts=report.bars,
                     tables=[each.page() for each in report.tables if each.records],
-                    words=list(map(shown, words)), missing=missing)
+                    words=list(map(shown, words)), missing=missing,
+                    notes=list(map(shown, report.notes)))

@@ -657,8 +657,8 @@ def namespace_note(namespaces: Set[str], nodes: Iterable[dict[str, Any] | None])
     has runs pods of the cluster's own too."""
     if len(namespaces) != 1 or not any(field(each, "status", "nodeInfo") for each in nodes):
         return []
-    return [f"all pods are of the namespace {shown(*namespaces)}: where others run on this node too,"
-            " these are given what is theirs (kubectl get pods -A)"]
+    return [f"all pods are of the namespace {shown(*namespaces)}: where others run on this node"
+            " too, these are given what is theirs (kubectl get pods -A)"]
 
 
 def pods_notes(pods: Sequence[Pod], allocatable: int | None) -> list[str]:
