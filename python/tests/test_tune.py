@@ -531,7 +531,7 @@ def test_words_that_are_needed(ctl, folder):
 # Settings that people own
 
 
-def node_of(folder):
+def node_of(folder, **requests):
     """Pods of 100m and 300m on a node of one CPU: weights 4 and 12, so 25 and 75 of 100 slices."""
     def pod(name, request):
         return {"kind": "Pod", "metadata": {"name": name, "namespace": "x", "uid": name}, "spec": {
@@ -539,9 +539,17 @@ def node_of(folder):
 
     node = {"kind": "Node", "metadata": {"name": "n"},
             "status": {"capacity": {"cpu": "1"}, "allocatable": {"cpu": "1"}}}
+    pods = {"a": "100m", "b": "300m", **requests}
     (folder / "n.json").write_text(json.dumps({"kind": "List", "items": [
-        pod("a", "100m"), pod("b", "300m"), node]}))
+        *(pod(*each) for each in pods.items()), node]}))
     return folder / "n.json"
+
+
+def after_sets(ctl, source, way, words):
+    """What groups get in the plan that `--set` makes of an answer."""
+    sets = [word for each in way["set"] for word in ("--set", each)]
+    out, _ = ctl.run("diff", source, *words, *sets, "-o", "json")
+    return {each["group"]: each["gets"]["millicpu"] for each in json.loads(out)["after"]["groups"]}
 
 
 def test_requests(ctl, folder):
@@ -576,10 +584,7 @@ def test_a_limit_in_the_way(ctl, folder):
         ("request", "100m", "182m"), ("limit", "300m", "400m")]
     assert way["set"] == [f"{path}.request=182m", f"{path}.limit=400m"]
     assert way["then_millicpu"] == [400] and tune_settings.LIFTED in way["told"]
-    sets = [word for each in way["set"] for word in ("--set", each)]
-    out, _ = ctl.run("diff", source, *words, *sets, "-o", "json")
-    gets = {each["group"]: each["gets"]["millicpu"] for each in json.loads(out)["after"]["groups"]}
-    assert gets[path] == 400
+    assert after_sets(ctl, source, way, words)[path] == 400
     # A limit that is kept stays in the way.
     assert not asked(ctl, source, "x/a/c=400m", words=[*words, "-g", "x/b/c"])["met"]
     out, _ = ctl.run("tune", source, *words, "--goal", "x/a=400m")
@@ -595,19 +600,70 @@ def test_a_quota_in_the_way(ctl, folder):
         ("CPUQuota", "30%", "50%")]
 
 
-def test_requests_that_are_not_found(ctl, folder):
-    """a's request is kept: then b's limit of 600m gives a its 400m.
+BUSY = ["--want", "busy", "--period", "100ms"]
+A, B, C = (f"kubepods/burstable/x:{name}/c" for name in "abc")
 
-    b requests 300m, so no limit of it gives a 750m.
+
+def test_requests_of_others_are_lowered(ctl, folder):
+    """The node has nothing left, so a's request takes what b's gives. b weighs 24 with 613m, and a
+    16 with the 387m left. So a's slice 40 costs 79/16, and b's slice 61 121/24.
+
+    With 614m of b a has 386m, which weigh 15, and 79/15 is more. c has 300m beside b's 600m: the
+    level is 309m, and c stays.
     """
-    words, path = ["--want", "busy"], "kubepods/burstable/x:b/c"
-    found = asked(ctl, node_of(folder), "x/a/c=400m", words=[*words, "-g", "x/b/c"])
-    assert limits(found) == {(path, "limit"): ("-", "600m")}
+    source = node_of(folder, b="900m")
+    found = asked(ctl, source, "x/a/c=400m", words=["--want", "busy"])
+    way = found["settings"]
+    assert changes(way) == {A: ("100m", "387m"), B: ("900m", "613m")}
+    assert way["told"] == (tune_settings.RAISED + goals_.NEEDED + tune_settings.LOWERED
+                           + tune_settings.FOLLOW.format("x:a, x:b"))
+    assert way["then_millicpu"] == [400] and after_sets(ctl, source, way, BUSY)[A] == 400
+    source = node_of(folder, b="600m", c="300m")
+    way = asked(ctl, source, "x/a/c=400m", words=["--want", "busy"])["settings"]
+    assert changes(way) == {A: ("100m", "387m"), B: ("600m", "309m")}
+    assert after_sets(ctl, source, way, BUSY)[A] == 400
+
+
+def test_only_a_request_of_another_may_change(ctl, folder):
+    """a's slice 40 costs 79/4, and b's slice 61 121/v: v is 6 at most, which 159 shares have. Its
+    slice 75 costs 149/4, and b's slice 26 51/v: v is 1, of 28 shares and of as many thousandths.
+
+    The sum of burstable falls with them, which is told.
+    """
+    source, words = node_of(folder), ["--want", "busy", "-g", "x/b/c"]
+    found = asked(ctl, source, "x/a/c=400m", words=words)
+    assert changes(found["settings"]) == {B: ("300m", "156m")}
+    assert found["settings"]["told"].endswith(tune_settings.FOLLOW.format("burstable, x:b"))
+    way = asked(ctl, source, "x/a/c=750m", words=words)["settings"]
+    assert changes(way) == {B: ("300m", "28m")} and after_sets(ctl, source, way, BUSY)[A] >= 750
+
+
+def test_requests_that_demands_follow_are_not_lowered(ctl, folder):
+    """What b asks for is its request, which the node has."""
+    found = asked(ctl, node_of(folder, b="900m"), "x/a/c=101m", words=["--want", "request"])
+    assert not found["met"] and "no request reaches its goal" in found["no_settings"]
+    assert tune_settings.NOR not in found["no_settings"]
+
+
+def test_requests_that_are_not_found(ctl, folder):
+    """b of 1m requests no less: then b's limit of 100m gives a its 900m.
+
+    700m and 400m are more than the node has, so that no weights give them. Weights give a the whole
+    CPU, but no requests that the node has.
+    """
+    words = ["--want", "busy"]
+    found = asked(ctl, node_of(folder, b="1m"), "x/a/c=900m", words=[*words, "-g", "x/b/c"])
+    assert limits(found) == {(B, "limit"): ("-", "100m")}
     assert "its setting is kept" in found["no_settings"]
-    found = asked(ctl, node_of(folder), "x/a/c=750m", words=[*words, "-g", "x/b/c"])
-    assert not found["met"] and found["limits"] is None
     found = asked(ctl, node_of(folder), "x/a/c=400m", "x/b/c=700m", words=words)
     assert not found["met"] and "no request reaches its goal" in found["no_settings"]
+    words = [*words, "--period", "100ms"]
+    out, _ = ctl.run("tune", node_of(folder), *words, "--goal", "x/a/c=400m", "--goal",
+                     "x/b/c=700m", status=6)
+    assert "no weights of any groups meet these goals together by today's demands" in out
+    out, _ = ctl.run("tune", node_of(folder, b="900m"), *words, "-g", "x/a/c", "-g", "x/b/c",
+                     "--goal", "x/a/c=1cpu", status=6)
+    assert "no requests were found that meet this goal by today's demands" in out
 
 
 def unit(name, weight):

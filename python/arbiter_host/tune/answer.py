@@ -145,13 +145,12 @@ class TuneAnswer:
         asked = self.words(self.tuned.asked.needs[clash.group.row])
         there = f"served in all: {most}" if is_host else f"{where} can be given {most} at most"
         kept = self.tuned.asked.kept & self.tuned.asked.paths
-        own = self.tuned.asked.has_requests
-        return [(f"no weights {'of their own groups' if own else 'that may change'} meet"
-                 f" {which}{inside} {self.where}", "yellow"),
+        whose = ("requests were found that" if not clash.is_of_all else "weights of any groups"
+                 ) if self.tuned.asked.has_requests else "weights that may change"
+        return [(f"no {whose} meet {which}{inside} {self.where}", "yellow"),
                 ("", ""), self.goals(clash.goals), *plain(
                 "", f"asked for in all: {asked}; {there}",
-                "nor were limits of other groups found with which they are met"
-                + ("; lower requests of these were not tried" if own else "")),
+                "nor were limits of other groups found with which they are met"),
                 *((f"{name(goal.group.path)} asks for less: no setting gives it more than it asks"
                    " for", "yellow") for goal in clash.goals if goal.group.want < goal.amount),
                 *plain(*(f"the settings of {name(self.before.groups[row].path)} stay as they are"

@@ -46,6 +46,8 @@ class Clash(NamedTuple):
 
     group: PlannedGroup
     goals: tuple[Goal, ...]
+    # Whether that is so of all weights of all groups.
+    is_of_all: bool = False
 
 
 @dataclass(frozen=True)
@@ -176,13 +178,12 @@ class Goals:
     def plan(self, weights: Sequence[int]) -> Plan:
         return self.plan_of(with_weights(self.before.model, weights))
 
-    def needed(self, rows: Sequence[int], plan_with: Callable[[Sequence[int]], Plan],
-               what: str) -> tuple[Sequence[int], str]:
+    @staticmethod
+    def needed(rows: Sequence[int], meets: Callable[[Sequence[int]], bool], what: str
+               ) -> tuple[Sequence[int], str]:
         """The rows of which no change can be left out, and what is known of them then. Of many
         none is tried."""
-        if len(rows) > MOST_LEFT:
-            return rows, ""
-        return search.needed(rows, lambda some: self.short(plan_with(some)) is None, what), NEEDED
+        return (rows, "") if len(rows) > MOST_LEFT else (search.needed(rows, meets, what), NEEDED)
 
     def way(self, after: Plan, changes: Sequence[NewSetting], told: str) -> Way:
         """Settings whose accepted plan has to meet all goals."""

@@ -15,7 +15,7 @@ from arbiter_host.tune.goals import Clash, Goals, Way, goals_of
 from arbiter_host.tune.other_limits import by_limits
 from arbiter_host.tune.single_settings import SingleSetting
 from arbiter_host.tune.tune_settings import by_settings
-from arbiter_host.tune.tune_weights import best_weights
+from arbiter_host.tune.tune_weights import best_weights, clash_of_all
 
 
 @dataclass(frozen=True)
@@ -58,6 +58,8 @@ def tune(before: Plan, words: Sequence[str], is_guaranteed: bool = False,
     weights = best_weights(asked)
     settings = by_settings(asked, weights)
     is_met = isinstance(weights, Way) or isinstance(settings, Way)
+    if isinstance(weights, Clash) and not is_met and asked.has_requests:
+        weights = clash_of_all(asked, weights)
     is_alone = len(goals) == 1 and not is_guaranteed and chosen is None
     return Tuned(asked, asked.amounts(before), weights, settings,
                  None if is_met or asked.beyond else by_limits(asked),

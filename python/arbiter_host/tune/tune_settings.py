@@ -1,7 +1,8 @@
 """Settings that people own, such as requests, with which goals are met.
 
 They are raised one after another over accepted plans. A limit that is in the way is raised with
-what weighs its group.
+what weighs its group. Where that is not enough, requests of others are lowered, unless demands are
+requests.
 """
 from __future__ import annotations
 
@@ -10,15 +11,19 @@ from dataclasses import dataclass, replace
 
 from arbiter_host.base import owned, search
 from arbiter_host.base.model import Model
-from arbiter_host.base.names import shown
+from arbiter_host.base.names import few, last_name, shown
 from arbiter_host.base.owned import Owned, Range, Setting
 from arbiter_host.base.plan import Plan
-from arbiter_host.tune.goals import Clash, Goal, Goals, NewSetting, Way
+from arbiter_host.tune.goals import MOST_LEFT, Clash, Goal, Goals, NewSetting, Way
 
 # At most so many settings are raised one by one.
 MOST_RAISES = 200
 RAISED = "one after another, each the least beside the others; not proved to be the least"
 LIFTED = "; a limit that is in the way is raised too"
+LOWERED = ("; requests of others are lowered to one level, the greatest that was found beside these"
+           " raises; not proved to be the greatest")
+FOLLOW = "; the plan has the weights of {} too, which follow from sums of requests"
+NOR = "; nor does one where others request 1m"
 
 
 @dataclass(frozen=True)
@@ -43,8 +48,23 @@ class Raised:
     def only(self, rows: Sequence[int]) -> Raised:
         return replace(self, settings={row: self.settings[row] for row in rows})
 
-    def plan_with(self, rows: Sequence[int]) -> Plan:
-        return self.only(rows).plan()
+    @property
+    def changed(self) -> Owned:
+        return self.source.changed(self.every) if self.every else self.source
+
+    @property
+    def is_met(self) -> bool:
+        """Whether all goals are met, and the node has what is requested, or no less is left of it
+        than before."""
+        (asked, has), was = ((each.totals() or (0, None)) for each in (self.changed, self.source))
+        return (has is None or asked <= max(has, was[0])) and self.goals.short(self.plan()) is None
+
+    def lowered(self, rows: Sequence[int], level: int) -> Raised:
+        """These, where groups of some rows request at most so many thousandths."""
+        paths = {row: self.goals.before.groups[row].path for row in rows}
+        least = {row: (Setting(path, self.source.keys[0], self.source.written(level, None)[0]),)
+                 for row, path in paths.items() if (self.source.now(path).request or 0) > level}
+        return replace(self, settings={**self.settings, **least})
 
     def with_value(self, row: int, of: Range, value: int) -> Raised:
         setting = Setting(self.goals.before.groups[row].path, of.key, of.written(value))
@@ -53,7 +73,7 @@ class Raised:
 
     def ranges(self, row: int) -> list[Range]:
         """The values of the settings of a row, beside the others."""
-        changed = self.source.changed(self.every) if self.every else self.source
+        changed = self.changed
         return changed.ranges(list(changed.plain.groups)[row - 1])
 
     def least(self, goal: Goal, row: int, of: Range) -> int | None:
@@ -91,6 +111,12 @@ class Raised:
             return self.with_value(row, of, value)
         return self.lifted(goal, row) or (
             f"{shown(goal.group.path)}: no {of.key} reaches its goal ({of.most})")
+
+    def topped(self, goal: Goal) -> Raised:
+        """Settings with the greatest value of what weighs one goal's group, where it may change."""
+        row = self.row_of(goal)
+        of = None if isinstance(row, str) else self.ranges(row)[0]
+        return self if of is None else self.with_value(row, of, of.parts[-1][1])
 
     def lifted(self, goal: Goal, row: int) -> Raised | None:
         """Settings with the least value that meets one goal under the greatest limit, and then the
@@ -141,6 +167,45 @@ def raised(start: Raised) -> Raised | str:
     return f"goals are not met after {MOST_RAISES} raises"
 
 
+def lowerable(goals: Goals, source: Owned) -> list[int]:
+    """The rows of others whose requests may be lowered, those that request most first: of no goal's
+    group, and where no class of a pod changes by it. None where demands are requests."""
+    if not goals.has_requests or goals.beyond or source.busy():
+        return []
+    asked = {group.row: source.now(group.path).request or 0 for group in goals.others
+             if source.has(group.path) and group.row not in goals.kept
+             and not source.is_guaranteed(group.path)}
+    return sorted((row for row in asked if asked[row] > 1), key=lambda row: -asked[row])[:MOST_LEFT]
+
+
+def lowered(start: Raised, why: str) -> Raised | str:
+    """Settings that meet all goals beside lower requests of others, or why none were found.
+
+    The level of these is found by halving. A lower one leaves goals' groups more, but for what a
+    class loses by the sum of its requests; so each is tried by plans.
+    """
+    rows = lowerable(start.goals, start.source)
+    if not rows:
+        return why
+    most = start.source.now(start.goals.before.groups[rows[0]].path).request or 0
+
+    def meets(less: int) -> bool:
+        low = start.lowered(rows, most - less)
+        place = start.goals.short(low.plan())
+        # (one raise to the greatest is quicker than to find its least)
+        return place is None or low.topped(start.goals.goals[place]).is_met or isinstance(
+            raised(low), Raised)
+
+    return raised(start.lowered(rows, most - search.least(1, most - 1, meets))) if meets(
+        most - 1) else why + NOR
+
+
+def followers(goals: Goals, source: Owned, after: Plan) -> list[str]:
+    """The names of the groups without such settings whose weights are others in a plan."""
+    return [shown(last_name(now.path)) for now, then in zip(goals.before.groups, after.groups)
+            if now.weight != then.weight and not source.has(now.path)]
+
+
 def by_settings(goals: Goals, weights: Way | Clash) -> Way | str | None:
     """Settings that people own and that meet all goals, or why none were found; None where the
     source has none."""
@@ -151,12 +216,18 @@ def by_settings(goals: Goals, weights: Way | Clash) -> Way | str | None:
     if isinstance(weights, Way):
         start = start.weighed(weights.plan.weights) or start
     known = raised(start)
+    known = lowered(start, known) if isinstance(known, str) else known
     if isinstance(known, str):
         return known
-    rows, more = goals.needed(sorted(known.settings), known.plan_with, "settings")
+    best = known
+    rows, more = goals.needed(sorted(known.settings), lambda some: best.only(some).is_met,
+                              "settings")
     known = known.only(rows)
     after, is_lifted = known.plan(), source.keys[1] in {each.key for each in known.every}
     told = RAISED + more + (LIFTED if is_lifted else "")
+    if not known.settings.keys().isdisjoint(lowerable(goals, source)):
+        follow = followers(goals, source, after)
+        told += LOWERED + (FOLLOW.format(few(follow)) if follow else "")
     if isinstance(weights, Way) and after.weights == weights.plan.weights and not is_lifted:
         told = weights.told
     return goals.way(after, known.changes(), told)

@@ -6,7 +6,7 @@ Where no such weights meet the goals, those of groups beside are lowered to the 
 """
 from __future__ import annotations
 
-from collections.abc import Collection, Mapping
+from collections.abc import Collection, Mapping, Sequence
 from dataclasses import replace
 
 from arbiter_host.base import units
@@ -20,20 +20,19 @@ LEVEL = (f"{MEET}, beside others that are lowered to one weight, the greatest wi
 HALF = "leave each other group half of what it gets"
 
 
-def own_weights(goals: Goals, keeps: Mapping[int, int], beside: Collection[int]
-                ) -> list[int] | Clash:
+def own_weights(goals: Goals, keeps: Mapping[int, int], may: Sequence[bool]) -> list[int] | Clash:
     """The weight of each row where all goals are met, or goals that no weights meet together. Some
     rows keep slices, as by goals of their own, and some beside the goals may be lowered."""
     before = goals.before
     column = [max(amount, keeps.get(row, 0)) for row, amount in enumerate(goals.column)]
     with asking("tune"):
-        answer = before.engine.library.tune(before.planned_host, goals.columns, column,
-                                            goals.may(beside), goals.is_guaranteed)
+        answer = before.engine.library.tune(before.planned_host, goals.columns, column, may,
+                                            goals.is_guaranteed)
     if isinstance(answer, list):
         return answer
     group = before.groups[answer]
     inside = {each.row for each in walk([group])}
-    return Clash(group, tuple(goal for goal in goals.goals if goal.group.row in inside))
+    return Clash(group, tuple(goal for goal in goals.goals if goal.group.row in inside), all(may))
 
 
 def halves(goals: Goals) -> dict[int, int]:
@@ -53,7 +52,7 @@ def halves(goals: Goals) -> dict[int, int]:
 def by_weights(goals: Goals, keeps: Mapping[int, int] = {},
                beside: Collection[int] = ()) -> Way | Clash:
     """The weights as settings with their accepted plan."""
-    answer = own_weights(goals, keeps, beside)
+    answer = own_weights(goals, keeps, goals.may(beside))
     if isinstance(answer, Clash):
         return answer
     changes = [NewSetting(group.path, "weight", str(group.weight), str(weight))
@@ -61,6 +60,13 @@ def by_weights(goals: Goals, keeps: Mapping[int, int] = {},
     lower = {row for row, (now, then) in enumerate(zip(goals.before.weights, answer)) if then < now}
     told = LEVEL if lower.intersection(beside) else LOWER if lower else LEAST
     return goals.way(goals.plan(answer), changes, told)
+
+
+def clash_of_all(goals: Goals, clash: Clash) -> Clash:
+    """Goals that no weights of any groups meet together, where there are such; else a clash of the
+    weights that may change. Whatever is requested, it makes weights."""
+    answer = own_weights(goals, {}, [True] * len(goals.before.groups))
+    return answer if isinstance(answer, Clash) else clash
 
 
 def best_weights(goals: Goals) -> Way | Clash:
