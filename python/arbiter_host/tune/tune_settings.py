@@ -115,8 +115,10 @@ class Raised:
     def topped(self, goal: Goal) -> Raised:
         """Settings with the greatest value of what weighs one goal's group, where it may change."""
         row = self.row_of(goal)
-        of = None if isinstance(row, str) else self.ranges(row)[0]
-        return self if of is None else self.with_value(row, of, of.parts[-1][1])
+        if isinstance(row, str):
+            return self
+        of = self.ranges(row)[0]
+        return self.with_value(row, of, of.parts[-1][1])
 
     def lifted(self, goal: Goal, row: int) -> Raised | None:
         """Settings with the least value that meets one goal under the greatest limit, and then the
