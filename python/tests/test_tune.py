@@ -691,6 +691,21 @@ def test_shares(ctl, folder):
     assert changes(found["settings"]) == {"system.slice/a": ("1024", "2021")}
 
 
+def test_a_lowered_weight_is_just_that_of_its_number(calls, monkeypatch):
+    """a's slice 90 costs 179/39, and b's slice 11 21/v: v is 4 at most, from 81 shares on. A number
+    that weighed more would leave a less."""
+    data = json.dumps([{"Id": name * 64, "Name": f"/{name}", "HostConfig": {"CpuShares": shares}}
+                       for name, shares in (("a", 1024), ("b", 2048))]).encode()
+    before = plan(Engine(calls), reading.docker([("d", data)], Host(1, 100000, 1000), calls))
+    found = tune.tune(before, ["a=900m"], chosen=["system.slice/b"])
+    assert found.owned.words == ["system.slice/b.cpu-shares=81"]
+    start = tune_settings.Raised(found.asked, before.model.owned, {})
+    weights = found.weights.plan.weights
+    assert start.weighed(weights).every == [("system.slice/b", "cpu-shares", "81")]
+    monkeypatch.setattr(calls, "owned_weight", lambda *_: 5, raising=False)
+    assert start.weighed(weights) is None
+
+
 def test_quotas_of_units(ctl, folder):
     """A weight of 1 stays: a has 90 of 100 slices where b has 10, by its quota.
 

@@ -9,7 +9,7 @@ from __future__ import annotations
 from collections.abc import Sequence
 from dataclasses import dataclass, replace
 
-from arbiter_host.base import owned, search
+from arbiter_host.base import owned, search, units
 from arbiter_host.base.model import Model
 from arbiter_host.base.names import few, last_name, shown
 from arbiter_host.base.owned import Owned, Range, Setting
@@ -138,15 +138,18 @@ class Raised:
         return None if most is None else wide.with_value(row, limit, most)
 
     def weighed(self, weights: Sequence[int]) -> Raised | None:
-        """Settings with the least that give groups some weights at least, and no other
-        group another weight. None where a group that changes has no such setting."""
+        """Settings with the least that give groups just some weights, and no other group another
+        weight. None where a group that changes has no such setting, or no value of it the weight.
+        """
         known = self
         for group, weight in zip(self.goals.before.groups, weights):
             if weight == group.weight:
                 continue
             if not self.source.has(group.path) or "request" in self.source.keys:
                 return None
-            value = self.goals.before.engine.library.least_owned(self.source.formula, weight)
+            value = units.least_of(self.goals.before.engine.library, self.source.formula, weight)
+            if value is None:
+                return None
             known = known.with_value(group.row, self.source.weighing(group.path), value)
         return known
 
