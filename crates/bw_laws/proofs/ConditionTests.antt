@@ -7,7 +7,7 @@ use Rattle.std.specs.List.{list_all, range_with_len}
 use Rattle.std.specs.Option.{option_map_or}
 use Rattle.std.proofs.lemmas.Bool.{and_parts, and_from, or_cases, or_left, or_right, eqb-true}
 use Rattle.std.proofs.lemmas.Bool.{ltb-true, leb-true, lt-ltb, eq-eqb, not-true, both_ways}
-use Rattle.std.proofs.lemmas.Bool.{false≢true}
+use Rattle.std.proofs.lemmas.Bool.{not_from_true}
 use Rattle.std.proofs.lemmas.List.FromFn.{get_or-range_with_len, length-range_with_len}
 use Rattle.bw_model.specs.Marks.{MarkValue, price_of, last_mark, next_mark, IsBelow}
 use Rattle.bw_model.specs.Groups.{Groups, parent_of, weight_of, sum_of_children, is_leaf, limit_of}
@@ -101,10 +101,6 @@ is_below-from m n h = elim h [
   ]))
 ]
 
-unless : (b c : Bool) → (not b || c) ≡ true → b ≡ true → c ≡ true
-unless true c e h = e
-unless false c e h = absurd (false≢true h)
-
 otherwise : (b c : Bool) → (b || c) ≡ true → b ≡ false → c ≡ true
 otherwise true c e h = absurd (both_ways true h refl)
 otherwise false c e h = e
@@ -162,18 +158,19 @@ module _ (groups : Groups) (amounts : List ℕ) (certificate : Certified) (bound
       let two = and_parts _ _ one.1 in
       (eqb-true _ _ one.0, eqb-true _ _ two.0, eqb-true _ _ two.1)
   is_free-true OverLimit g e = λ limit is. leb-true _ _ (rw is at e)
-  is_free-true OverDemand g e = λ leaf. leb-true _ _ (unless _ _ e leaf)
+  is_free-true OverDemand g e = λ leaf. leb-true _ _ (otherwise _ _ e (not_from_true _ leaf))
   is_free-true SumDiffers g e = λ inner. eqb-true _ _ (otherwise _ _ e inner)
-  is_free-true FlagWithoutLimit g e = λ flagged. unless _ _ e flagged
+  is_free-true FlagWithoutLimit g e = λ flagged. otherwise _ _ e (not_from_true _ flagged)
   is_free-true NotGreatest g e = eqb-true _ _ e
   is_free-true LevelMissing g e =
-      λ inner some. unless _ _ (otherwise _ _ e inner) (lt-ltb _ _ some)
+      λ inner some. otherwise _ _ (otherwise _ _ e inner) (not_from_true _ (lt-ltb _ _ some))
   is_free-true LastMarkAbove c e = λ g level up some is part above.
-      let v = rw is at (unless _ _ (rw up at e) (lt-ltb _ _ some)) in
-      both_ways _ (not-true _ (unless _ _ v (lt-ltb _ _ part))) (is_below-from _ _ above)
+      let v = rw is at (otherwise _ _ (rw up at e) (not_from_true _ (lt-ltb _ _ some))) in
+      let less = not_from_true _ (lt-ltb _ _ part) in
+      both_ways _ (not-true _ (otherwise _ _ v less)) (is_below-from _ _ above)
   is_free-true NextMarkNotAbove c e = λ g level up some is room.
-      let v = rw is at (unless _ _ (rw up at e) (lt-ltb _ _ some)) in
-      is_below-true _ _ (unless _ _ v (lt-ltb _ _ room))
+      let v = rw is at (otherwise _ _ (rw up at e) (not_from_true _ (lt-ltb _ _ some))) in
+      is_below-true _ _ (otherwise _ _ v (not_from_true _ (lt-ltb _ _ room)))
 
   -- the conditions of all faults, but those that are left out
   abbrev pub are_free : (CheckFault → Bool) → Bool

@@ -5,6 +5,7 @@ use Rattle.std.specs.Prelude.{max, sum, nat_lt, nat_le, not, ◌&&◌, ◌||◌,
 use Rattle.std.proofs.lemmas.Bool.{cases_Bool, cases_eq, cases_lt, lt-ltb, le-ltb, le-leb, lt-leb}
 use Rattle.std.proofs.lemmas.Bool.{leb-true, leb-false, ltb-false, and_from, and_left, and_right}
 use Rattle.std.proofs.lemmas.Bool.{and_cases, and_parts, or_left, or_right, or_cases}
+use Rattle.std.proofs.lemmas.Bool.{not-true, not_from_false}
 use Rattle.bw_model.specs.Host.{Shape, IsHost, slices_per_processor}
 use Rattle.bw_model.specs.declared.limits.TheConstants.{MAX_DEMAND}
 use Rattle.bw_model.proofs.CallerLemmas.{sum_below, sum-is, sum_below-ap, sum_below-le}
@@ -492,14 +493,6 @@ Reasons shape times ran waited = (times.used_us ≡ 0)
     ⊎ (shape.processors * times.passed_ns
     ≤ could_use times (sums_of times.passed_ns ran waited))
 
-not_true : (b : Bool) → not b ≡ true → b ≡ false
-not_true true e = absurd (let clash : false ≡ true = e in cc)
-not_true false e = refl
-
-not_false : (b : Bool) → b ≡ false → not b ≡ true
-not_false true e = absurd (let clash : true ≡ false = e in cc)
-not_false false e = refl
-
 reasons_of : (shape : Shape) (times : RoundTimes) (ran waited : List ℕ)
     → asks_for_all shape.processors times (sums_of times.passed_ns ran waited) ≡ true
     → Reasons shape times ran waited
@@ -511,7 +504,7 @@ reasons_of shape times ran waited all =
           (could_use times tasks) whole))
       | inl little ↦ elim (and_cases (nat_lt 0 times.used_us)
           (nat_le (19 * (1000 * times.used_us)) (20 * tasks.ran))
-          (not_true (tell 19 times tasks) little)) [
+          (not-true (tell 19 times tasks) little)) [
             | inl none ↦ inl (let le = ltb-false 0 times.used_us none in omega (arith, le))
             | inr less ↦
                 let lt = leb-false (19 * (1000 * times.used_us)) (20 * tasks.ran) less in
@@ -528,7 +521,7 @@ all_where shape times ran waited why =
     → asks_for_all shape.processors times tasks ≡ true =
     λ e. or_left (not (tell 19 times tasks))
     (nat_le (shape.processors * times.passed_ns) (could_use times tasks))
-    (not_false (tell 19 times tasks) e) in
+    (not_from_false (tell 19 times tasks) e) in
     elim why [
       | inl none ↦ little (and_left (nat_lt 0 times.used_us)
           (nat_le (19 * (1000 * times.used_us)) (20 * tasks.ran))
