@@ -1,4 +1,5 @@
 """Options and fixtures of all tests (a pytest plugin, loaded by conftest.py)."""
+import fcntl
 import shutil
 import signal
 import subprocess
@@ -31,14 +32,36 @@ def pytest_addoption(parser):
                     help="put the program's answers into the pages of docs/, to be read by hand")
 
 
+# Locked while the checked build is made. Then it has the exit status.
+MAKING = support.CHECKED / "making"
+MAKE = f'bash scripts/make_checked.sh "$@"; echo $? >{MAKING.relative_to(support.ROOT)}'
+
+
 def make_checked(config, *what):
-    """Makes the checked build, once for all workers."""
+    """Begins to make the checked build, once for all workers. Tests that need none go on beside."""
     if hasattr(config, "workerinput"):
         return
-    ended = subprocess.run(["bash", "scripts/make_checked.sh", *what], cwd=support.ROOT, check=False,
-                           stdin=subprocess.DEVNULL)
-    if ended.returncode != 0:
-        pytest.exit("no checked build", ended.returncode)
+    support.CHECKED.mkdir(parents=True, exist_ok=True)
+    with open(MAKING, "a", encoding="utf-8") as lock:
+        fcntl.flock(lock, fcntl.LOCK_EX)
+        lock.truncate(0)
+        # (the lock is the child's until that ends)
+        config.making = subprocess.Popen(["bash", "-c", MAKE, "", *what], cwd=support.ROOT,
+                                         stdin=subprocess.DEVNULL, pass_fds=[lock.fileno()])
+
+
+def wait_for_checked():
+    """Waits until the checked build is made. A failure is one of each test that needs it."""
+    with open(MAKING, encoding="utf-8") as lock:
+        fcntl.flock(lock, fcntl.LOCK_SH)
+        if lock.read() != "0\n":
+            pytest.fail("no checked build", pytrace=False)
+
+
+def pytest_unconfigure(config):
+    """Leaves nobody behind who still makes the checked build."""
+    if hasattr(config, "making"):
+        config.making.wait()
 
 
 def pytest_configure(config):
@@ -54,11 +77,15 @@ def pytest_configure(config):
 
 def pytest_collection_modifyitems(config, items):
     """Leaves out what a checked build cannot show. Of workers side by side each has one file after
-    another: those with most text come first, so that none of them goes on alone at the end."""
+    another: those with most text come first, so that none of them goes on alone at the end. Those
+    that need no build come before, while the checked build is made."""
+    is_checked = config.getoption("checked")
     if hasattr(config, "workerinput"):
         sizes = {path: path.stat().st_size for path in {item.path for item in items}}
-        items.sort(key=lambda item: -sizes[item.path])
-    if not config.getoption("checked"):
+        builds = {"program", "library"}
+        later = {item.path for item in items if is_checked and builds & {*item.fixturenames}}
+        items.sort(key=lambda item: (item.path in later, -sizes[item.path]))
+    if not is_checked:
         return
     lines = (support.ROOT / "tests/checked/left_out.txt").read_text().splitlines()
     left_out = tuple(line.partition("\t")[0] for line in lines if not line.startswith("#"))
@@ -77,6 +104,8 @@ def pytest_report_header(config):
 def existing(path, option):
     """The absolute path of a file that an option names, or a failure that says what makes it."""
     path = Path(path).resolve()
+    if path.parent == support.CHECKED and MAKING.exists():
+        wait_for_checked()
     if not path.is_file():
         reason = f"no file {path}: ./build and ./test make it, {option} names another"
         pytest.fail(reason, pytrace=False)
