@@ -360,6 +360,13 @@ static __always_inline bool is_open(u32 tree, u32 cpu)
            || (tree >= MASK_TREES && on_cpu(cpu)->masks >> (tree - MASK_TREES) & 1);
 }
 
+/* Whether the first task of a leaf that waits in a tree goes before that in another tree: by their
+ * own clocks, or a task that is bound to some CPUs would never go before free ones of its leaf. */
+static __always_inline bool is_task_first(u32 row, u32 number, u32 other)
+{
+    return task_at(*head_of(number, row))->clock < task_at(*head_of(other, row))->clock;
+}
+
 /* Looks at a tree for what may be picked. (What was found is no local value: the verifier would
  * follow each of those.) */
 static __noinline int look_at(struct on_cpu *here, u32 number)
@@ -371,11 +378,15 @@ static __noinline int look_at(struct on_cpu *here, u32 number)
         return 0;
     if (time_ns >= on_cpu(here->cpu)->late_ns && is_late(oldest))
         here->best.late = oldest;
-    if (is_earlier(due, here->best.due)) {
+    if (is_earlier(due, here->best.due)
+        || (due < NOBODY && due == here->best.due
+            && is_task_first(due, number, here->best.due_tree))) {
         here->best.due = due;
         here->best.due_tree = number;
     }
-    if (is_first(first, here->best.first)) {
+    if (is_first(first, here->best.first)
+        || (first < NOBODY && first == here->best.first
+            && is_task_first(first, number, here->best.first_tree))) {
         here->best.first = first;
         here->best.first_tree = number;
     }

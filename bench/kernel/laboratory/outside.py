@@ -141,8 +141,8 @@ class Replay:
         steps: dict[str, Callable[..., None]] = {
             "processors": self.processors, "slice": self.set_slice, "terms": self.set_terms,
             "leaf": self.leaf, "pass": self.passed, "wake": self.wake, "pick": self.pick,
-            "end": self.end, "leave": self.leave, "level": self.set_level, "give": self.give, "cut": self.cut,
-            "bound": self.bound, "stop": self.stop, "late": self.late}
+            "end": self.end, "leave": self.leave, "level": self.set_level, "give": self.give,
+            "cut": self.cut, "bound": self.bound, "stop": self.stop, "late": self.late}
         for line, (name, numbers) in zip(trace.splitlines(), words_of(trace)):
             if name != "pick" and not line.startswith(MORE):
                 self.lines.append(line)
