@@ -375,6 +375,10 @@ def own(key: str, value: Callable[[Group], Any], none: Any = None) -> Column[Pla
     return fact(key, lambda each: none if each.group is None else value(each.group))
 
 
+def gets_of_wants(group: PlannedGroup) -> str:
+    return text.bar(group.gets, group.want, BAR)
+
+
 def columns(plan: Plan, view: View, outlook: Outlook | None = None) -> list[Column[PlannedGroup]]:
     """The columns of groups. Slices are in the unit for people, and in all units as data."""
     reason, host = plan.reason, plan.model.host
@@ -382,9 +386,6 @@ def columns(plan: Plan, view: View, outlook: Outlook | None = None) -> list[Colu
     def amount(head: str, of: Callable[[PlannedGroup], int | None]) -> Column[PlannedGroup]:
         return Column(head, lambda each: text.amount(plan, of(each), view.unit), key=head,
                       value=lambda each: amounts(plan, of(each)), wide=5)
-
-    def bar(each: PlannedGroup) -> str:
-        return text.bar(each.gets, each.want, BAR)
 
     def request(each: PlannedGroup) -> str:
         of = each.group.request if each.group else None
@@ -405,7 +406,7 @@ def columns(plan: Plan, view: View, outlook: Outlook | None = None) -> list[Colu
         own("scaled", lambda each: each.is_scaled, False),
         Column("request", request, forms=PAGES, is_optional=True),
         *starmap(amount, view.amounts.items()),
-        *([Column(BAR_HEAD, bar, True, forms=TEXT)] if view.width >= WIDE else []),
+        *([Column(BAR_HEAD, gets_of_wants, True, forms=TEXT)] if view.width >= WIDE else []),
         Column("reason", lambda each: reason(each).name, True, "reason", forms=FILES),
         Column("why", lambda each: why(plan, each, True), True, forms=FILES),
         fact("words", lambda each: reason(each).words),
