@@ -120,7 +120,8 @@ def check_diff(text, data, page, groups):
     # On the page: the bars, and the rows, of which one may be a group with its only child.
     bars = [dict(re.findall("<dt>(.*?)</dt><dd>(.*?)</dd>", each))
             for each in re.findall("<dl.*?</dl>", page, re.S)]
-    for bar, (one, all_, asked) in zip(bars, heads(text), strict=True):
+    # Both hosts have one bar where their figures are the same.
+    for bar, (one, all_, asked) in zip(bars, dict.fromkeys(heads(text)), strict=True):
         assert [Fraction(bar[key]) for key in ("planned", "capacity", "wanted")] == [
             one, all_, asked] and Fraction(bar["left"]) == all_ - one
     for _, row in changes_in(page):
