@@ -6,6 +6,7 @@ and test_drawn.py.
 import json
 import os
 import random
+import shutil
 import subprocess
 import sys
 from pathlib import Path
@@ -133,7 +134,10 @@ def test_folder_of_another_user(ctl, folder):
         readable.chmod(0o755)
         readable = readable.parent
     shut.chmod(0o700)
-    code = (f"import os,sys; sys.path.insert(0, {str(PACKAGE)!r})\n"
+    # A copy: the other user may not be let into the folder of this clone.
+    package = shutil.copytree(PACKAGE, folder / "package", ignore=shutil.ignore_patterns(
+        "tests", "__pycache__"))
+    code = (f"import os,sys; sys.path.insert(0, {str(package)!r})\n"
             f"from arbiter_host import command\nos.setuid({NOBODY})\n"
             f"sys.exit(command.run(['explain', {str(shut)!r}]))")
     ended = subprocess.run([sys.executable, "-c", code], capture_output=True, timeout=60,

@@ -192,11 +192,13 @@ def test_a_folder_of_another_user(ctl, folder):
         pytest.skip("not as root: no other user to be")
     shut = folder / "shut"
     shut.mkdir(mode=0o700)
-    ended = subprocess.run([sys.executable, "-c", "import os,sys;os.setuid(65534);"
+    # (all is loaded first: the other user may not be let into the folder of this clone)
+    ended = subprocess.run([sys.executable, "-c", "import os,sys;"
                             "sys.path.insert(0,sys.argv.pop(1));"
                             "from arbiter_host.sources import cgroup2;"
                             "from arbiter_host.base.model import Host;"
-                            "from arbiter_host.base.faults import HostFault\n"
+                            "from arbiter_host.base.faults import HostFault;"
+                            "os.setuid(65534)\n"
                             "try: cgroup2.check_folder(sys.argv[1])\n"
                             "except HostFault as fault: print(fault)", str(PACKAGE), str(shut)],
                            capture_output=True, text=True, check=False, timeout=60)
