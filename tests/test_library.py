@@ -780,7 +780,9 @@ def soname_and_names(path):
     entries, texts = words_of(6, "<qQ")
     soname = [text(texts + value) for tag, value in entries if tag == 14]
     symbols, texts = words_of(11, "<IBBHQQ")
-    return soname, sorted(text(texts + name) for name, _, _, section, _, _ in symbols if section)
+    # (some linkers also name the version itself, of no section)
+    return soname, sorted(text(texts + name) for name, _, _, section, _, _ in symbols
+                          if 0 < section < 0xFF00)
 
 
 def test_soname_and_names(library):
