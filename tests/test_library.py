@@ -780,9 +780,7 @@ def soname_and_names(path):
     entries, texts = words_of(6, "<qQ")
     soname = [text(texts + value) for tag, value in entries if tag == 14]
     symbols, texts = words_of(11, "<IBBHQQ")
-    # (some linkers also name the version itself, of no section)
-    return soname, sorted(text(texts + name) for name, _, _, section, _, _ in symbols
-                          if 0 < section < 0xFF00)
+    return soname, sorted(text(texts + name) for name, _, _, section, _, _ in symbols if section)
 
 
 def test_soname_and_names(library):
@@ -790,7 +788,11 @@ def test_soname_and_names(library):
     header = (ROOT / "share/arbiter.h").read_text(encoding="utf-8")
     declared = sorted(re.findall(r"^uint(?:32|64)_t (\w+)\(", header, re.M))
     first = re.search(r'^#define ARBITER_VERSION "(\d+)\.', header, re.M).group(1)
-    same(soname_and_names(library), ([f"libarbiter.so.{first}"], declared))
+    soname, names = soname_and_names(library)
+    # Some linkers also show the name of the version itself, and nothing else beside the calls.
+    version, = re.findall(r"^(\w+) \{", (ROOT / "share/arbiter.map").read_text(), re.M)
+    same((soname, [each for each in names if each != version]),
+         ([f"libarbiter.so.{first}"], declared))
 
 
 @pytest.fixture(scope="module")
