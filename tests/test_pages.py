@@ -311,11 +311,15 @@ CALLS_OF_LENT_SEATS = {
     r"\.wake_\w+\(": [("visits.rt", "rouse_first"), ("visits.rt", "rouse")],
     r"\bspin_loop\(": [("lending.rt", "is_soon")],
     r"\byield_now\(": [],
-    r"\bCount::none\(": [("sleeping.rt", "of")],
+    r"\bCount::none\(": [("looking.rt", "of"), *[("sleeping.rt", "of")] * 2, ("visits.rt", "of")],
     # the loads that are no steps of a table
     r"\.peek\(": [("helping.rt", "help_one"), ("helping.rt", "return_one"),
                     ("sleeping.rt", "read"), ("visits.rt", "peek")],
-    r"\.look\(": [("lending.rt", "is_soon"), ("sleeping.rt", "look")],
+    r"lock\.look\(": [("looking.rt", "look")],
+    r"(?<!lock)\.look\(": [("lending.rt", "is_soon"), ("sleeping.rt", "look")],
+    # each look has its right, which a read or a visit gives
+    r"\bChance::of\(": [("sleeping.rt", "read"), ("visits.rt", "chance")],
+    r"\n +Found \{": [("looking.rt", "look")],
     # each call that is made has its visit
     r"\.finish\w*\(": [("helping.rt", "make"), ("helping.rt", "leave_with"), ("seat.rt", "call")],
     r"\bTableVisit::of\(": [("seat.rt", "finish")],

@@ -2,11 +2,11 @@
 use Rattle.std.proofs.Common.{◌≡◌, ◌≢◌, ℕ, ◌+◌, ◌*◌, ◌^◌, ◌%◌, ◌==◌, ◌≤◌}
 use Rattle.std.proofs.Common.{Bool, true, false, Option, Some, None}
 use Rattle.std.proofs.Common.{if◌then◌else◌, is_some, refl, sym, ap, ◌∙◌, subst, arith}
-use Rattle.std.proofs.Common.{⊎_elim}
+use Rattle.std.proofs.Common.{⊎_elim, eq-eqb, ne_eqb, []}
 use mathlib.Core.Logic.{dite}
 use native.Mathlib.Decide.{ℕ_discrete}
 use Rattle.bw_lend.specs.Crowd.{Reading, Looking, Retracting, Parking, ParkingHeld, Asleep}
-use Rattle.bw_lend.specs.Crowd.{Fetching, Stage}
+use Rattle.bw_lend.specs.Crowd.{Fetching, Entering, Stage, Wakes}
 use Rattle.bw_lend.specs.Crowd.{Phase, Has, Place, Away, Posted, Claimed, Done, Back}
 use Rattle.bw_lend.specs.Crowd.{Crowd, Event, Look, Read, Retract, Park, Fetch, happens, or_same}
 use Rattle.bw_lend.specs.Crowd.{after, look_by, read_by, retract_by, park_by, fetch_by}
@@ -179,11 +179,13 @@ module _ (h : Hall) (m : Meets h) (i : ℕ) where
             (let e : w ≡ t * 8 + 2 = omega arith in ap Some e),
       )
   read_is t w (Done u v) ok shows =
-      let st : stage_of (Some w) None t ≡ Fetching = read_back (w % 8) None t shows in
-      (sym st, subst (λ x. Seen w (Some w) None (Has t x)) (sym st) (refl, shows))
+      let big : 4 ≤ w % 8 = omega arith in
+      let st : stage_of (Some w) None t ≡ Fetching = read_back (w % 8) None t big in
+      (sym st, subst (λ x. Seen w (Some w) None (Has t x)) (sym st) (refl, big))
   read_is t w (Back u v) ok shows =
-      let st : stage_of (Some w) None t ≡ Fetching = read_back (w % 8) None t shows in
-      (sym st, subst (λ x. Seen w (Some w) None (Has t x)) (sym st) (refl, shows))
+      let big : 4 ≤ w % 8 = omega arith in
+      let st : stage_of (Some w) None t ≡ Fetching = read_back (w % 8) None t big in
+      (sym st, subst (λ x. Seen w (Some w) None (Has t x)) (sym st) (refl, big))
 
   pub reads : (k : Hall) → IsTurn (Reads i) h k → Goes h k i
   reads k turn =
@@ -300,25 +302,32 @@ module _ (h : Hall) (m : Meets h) (i : ℕ) where
       may
 
   -- where the seat goes that takes itself from its place
-  goes_unread : (t : ℕ) (q : Place) → has_read (goes_to t q) ≡ false
-  goes_unread t Away = refl
-  goes_unread t (Posted u) = refl
-  goes_unread t (Claimed u v) = refl
-  goes_unread t (Done u v) = refl
-  goes_unread t (Back u v) = refl
+  goes_unread : (t c : ℕ) → has_read (goes_to t c) ≡ false
+  goes_unread t c = by_test (λ p. has_read p ≡ false) (c == 4) (Wakes []) (Has t Entering)
+      (λ e. refl) (λ e. refl)
 
-  fetched_is : (t : ℕ) (q : Place) → OkPlace h.crowd i t Fetching q → fetched t q ≡ goes_to t q
-  fetched_is t Away ok = absurd ok
-  fetched_is t (Posted u) ok = absurd ok.2
-  fetched_is t (Claimed u v) ok = absurd ok.1
-  fetched_is t (Done u v) ok = refl
-  fetched_is t (Back u v) ok = refl
+  goes_idle : (t c : ℕ) → c ≡ 4 → goes_to t c ≡ Wakes []
+  goes_idle t c is = ap (λ (b : Bool). if b then Wakes [] else Has t Entering) (eq-eqb c 4 is)
+
+  goes_in : (t c : ℕ) → c ≢ 4 → goes_to t c ≡ Has t Entering
+  goes_in t c ne = ap (λ (b : Bool). if b then Wakes [] else Has t Entering) (ne_eqb c 4 ne)
+
+  fetched_is : (t n w : ℕ) (q : Place) → Shows w q → OkPlace h.crowd i t Fetching q → n ≡ w
+      → fetched t q ≡ goes_to t (n % 8)
+  fetched_is t n w Away shows ok same = absurd ok
+  fetched_is t n w (Posted u) shows ok same = absurd ok.2
+  fetched_is t n w (Claimed u v) shows ok same = absurd ok.1
+  fetched_is t n w (Done u v) shows ok same = sym (goes_idle t (n % 8) (omega arith))
+  fetched_is t n w (Back u v) shows ok same =
+      sym (goes_in t (n % 8) (λ (e : n % 8 ≡ 4). omega arith))
 
   retracted_is : (t n w : ℕ) (q : Place) → Shows w q → OkPlace h.crowd i t Retracting q
       → n ≡ t * 8 + 3 → w ≡ n
-      → retracted h.crowd i t q ≡ placed h.crowd i (goes_to t q) i Away
+      → retracted h.crowd i t q ≡ placed h.crowd i (goes_to t (n % 8)) i Away
   retracted_is t n w Away shows ok is same = absurd ok
-  retracted_is t n w (Posted u) shows ok is same = refl
+  retracted_is t n w (Posted u) shows ok is same =
+      ap (λ (p : Phase). placed h.crowd i p i Away)
+      (sym (goes_in t (n % 8) (λ (e : n % 8 ≡ 4). omega arith)))
   retracted_is t n w (Claimed u v) shows ok is same = absurd (omega arith)
   retracted_is t n w (Done u v) shows ok is same = absurd (omega arith)
   retracted_is t n w (Back u v) shows ok is same = absurd (omega arith)
@@ -336,6 +345,7 @@ module _ (h : Hall) (m : Meets h) (i : ℕ) where
   pub takes_back : (k : Hall) → IsTurn (TakesBack i) h k → Goes h k i
   takes_back k turn =
       let t = turn.0 in let n = turn.1 in let w = h.word i in let q = h.crowd.place i in
+      let c = n % 8 in
       let stage : h.crowd.phase i ≡ Has t (after_read (n % 8) (h.found i) t) =
       turn.2 ∙ ap (λ (x : Option ℕ). Has t (stage_of x (h.found i) t)) turn.3 in
       let may : MayTakeBack (Some n) (h.found i) t =
@@ -345,12 +355,13 @@ module _ (h : Hall) (m : Meets h) (i : ℕ) where
       stage ∙ ap (Has t) (read_back (n % 8) (h.found i) t back) in
       let read : Some n ≡ Some w = sym turn.3 ∙ (seen_at t Fetching at).0 in
       let same : n ≡ w = cc read in
-      ⊎_elim (λ (how : (w ≡ n) × (k ≡ taken h i t)).
+      ⊎_elim (λ (how : (w ≡ n) × (k ≡ taken h i t n)).
       subst (λ x. Goes h x i) (sym how.1)
-      (takes (Fetch i) (goes_to t q) refl
+      (takes (Fetch i) (goes_to t c) refl
       (ap (fetch_by h.crowd i) at
-      ∙ ap (λ (p : Phase). Some (placed h.crowd i p i Away)) (fetched_is t q (ok_at t Fetching at)))
-      (goes_unread t q)))
+      ∙ ap (λ (p : Phase). Some (placed h.crowd i p i Away))
+      (fetched_is t n w q (m.shows i) (ok_at t Fetching at) same))
+      (goes_unread t c)))
       (λ (how : (w ≢ n) × (k ≡ sees h i t None None)). absurd (how.0 (sym same)))
       turn.5)
       (λ (own : (n % 8 ≡ 3) × IsOwn (h.found i) t).
@@ -358,12 +369,12 @@ module _ (h : Hall) (m : Meets h) (i : ℕ) where
       stage ∙ ap (Has t) (read_posted (n % 8) (h.found i) t own.0 ∙ look_own (h.found i) t own.1) in
       let read : Some n ≡ Some (t * 8 + 3) = sym turn.3 ∙ seen_at t Retracting at in
       let same : n ≡ t * 8 + 3 = cc read in
-      ⊎_elim (λ (how : (w ≡ n) × (k ≡ taken h i t)).
+      ⊎_elim (λ (how : (w ≡ n) × (k ≡ taken h i t n)).
       subst (λ x. Goes h x i) (sym how.1)
-      (takes (Retract i) (goes_to t q) refl
+      (takes (Retract i) (goes_to t c) refl
       (ap (retract_by h.crowd i) at
       ∙ ap Some (retracted_is t n w q (m.shows i) (ok_at t Retracting at) same how.0))
-      (goes_unread t q)))
+      (goes_unread t c)))
       (λ (how : (w ≢ n) × (k ≡ sees h i t None None)).
       subst (λ x. Goes h x i) (sym how.1)
       (walks (Retract i) (Has t Reading) None None refl

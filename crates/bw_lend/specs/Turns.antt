@@ -2,6 +2,7 @@
 -- claimed of them: each turn is one event of the crowd.
 use Rattle.std.specs.Prelude.{◌≡◌, ◌≢◌, ℕ, ◌+◌, ◌-◌, ◌*◌, ◌^◌, ◌%◌, ◌<◌, ◌≤◌, ◌⊎◌}
 use Rattle.std.specs.Prelude.{Bool, true, false, List, [], ◌∷◌, Option, None, Some, map, length}
+use Rattle.std.specs.Prelude.{if◌then◌else◌, ◌==◌}
 use Rattle.bw_lend.specs.Crowd.{Stage, Drawn, Reading, Looking, Retracting, Parking, ParkingHeld}
 use Rattle.bw_lend.specs.Crowd.{Asleep, Fetching, Entering, Phase, Has, Wakes}
 use Rattle.bw_lend.specs.Crowd.{Place, Away, Posted, Claimed, Done, Back}
@@ -51,13 +52,13 @@ pub data Turn : Type 0 where
   Rouses : ℕ → Turn
   Makes : Event → Turn
 
--- the word may be that of the place: a state with its code, and the ticket of a seat that is lent
+-- the word may be that of the place: a state with its code, and the ticket of the seat there
 abbrev pub Shows : ℕ → Place → Type 0
 Shows word Away = word % 8 ≤ 1
 Shows word (Posted t) = word ≡ t * 8 + 3
 Shows word (Claimed t h) = word ≡ t * 8 + 2
-Shows word (Done t h) = 4 ≤ word % 8
-Shows word (Back t h) = 4 ≤ word % 8
+Shows word (Done t h) = word ≡ t * 8 + 4
+Shows word (Back t h) = word ≡ t * 8 + 5
 
 -- the word may be that of the hint: a word that no hint was stored in is 0
 abbrev pub ShowsHint : ℕ → Option Hint → Type 0
@@ -101,16 +102,15 @@ abbrev pub sees : Hall → ℕ → ℕ → Option ℕ → Option ℕ → Hall
 sees h i t state found =
     turned h i (moved h.crowd i (Has t (stage_of state found t))) state found
 
--- where an owner with the ticket t is that has its place again, by what came back: its call is
--- made, or it enters the lock
-abbrev pub goes_to : ℕ → Place → Phase
-goes_to t (Done u h) = Wakes []
-goes_to t _ = Has t Entering
+-- where an owner with the ticket t is that has its place again, by the code that it read there: its
+-- call is made, or it enters the lock
+abbrev pub goes_to : ℕ → ℕ → Phase
+goes_to t code = if code == 4 then Wakes [] else Has t Entering
 
--- the owner i with the ticket t has its place again
-abbrev pub taken : Hall → ℕ → ℕ → Hall
-taken h i t = record h {
-  crowd = placed h.crowd i (goes_to t (h.crowd.place i)) i Away;
+-- the owner i with the ticket t has read the state n, and has its place again
+abbrev pub taken : Hall → ℕ → ℕ → ℕ → Hall
+taken h i t n = record h {
+  crowd = placed h.crowd i (goes_to t (n % 8)) i Away;
   word = put h.word i 1;
   state = put h.state i None;
   found = put h.found i None;
@@ -177,8 +177,8 @@ IsEvent e h k = (is_waiting (h.crowd.phase (seat_of e)) ≡ false)
 
 -- The turn leads from one state to the other. A read, a look, a try to take back and a sleep are
 -- made where the contracts of `PlaceWord` allow them, and do what these say. The exchange of a try
--- to take back compares the whole word with the state that was read, and a sleep the half. A place
--- that is taken has its call made or not. All other turns but `Makes` are made where the contracts
+-- to take back compares the whole word with the state that was read, and a sleep the half. What was
+-- read says whether the call is made. All other turns but `Makes` are made where the contracts
 -- of `Visit` allow them, and do what these say.
 abbrev pub IsTurn : Turn → Hall → Hall → Type 0
 IsTurn (LooksAhead i) h k = (t : ℕ) × Visits h i 0 t 0 ToLook
@@ -192,7 +192,7 @@ IsTurn (Looks i) h k = (t : ℕ) × (n : ℕ) × Waits h i t × (h.state i ≡ S
     × (h.found i ≡ None) × (k ≡ sees h i t (Some n) (Some h.crowd.serving))
 IsTurn (TakesBack i) h k = (t : ℕ) × (n : ℕ) × Waits h i t × (h.state i ≡ Some n)
     × MayTakeBack (h.state i) (h.found i) t
-    × (((h.word i ≡ n) × (k ≡ taken h i t)) ⊎ ((h.word i ≢ n) × (k ≡ sees h i t None None)))
+    × (((h.word i ≡ n) × (k ≡ taken h i t n)) ⊎ ((h.word i ≢ n) × (k ≡ sees h i t None None)))
 IsTurn (Sleeps i) h k = (t : ℕ) × (n : ℕ) × Waits h i t × (h.state i ≡ Some n)
     × MaySleep (h.state i) (h.found i) t
     × (((h.word i % 2 ^ 32 ≡ n % 2 ^ 32)

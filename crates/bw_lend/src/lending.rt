@@ -35,9 +35,9 @@ pub(crate) fn is_soon<M: Machine, V: Visit>(lock: &TicketLock<M>, visit: &mut V)
 {
     let ticket = visit.ticket();
     for _look in 0..LOOKS {
-        let sighting = lock.look();
-        let served = sighting.served();
-        if visit.note(sighting) {
+        let sight = visit.chance().look(lock);
+        let served = sight.served();
+        if visit.note(sight) {
             return true;
         }
         if ticket.saturating_sub(served) > NEAR {
@@ -77,8 +77,8 @@ fn wait_for_place<M: Machine, R: Wait, W: PlaceWord, V: Visit>(
         IsMade result.1.made result.0 }
 {
     for _ in rt.forever() {
-        let state = word.read();
-        if !may_take_back(word, lock, state, visit) {
+        let (state, chance) = word.read();
+        if !may_take_back(word, lock, state, chance, visit) {
             sleep_lent(rt, word, visit, low_half(state));
             continue;
         }

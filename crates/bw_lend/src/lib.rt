@@ -11,6 +11,7 @@
 mod crowd_laws;
 mod helping;
 mod lending;
+mod looking;
 mod plays;
 mod seat;
 mod sleeping;

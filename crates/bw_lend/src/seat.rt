@@ -185,10 +185,7 @@ impl<M: Machine> LendingSeat<M> {
         let Some(seat) = &mut self.seat else {
             unreachable!()
         };
-        let Some(ticket) = seat.pending() else {
-            unreachable!()
-        };
-        let mut visit = TableVisit::of(&self.places.shared, ticket);
+        let mut visit = TableVisit::of(&self.places.shared, seat);
         // a seat that need not wait is not moved
         if is_soon(lock, &mut visit) {
             return finish_visit(rt, lock, &self.places.shared, &mut self.token, seat, visit);

@@ -7,11 +7,12 @@ ghost use Rattle.std.specs.Prelude.{◌≡◌, ℕ, ◌+◌, ◌%◌, ◌^◌, �
 ghost use Rattle.bw_lend.specs.declared.task.Task.TheVariants.{ToWait};
 ghost use Rattle.bw_lend.specs.Waits.{IsPosted, MaySleep, MayTakeBack};
 
+use crate::looking::{Chance, Found};
 use crate::steps::Lost;
 use crate::table::{POSTED, Shared, code_of};
 use crate::visits::Visit;
 use bw_machine::{Count, Machine};
-use bw_ticket::{Sighting, TicketLock};
+use bw_ticket::TicketLock;
 use std::sync::Wait;
 
 /// The word of a place, on which the owner of the place sleeps while its seat is lent.
@@ -21,7 +22,7 @@ use std::sync::Wait;
 pub(crate) trait PlaceWord {
     ghost exists: { Self → Type 0 };
 
-    // Its place, the state, the ticket that was found, and the number of sleeps.
+    // Its place, the state, the ticket that was found, and the numbers of sleeps and of reads.
     ghost place: { Self → ℕ };
 
     ghost state: { Self → Option ℕ };
@@ -30,30 +31,37 @@ pub(crate) trait PlaceWord {
 
     ghost sleeps: { Self → ℕ };
 
-    /// Reads the state of the place, once after each sleep.
-    fn read(&mut self) -> u64
+    ghost reads: { Self → ℕ };
+
+    /// Reads the state of the place, once after each sleep. It gives the right to look afterwards.
+    fn read(&mut self) -> (u64, Chance)
         requires exists { exists self.old }
         requires anew { state self.old ≡ None }
         ensures exists { exists self.new }
-        ensures state { state self.new ≡ Some result }
+        ensures state { state self.new ≡ Some result.0 }
         ensures found { found self.new ≡ None }
-        ensures sleeps { sleeps self.new ≡ sleeps self.old };
+        ensures sleeps { sleeps self.new ≡ sleeps self.old }
+        ensures read { reads self.new ≡ reads self.old + 1 }
+        ensures chance { result.1.nth.steps ≡ reads self.new };
 
-    /// Notes what a look found, one for each read of a seat that nobody has claimed.
-    fn note(&mut self, sighting: Sighting)
+    /// Notes what the look after the last read found. Nobody had claimed the seat.
+    fn note(&mut self, sight: Found)
         requires exists { exists self.old }
         requires posted { IsPosted (state self.old) × (found self.old ≡ None) }
+        requires own { sight.nth.steps ≡ reads self.old }
         ensures exists { exists self.new }
         ensures state { state self.new ≡ state self.old }
-        ensures found { found self.new ≡ Some sighting.served }
-        ensures sleeps { sleeps self.new ≡ sleeps self.old };
+        ensures found { found self.new ≡ Some sight.served }
+        ensures sleeps { sleeps self.new ≡ sleeps self.old }
+        ensures reads { reads self.new ≡ reads self.old };
 
     /// Forgets what it has read: the state was another one when the place was to be taken back.
     fn retry(&mut self, lost: Lost)
         requires exists { exists self.old }
         ensures exists { exists self.new }
         ensures anew { state self.new ≡ None }
-        ensures sleeps { sleeps self.new ≡ sleeps self.old };
+        ensures sleeps { sleeps self.new ≡ sleeps self.old }
+        ensures reads { reads self.new ≡ reads self.old };
 
     /// Sleeps while the lower half of the word is the expected one, until a wake or for no reason.
     fn sleep<R: Wait, V: Visit>(&mut self, rt: &R, visit: &V, expected: u32)
@@ -63,7 +71,8 @@ pub(crate) trait PlaceWord {
         requires expected { (n : ℕ) × (state self.old ≡ Some n) × (expected ≡ n % 2 ^ 32) }
         ensures exists { exists self.new }
         ensures anew { state self.new ≡ None }
-        ensures made { sleeps self.new ≡ sleeps self.old + 1 };
+        ensures made { sleeps self.new ≡ sleeps self.old + 1 }
+        ensures reads { reads self.new ≡ reads self.old };
 }
 
 /// The word of a place of the table.
@@ -75,6 +84,7 @@ pub(crate) struct TableWord<'a, M: Machine> {
     state: Option<u64>,
     found: Option<u64>,
     sleeps: Count,
+    reads: Count,
 }
 
 impl<'a, M: Machine> TableWord<'a, M> {
@@ -89,6 +99,7 @@ impl<'a, M: Machine> TableWord<'a, M> {
             state: None,
             found: None,
             sleeps: Count::none(),
+            reads: Count::none(),
         }
     }
 }
@@ -106,15 +117,18 @@ impl<'a, M: Machine> PlaceWord for TableWord<'a, M> {
 
     ghost sleeps = { λ w. w.sleeps.steps };
 
-    fn read(&mut self) -> u64 {
+    ghost reads = { λ w. w.reads.steps };
+
+    fn read(&mut self) -> (u64, Chance) {
         let state = self.table.peek(self.place);
         self.state = Some(state);
         self.found = None;
-        state
+        self.reads = self.reads.one_more();
+        (state, Chance::of(&self.reads))
     }
 
-    fn note(&mut self, sighting: Sighting) {
-        self.found = Some(sighting.served());
+    fn note(&mut self, sight: Found) {
+        self.found = Some(sight.end());
     }
 
     fn retry(&mut self, lost: Lost) {
@@ -131,16 +145,17 @@ impl<'a, M: Machine> PlaceWord for TableWord<'a, M> {
 }
 
 // Looks which ticket is served. The word has it as found after the state that was read last.
-fn look<M: Machine, W: PlaceWord>(word: &mut W, lock: &TicketLock<M>) -> u64
+fn look<M: Machine, W: PlaceWord>(word: &mut W, lock: &TicketLock<M>, chance: Chance) -> u64
     requires exists { W.exists word.old }
     requires posted { IsPosted (W.state word.old) × (W.found word.old ≡ None) }
+    requires own { chance.nth.steps ≡ W.reads word.old }
     ensures exists { W.exists word.new }
     ensures state { W.state word.new ≡ W.state word.old }
     ensures found { W.found word.new ≡ Some result }
 {
-    let sighting = lock.look();
-    let served = sighting.served();
-    word.note(sighting);
+    let sight = chance.look(lock);
+    let served = sight.served();
+    word.note(sight);
     served
 }
 
@@ -150,10 +165,12 @@ pub(crate) fn may_take_back<M: Machine, W: PlaceWord, V: Visit>(
     word: &mut W,
     lock: &TicketLock<M>,
     state: u64,
+    chance: Chance,
     visit: &V,
 ) -> bool
     requires exists { W.exists word.old }
     requires read { (W.state word.old ≡ Some state) × (W.found word.old ≡ None) }
+    requires own { chance.nth.steps ≡ W.reads word.old }
     ensures exists { W.exists word.new }
     ensures may { MatchBool result
         (MayTakeBack (W.state word.new) (W.found word.new) (V.state visit.now).ticket)
@@ -161,8 +178,12 @@ pub(crate) fn may_take_back<M: Machine, W: PlaceWord, V: Visit>(
     ensures state { W.state word.new ≡ Some state }
 {
     let code = code_of(state);
+    if code != POSTED {
+        chance.end();
+        return code > POSTED;
+    }
     let ticket = visit.ticket();
-    code > POSTED || (code == POSTED && look(word, lock) == ticket)
+    look(word, lock, chance) == ticket
 }
 
 /// Sleeps once on the word of the place while its lower half is the expected one, until a wake or

@@ -1,5 +1,5 @@
 //! The steps on the table of places.
-ghost use Rattle.std.specs.Prelude.{◌≡◌, ◌%◌, ◌<◌, ◌≤◌, [], ◌∷◌, drop, ℕ};
+ghost use Rattle.std.specs.Prelude.{◌≡◌, ◌==◌, ◌%◌, ◌<◌, ◌≤◌, [], ◌∷◌, drop, ℕ};
 ghost use Rattle.std.specs.Prelude.{Some, IsSome, IfOk, IfErr, MatchBool, false};
 ghost use Rattle.bw_lend.specs.declared.stake.Part.TheVariants.{Owns, Hints, Lends, Helps, Fresh};
 ghost use Rattle.bw_lend.specs.declared.task.Task.TheVariants.{ToWait};
@@ -146,6 +146,7 @@ pub(crate) fn take_back<M: Machine, W: PlaceWord, V: Visit>(
         IsOwner lent.now.value.lock_id place token.new.me) }
     ensures taken { IfOk result (λ y. (y.1.ticket ≡ (V.state visit.now).ticket) ×
         IsMade y.1.made y.0) }
+    ensures read { IfOk result (λ y. y.1.made ≡ (state % 8 == 4)) }
 {
     let _ = word;
     let _ = lent;

@@ -5,7 +5,7 @@
 //! [`Visit`], so only the calls of this trait change the task: `Visits.antt:phase_of` says where in
 //! the model it is. No other file of the crate names `.wake_one(`.
 ghost use Rattle.std.specs.Prelude.{◌≡◌, ◌≢◌, ℕ, ◌+◌, ◌<◌, ◌≤◌, MatchBool, MatchOption};
-ghost use Rattle.std.specs.Prelude.{true, false};
+ghost use Rattle.std.specs.Prelude.{true, false, IsSome};
 ghost use Rattle.atomic_table.specs.Seated.{TableId};
 ghost use Rattle.bw_lend.specs.declared.task.Task.TheVariants.{
   ToLook,
@@ -22,35 +22,47 @@ ghost use Rattle.bw_lend.specs.declared.task.Task.TheVariants.{
   ToWakeFrom,
 };
 ghost use Rattle.bw_lend.specs.Bells.{IsIn, IsWith};
+ghost use Rattle.bw_lend.specs.Lent.{HasTicket};
 ghost use Rattle.bw_lend.specs.Parts.{IsTable, IsOwner};
 ghost use Rattle.bw_lend.specs.Visits.{Visiting, to, gone, gave, Names};
 ghost use Rattle.bw_lend.specs.declared.table.TheConstants.{TICKETS};
 
+use crate::looking::{Chance, Found};
 use crate::steps::{Given, Offer, StoredHint, TakenBack, Tried};
 use crate::table::{PLACES, Shared, Token, hint_word_of, hinted_place};
 use crate::task::Task;
-use bw_machine::Machine;
-use bw_ticket::{Behind, Sighting};
+use bw_machine::{Count, Machine};
+use bw_ticket::{Behind, Seat};
 use std::snapshot::Snapshot;
 
 /// A visit to the lock. It is not `Drop`.
 pub(crate) trait Visit {
-    // Its table, ticket, wakes and task, and the hint that it read last.
+    // Its table, ticket, wakes and task, the hint that it read last, and the number of looks.
     ghost state: { Self → Visiting };
 
     ghost hint: { Self → ℕ };
+
+    ghost looks: { Self → ℕ };
 
     /// The ticket that it works on.
     fn ticket(&self) -> u64
         ensures { result ≡ (state self.now).ticket };
 
-    /// Notes what a look found. Returns whether the seat's own ticket is served: then it enters.
-    fn note(&mut self, sighting: Sighting) -> bool
+    /// The right to look once more.
+    fn chance(&self) -> Chance
+        requires task { (state self.now).task ≡ ToLook }
+        ensures { result.nth.steps ≡ looks self.now };
+
+    /// Notes what the next look found. Returns whether the seat's own ticket is served: then it
+    /// enters.
+    fn note(&mut self, sight: Found) -> bool
         requires task { (state self.old).task ≡ ToLook }
+        requires own { sight.nth.steps ≡ looks self.old }
+        ensures looked { looks self.new ≡ looks self.old + 1 }
         ensures seen { MatchBool result
             ((state self.new ≡ to (state self.old) ToEnter) ×
-            (sighting.served ≡ (state self.old).ticket))
-            ((state self.new ≡ state self.old) × (sighting.served ≢ (state self.old).ticket)) };
+            (sight.served ≡ (state self.old).ticket))
+            ((state self.new ≡ state self.old) × (sight.served ≢ (state self.old).ticket)) };
 
     /// Notes that the seat is lent in its place.
     fn lend(&mut self, offer: Offer)
@@ -210,22 +222,28 @@ pub(crate) struct TableVisit<'a, M: Machine> {
     // the last hint: nothing reads it at run time
     hint: u64,
     task: Snapshot<Task>,
+    looks: Count,
 }
 
 impl<'a, M: Machine> TableVisit<'a, M> {
-    /// The visit of a seat that has drawn this ticket.
-    pub(crate) fn of(table: &'a Shared<M>, ticket: u64) -> TableVisit<'a, M>
+    /// The visit of a seat that has drawn a ticket.
+    pub(crate) fn of(table: &'a Shared<M>, seat: &Seat<M>) -> TableVisit<'a, M>
+        requires drawn { IsSome seat.now.pending }
         ensures table { result.table.now ≡ table.now }
-        ensures ticket { result.ticket ≡ ticket }
+        ensures ticket { HasTicket seat.now result.ticket }
         ensures nobody { result.owed ≡ 0 }
         ensures task { result.task.value ≡ ToLook }
     {
+        let Some(drawn) = seat.pending() else {
+            unreachable!()
+        };
         TableVisit {
             table,
-            ticket,
+            ticket: drawn,
             owed: 0,
             hint: 0,
             task: Snapshot::of(&Task::ToLook),
+            looks: Count::none(),
         }
     }
 }
@@ -240,12 +258,19 @@ impl<'a, M: Machine> Visit for TableVisit<'a, M> {
 
     ghost hint = { λ v. v.hint };
 
+    ghost looks = { λ v. v.looks.steps };
+
     fn ticket(&self) -> u64 {
         self.ticket
     }
 
-    fn note(&mut self, sighting: Sighting) -> bool {
-        if sighting.served() == self.ticket {
+    fn chance(&self) -> Chance {
+        Chance::of(&self.looks)
+    }
+
+    fn note(&mut self, sight: Found) -> bool {
+        self.looks = self.looks.one_more();
+        if sight.end() == self.ticket {
             self.task = Snapshot::of(&Task::ToEnter);
             return true;
         }
@@ -275,6 +300,7 @@ impl<'a, M: Machine> Visit for TableVisit<'a, M> {
             owed: _,
             hint: _,
             task: _,
+            looks: _,
         } = self;
     }
 
@@ -381,6 +407,7 @@ impl<'a, M: Machine> Visit for TableVisit<'a, M> {
             owed: _,
             hint: _,
             task: _,
+            looks: _,
         } = self;
     }
 }
