@@ -198,6 +198,10 @@ static __always_inline u32 row_of(struct task_struct *p, u32 number)
     return row;
 }
 
+/* What is no call of the kernel's scheduler has places of its own for its notes: such calls interrupt
+ * it once the lock is free. */
+struct on_cpu of_plan, of_beat, of_change;
+
 /* Tells the steps that were noted while the lock was held. */
 static __always_inline void tell(struct on_cpu *here)
 {
@@ -205,15 +209,12 @@ static __always_inline void tell(struct on_cpu *here)
 
     if (!has_trace)
         return;
-    bpf_for(at, 0, here->steps)
-        bpf_ringbuf_output(&events, &here->noted[WITHIN(at, MOST_STEPS)],
-                   sizeof(struct event), BPF_RB_NO_WAKEUP);
+    bpf_for(at, 0, here->steps) {
+        if (bpf_ringbuf_output(&events, &here->noted[WITHIN(at, MOST_STEPS)],
+                       sizeof(struct event), BPF_RB_NO_WAKEUP))
+            steps_lost++;
+    }
     here->steps = 0;
-}
-
-static __always_inline struct on_cpu *this_cpu(void)
-{
-    return on_cpu(bpf_get_smp_processor_id());
 }
 
 /* A CPU that was noted in a section looks for a task. */
@@ -540,7 +541,7 @@ SEC("struct_ops/plan_cpu_offline")
 void BPF_PROG(plan_cpu_offline, s32 cpu)
 {
     u32 own = bpf_get_smp_processor_id();
-    struct on_cpu *here = on_cpu(own);
+    struct on_cpu *here = &of_change;
     u64 now = bpf_ktime_get_ns();
 
     bpf_spin_lock(&lock);
@@ -581,7 +582,7 @@ static __noinline int free_one(struct on_cpu *here, u32 number)
 /* A new period of a group with a limit. Returns whether a leaf may run again. */
 static __noinline bool begin_period(u32 number)
 {
-    struct on_cpu *here = this_cpu();
+    struct on_cpu *here = &of_beat;
     u64 now = bpf_ktime_get_ns();
     bool is_free = false;
     u32 times;
@@ -672,7 +673,7 @@ static __noinline int take_step(struct on_cpu *here)
 /* Takes the limits, amounts and guarantees that the loader wrote. */
 static __noinline int take_all(void)
 {
-    struct on_cpu *here = this_cpu();
+    struct on_cpu *here = &of_plan;
     u64 now = bpf_ktime_get_ns();
     u32 each;
 

@@ -25,7 +25,7 @@
 #define SLACK_NS 12000000ULL
 #define CREDIT_NS 24000000ULL
 /* The most that a leaf keeps of its lead over others at a new plan. */
-#define MOST_LEAD_NS 96000000ULL
+#define MOST_LEAD_NS (32 * SLICE_NS)
 /* Limits are in each of these. */
 #define LIMIT_PERIOD_NS 100000000ULL
 /* Amounts are no greater, so that a charge to one leaf is none of more than 64 bits to another. */

@@ -286,7 +286,7 @@ static __always_inline void leave_leaf(struct on_cpu *here, u32 number, u64 runt
         u64 before;
         if (task->state == QUEUED)
             take_out(here, number);
-        settle(leaf);
+        bring_up(here, task->row);
         before = rate_of(leaf);
         count_waiting(leaf, -1);
         leaf->there--;

@@ -45,6 +45,8 @@ GUARDED u64 time_ns;
 GUARDED u64 greatest_charge, greatest_amount, level_charge, level_amount;
 /* The number of steps of the rule. */
 GUARDED u64 steps;
+/* Steps that a trace lacks. */
+u64 steps_lost;
 /* The number of CPUs that found nobody, and of tasks that wait for some CPUs alone. */
 GUARDED s32 idle_cpus, bound;
 /* Of each node of the tree the row that is due first of those below it that are not yet; node 1 is
@@ -156,6 +158,10 @@ static __always_inline void note_more(struct on_cpu *here, u32 kind, u32 row, u3
 
     if (!has_trace)
         return;
+    if (at >= MOST_STEPS) {
+        steps_lost++;
+        return;
+    }
     here->noted[WITHIN(at, MOST_STEPS)] = (struct event){ .at = ++steps,
                                   .ns = time_ns,
                                   .used_ns = used,
@@ -245,8 +251,8 @@ static __always_inline u64 rate_of(struct leaf *leaf)
     return most < leaf->guarantee ? most : leaf->guarantee;
 }
 
-/* What a leaf that wants nothing keeps, and the most that it may hold. Each step of the leaf bounds
- * what it holds; deadlines are compared by all that it is owed. */
+/* What a leaf that wants nothing keeps, and the most that it may hold. A leaf that holds more at a step
+ * of it keeps its credit alone; deadlines are compared by all that it is owed. */
 static __always_inline u64 credit_of(struct leaf *leaf)
 {
     return QUANTUM_NS * ONE_CPU + leaf->guarantee * CREDIT_NS;
@@ -263,10 +269,19 @@ static __always_inline u64 owed(u64 rate, u64 passed)
     return passed > LONG_NS && rate && passed > (1ULL << 62) / rate ? 1ULL << 62 : rate * passed;
 }
 
-/* Brings what a leaf holds up to date: before a step of it. */
-static __always_inline void settle(struct leaf *leaf)
+/* What is left of what a leaf holds beyond its credit is gone. */
+static __always_inline void cut_to_credit(struct leaf *leaf)
 {
-    u64 passed = time_ns - leaf->at_ns, credit = credit_of(leaf), most = most_held(leaf);
+    u64 credit = credit_of(leaf);
+
+    if (leaf->held > credit)
+        leaf->held = credit;
+}
+
+/* Brings what a leaf holds up to date. Returns whether that is more than the most. */
+static __always_inline bool settle(struct leaf *leaf)
+{
+    u64 passed = time_ns - leaf->at_ns, credit = credit_of(leaf);
 
     leaf->at_ns = time_ns;
     if (leaf->there > 0) {
@@ -276,17 +291,21 @@ static __always_inline void settle(struct leaf *leaf)
         if (leaf->held > credit)
             leaf->held = credit;
     }
-    if (leaf->held > most)
-        leaf->held = most;
+    return leaf->held > most_held(leaf);
 }
 
-/* What is left of what a leaf holds beyond its credit is gone. */
-static __always_inline void cut_to_credit(struct leaf *leaf)
+/* A leaf holds no more than its credit: a step of its own, which a trace tells. */
+static __always_inline void cut(struct on_cpu *here, u32 row)
 {
-    u64 credit = credit_of(leaf);
+    cut_to_credit(leaf_of(row));
+    note(here, EVENT_CUT, row, 0, 0, 0);
+}
 
-    if (leaf->held > credit)
-        leaf->held = credit;
+/* Before a step of a leaf. */
+static __always_inline void bring_up(struct on_cpu *here, u32 row)
+{
+    if (settle(leaf_of(row)))
+        cut(here, row);
 }
 
 /* When a leaf will hold so much, at its rate: now or in the past, if it does. */
@@ -509,7 +528,7 @@ static __always_inline void wake(struct on_cpu *here, u32 row)
 {
     struct leaf *leaf = leaf_of(row);
 
-    settle(leaf);
+    bring_up(here, row);
     if (leaf->there++ == 0) {
         u64 charge;
         find_level();
@@ -573,8 +592,8 @@ static __always_inline u64 pay(struct on_cpu *here, u32 row, u32 cpu)
 {
     struct leaf *leaf = leaf_of(row);
     u64 paid = QUANTUM_NS * ONE_CPU;
+    bool is_over = settle(leaf);
 
-    settle(leaf);
     if (paid > leaf->held)
         paid = leaf->held;
     leaf->held -= paid;
@@ -583,6 +602,9 @@ static __always_inline u64 pay(struct on_cpu *here, u32 row, u32 cpu)
     leaf->picks++;
     spend(leaf, SLICE_NS);
     note(here, EVENT_PICK, row, cpu, 0, 0);
+    /* (behind the pick, which goes by all that the leaf is owed) */
+    if (is_over)
+        cut(here, row);
     return paid;
 }
 
@@ -605,7 +627,7 @@ static __always_inline void end_slice(struct on_cpu *here, u32 row, u32 cpu, u64
     struct leaf *leaf = leaf_of(row);
     u64 before;
 
-    settle(leaf);
+    bring_up(here, row);
     before = rate_of(leaf);
     give_back(leaf, time_ns - on_cpu(cpu)->since_ns, paid);
     leaf->running--;
@@ -652,8 +674,7 @@ static __always_inline u32 free_first(struct on_cpu *here, u32 number)
     leaf->is_aside = 0;
     note(here, EVENT_STOP, row, 0, 0, false);
     settle(leaf);
-    cut_to_credit(leaf);
-    note(here, EVENT_CUT, row, 0, 0, 0);
+    cut(here, row);
     return row;
 }
 
@@ -703,7 +724,7 @@ static __always_inline void give(struct on_cpu *here, u32 row, u64 amount, u64 g
     /* (a row that had none is owed nothing) */
     if (!leaf->amount)
         leaf->held = QUANTUM_NS * ONE_CPU;
-    settle(leaf);
+    bring_up(here, row);
     if (lead > MOST_LEAD_NS)
         lead = MOST_LEAD_NS;
     leaf->charged = as_charge(amount, level_charge, level_amount) + lead;

@@ -596,6 +596,8 @@ static void write_trace(void)
     FILE *file = fopen(trace, "we");
     if (!file)
         fail("%s: %s", trace, strerror(errno));
+    if (program->bss->steps_lost)
+        fail("the trace lacks %llu steps", (u64)program->bss->steps_lost);
     qsort(steps, step_count, sizeof *steps, by_order);
     fprintf(file, "processors %u\nslice %llu\nterms %llu %llu %llu\n", program->rodata->cpus_there,
         SLICE_NS, QUANTUM_NS, SLACK_NS, CREDIT_NS);

@@ -123,15 +123,28 @@ static __always_inline u32 do_choose(struct on_cpu *here)
     return NOBODY;
 }
 
+/* The stage once it is known what follows on a CPU whose slice was ended. */
+static __always_inline u32 after_other(struct on_cpu *here, u32 own)
+{
+    here->cpu = own;
+    here->ended = 0;
+    return here->then == PUSH ? CUT : here->then;
+}
+
 /* Decides what is done with a choice. The task whose slice has ended may go on, or give way, or
- * have another CPU's task give way. */
+ * have another CPU's task give way. A CPU whose slice was ended and that finds nobody looks again. */
 static __always_inline u32 do_decide(struct on_cpu *here, u32 own)
 {
     struct task *task = task_at(here->about);
     struct leaf *leaf = leaf_of(task->row);
     u32 spent, other = MOST_CPUS;
 
-    here->stage = here->chosen ? RUN : here->cpu == own ? DONE : here->then;
+    here->stage = here->chosen ? RUN : DONE;
+    if (here->ended && !here->chosen) {
+        here->picked_for = here->cpu;
+        here->stage = after_other(here, own);
+        return NOBODY;
+    }
     if (!here->is_ending || here->cpu != own)
         return NOBODY;
     spent = spent_above(leaf);
@@ -189,7 +202,6 @@ static __always_inline u32 do_run(struct on_cpu *here, u32 own)
     here->stage = DONE;
     if (here->then == RUN || (here->then == CHOOSE && cpu == own))
         return task_at(number)->row;
-    here->stage = here->then == PUSH ? CUT : here->then;
     if (number == here->ended) {
         task_at(number)->is_passing = 0;
     } else if (here->ended) {
@@ -197,7 +209,7 @@ static __always_inline u32 do_run(struct on_cpu *here, u32 own)
         here->picked_for = cpu;
         handed_over++;
     }
-    here->cpu = own;
+    here->stage = after_other(here, own);
     return task_at(number)->row;
 }
 

@@ -16,7 +16,15 @@ LIMIT = HEAD + "wake 0 2\nwake 1 1\npick 0 0\nend 0 10 1\nstop 0 1\npick 0 1\nen
 # that of leaf 1 90.
 OWED = ("processors 2\nslice 10\nterms 10 10 20\nleaf 0 1 1048576\nleaf 1 1 524288\nwake 0 1\n"
         "pass 10\nwake 1 1\npass 100\n")
+# Leaf 1 goes out of turn; leaf 0 has the lesser clock.
+LATE = HEAD + "wake 0 1\nwake 1 1\npick 0 1\nend 0 20 1\nlate 1\npick 0 1\n"
+# At a new plan leaf 0 leads by 31 of the 32 slices that it may keep, and leaf 1 has used 30 then.
+LEAD = HEAD + ("wake 0 1\nwake 1 1\npick 0 0\nend 0 310 1\nlevel\ngive 0 1 0\ngive 1 1 0\n"
+               "pick 0 1\nend 0 300 1\n")
 TRACES = {
+    "a late turn": (LATE, {outside.ALLOWED: 1, outside.LATE: 1}),
+    "a lead of 31 slices is kept": (LEAD + "pick 0 1\n", {outside.ALLOWED: 3}),
+    "it goes last": (LEAD + "pick 0 0\n", {outside.ALLOWED: 2, outside.WRONG: 1}),
     "a bound task is passed by": (BEHIND + "pick 0 1\n", {outside.ALLOWED: 2, outside.BOUND: 1}),
     "its CPU may not": (BEHIND + "pick 2 1\n", {outside.ALLOWED: 2, outside.WRONG: 1}),
     "nor any where it waits no longer": (
@@ -71,6 +79,8 @@ def test_the_proved_program_allows_what_is_passed_by():
         pytest.skip(f"no {traced.DISPATCH}")
     assert traced.replayed(BEHIND + "pick 0 1\n") == "allowed: 4 picks"
     assert traced.replayed(LIMIT + "pick 0 1\n") == "allowed: 4 picks"
+    assert traced.replayed(LATE) == "allowed: 3 picks"
+    assert traced.replayed(LEAD + "pick 0 1\n") == "allowed: 3 picks"
     assert "lesser clock" in traced.replayed(BEHIND + "bound 0 2 0\npick 0 1\n")
     assert traced.replayed(OWED + "pick 0 0\n") == "allowed: 1 picks"
     assert "earlier deadline" in traced.replayed(OWED + "pick 0 1\n")

@@ -230,6 +230,16 @@ CASES = {
 }
 
 
+# Hosts whose tasks are held back for long: by masks, a limit, and a real-time task on the CPU that a
+# task is bound to. So what a leaf is owed passes the most that it may keep.
+TAKEN = ("r,0,300000,700000", f"a,90,0,1,{ALWAYS}:g=500", f"a,50,0,2,{ALWAYS}:g=500")
+HELD_BACK = {
+    "a pool and 60 tasks at a limit": CASES["a pool and 60 tasks at a limit"],
+    "a bound task on a CPU that is taken": Case(2, (*TAKEN, "a,20,0,1,0,0,0,0:g=500")),
+    "two of a small part are bound there": Case(2, (*TAKEN, "a,2,0,2,0,0,0,0:g=200")),
+}
+
+
 def found_in(lines: list[str]) -> dict[str, list[list[int]]]:
     """The numbers behind each first word."""
     found: dict[str, list[list[int]]] = {}
@@ -262,6 +272,20 @@ def test_what_others_cannot_do(program, name):
     case = CASES[name]
     lines = lines_of(program, ["-q", *case.options], 1, case.seconds, case.cpus, case.groups)
     assert broken(case, found_in(lines)) == []
+
+
+@pytest.mark.parametrize("name", HELD_BACK)
+def test_picks_past_who_is_held_back(program, name):
+    """No pick is wrong, and the proved program allows each with who is held back on processors of
+    their own. What a leaf is owed beyond the most is cut, which the trace tells."""
+    case = HELD_BACK[name]
+    lines = lines_of(program, case.options, 1, 3, case.cpus, case.groups)
+    trace = "".join(line for line in lines if not line.startswith(FOUND))
+    replay = outside.Replay(trace)
+    assert not replay.found[outside.WRONG] and replay.found[outside.ALLOWED] > 500
+    assert replay.most_away and "cut " in trace
+    if traced.DISPATCH.is_file():
+        assert traced.replayed(trace) == f"allowed: {replay.text.count('pick ')} picks"
 
 
 @pytest.mark.parametrize("name", ROWS)

@@ -18,8 +18,8 @@ MORE = ("bound ", "stop ", "late ")
 ALLOWED, WRONG = "allowed", "wrong"
 BOUND, STOPPED, LIFTED = "before a bound task", "before a stopped leaf", "lifted over one held back"
 LATE = "out of turn"
-# Parts of a CPU, and the most that a leaf keeps of its lead at a new plan, in nanoseconds.
-ONE_CPU, MOST_LEAD = 1 << 20, 96_000_000
+# Parts of a CPU, and the most that a leaf keeps of its lead at a new plan, in slices.
+ONE_CPU, MOST_LEAD = 1 << 20, 32
 
 
 @dataclass(frozen=True)
@@ -136,7 +136,7 @@ class Replay:
         self.found, self.lines = Counter[str](), list[str]()
         # The level of clocks at a new plan: a charge and an amount.
         self.level_now = (0, 1)
-        self.most_away = 0
+        self.most_away = self.most_held = 0
         self.is_late = False
         steps: dict[str, Callable[..., None]] = {
             "processors": self.processors, "slice": self.set_slice, "terms": self.set_terms,
@@ -151,7 +151,10 @@ class Replay:
     @property
     def text(self) -> str:
         """The lines for the proved program."""
-        head = f"processors {self.count + self.most_away}"
+        # (so many that what a leaf is owed is bounded by cuts alone while it is held back)
+        enough = self.most_held // max(2 * self.terms.quantum * ONE_CPU, 1) + 1
+        most = self.count + self.most_away
+        head = f"processors {max(most, enough) if self.most_away else most}"
         return "\n".join([head, *self.lines[1:]]) + "\n"
 
     def processors(self, count: int) -> None:
@@ -214,7 +217,7 @@ class Replay:
         kind = LATE if self.is_late else min(before.values(), default=ALLOWED)
         self.is_late = False
         self.found[kind if kind and not is_wrong else WRONG] += 1
-        away = self.away([each for each, why in before.items() if why], leaf)
+        away = self.away([each for each, why in before.items() if why or kind == LATE], leaf)
         self.lines += [f"pick {at} {each}" for at, each in enumerate(away, self.count)]
         self.lines.append(f"pick {processor} {row}")
         self.lines += [f"end {at} 0 1" for at in range(self.count, self.count + len(away))]
@@ -233,6 +236,7 @@ class Replay:
                      if each.waiting and each.is_before(leaf, self.terms)]
             if not waits:
                 self.most_away = max(self.most_away, len(found))
+                self.most_held = max([self.most_held, *(self.leaves[row].held for row in found)])
                 return found
             first = waits[0]
             for row in waits[1:]:
@@ -279,7 +283,7 @@ class Replay:
         leaf = self.capped(row)
         charge, of = self.level_now
         lead = max(leaf.charged - charge * leaf.amount // of, 0)
-        leaf.charged = charge * amount // of + min(lead, MOST_LEAD)
+        leaf.charged = charge * amount // of + min(lead, MOST_LEAD * self.slice)
         leaf.amount, leaf.guarantee = amount, guarantee
 
     def cut(self, row: int) -> None:
