@@ -16,6 +16,8 @@ LIMIT = HEAD + "wake 0 2\nwake 1 1\npick 0 0\nend 0 10 1\nstop 0 1\npick 0 1\nen
 # that of leaf 1 90.
 OWED = ("processors 2\nslice 10\nterms 10 10 20\nleaf 0 1 1048576\nleaf 1 1 524288\nwake 0 1\n"
         "pass 10\nwake 1 1\npass 100\n")
+# Leaf 2 is lifted to the clock of leaf 1, 20, though leaf 0 has 10.
+LIFTED = LIMIT + "leaf 2 1\nwake 2 1\npick 0 1\n"
 # Leaf 1 goes out of turn; leaf 0 has the lesser clock.
 LATE = HEAD + "wake 0 1\nwake 1 1\npick 0 1\nend 0 20 1\nlate 1\npick 0 1\n"
 # At a new plan leaf 0 leads by 31 of the 32 slices that it may keep, and leaf 1 has used 30 then.
@@ -32,10 +34,8 @@ TRACES = {
     "a stopped leaf is passed by": (LIMIT + "pick 0 1\n", {outside.ALLOWED: 2, outside.STOPPED: 1}),
     "it is not picked": (LIMIT + "pick 0 0\n", {outside.ALLOWED: 2, outside.WRONG: 1}),
     "it may be in the next period": (LIMIT + "stop 0 0\npick 0 0\n", {outside.ALLOWED: 3}),
-    # leaf 2 is lifted to the clock of leaf 1, 20, not to that of leaf 0
     "a stopped leaf lifts nobody": (
-        LIMIT + "leaf 2 1\nwake 2 1\npick 0 1\n",
-        {outside.ALLOWED: 2, outside.STOPPED: 1, outside.LIFTED: 1}),
+        LIFTED, {outside.ALLOWED: 2, outside.STOPPED: 1, outside.LIFTED: 1}),
     "deadlines are of all that is owed": (OWED + "pick 0 0\n", {outside.ALLOWED: 1}),
     "a later one does not go first": (OWED + "pick 0 1\n", {outside.WRONG: 1}),
 }
@@ -80,6 +80,8 @@ def test_the_proved_program_allows_what_is_passed_by():
     assert traced.replayed(BEHIND + "pick 0 1\n") == "allowed: 4 picks"
     assert traced.replayed(LIMIT + "pick 0 1\n") == "allowed: 4 picks"
     assert traced.replayed(LATE) == "allowed: 3 picks"
+    # (with a run of leaf 2 that uses 10 at once)
+    assert traced.replayed(LIFTED) == "allowed: 5 picks"
     assert traced.replayed(LEAD + "pick 0 1\n") == "allowed: 3 picks"
     assert "lesser clock" in traced.replayed(BEHIND + "bound 0 2 0\npick 0 1\n")
     assert traced.replayed(OWED + "pick 0 0\n") == "allowed: 1 picks"

@@ -2,8 +2,8 @@
 
 The proved rule knows neither. Here it is stated with both: a leaf is held back at a pick if it is
 stopped, or if each of its tasks that wait does so for other CPUs. Then others go first. A leaf that
-wakes is not lifted to the clock of one that is held back from all CPUs. A task that has waited for
-long has a turn past the rule.
+wakes is not lifted to the clock of one that is held back from all CPUs, but further. A task that has
+waited for long has a turn past the rule. All these are counted.
 """
 from __future__ import annotations
 
@@ -196,14 +196,31 @@ class Replay:
     def wake(self, row: int, tasks: int) -> None:
         """Tasks of a leaf want to run."""
         leaf = self.capped(row)
+        by_rule = leaf.charged
         wants = [each for each in self.leaves if each.waiting or each.running]
         if leaf not in wants:
             seen = [each for each in wants if each.running or not each.is_stopped
                     and (self.terms.quantum or each.is_ready)]
-            lifted = max(leaf.charged, self.level(leaf, seen))
-            self.found[LIFTED] += lifted != max(leaf.charged, self.level(leaf, wants))
-            leaf.charged = lifted
+            by_rule = max(leaf.charged, self.level(leaf, wants))
+            leaf.charged = max(leaf.charged, self.level(leaf, seen))
         leaf.waiting += tasks
+        if leaf.charged != by_rule:
+            self.found[LIFTED] += 1
+            self.charge(row, by_rule)
+
+    def charge(self, row: int, by_rule: int) -> None:
+        """A leaf that wakes is lifted further than the rule lifts it: the text has a run of it, by a
+        processor of its own, that uses the rest at once."""
+        leaf = self.leaves[row]
+        woken = replace(leaf, charged=by_rule)
+        away = self.away([each for each, other in enumerate(self.leaves)
+                          if other.waiting and other is not leaf], woken)
+        at = self.count + len(away)
+        self.most_away = max(self.most_away, len(away) + 1)
+        self.most_held = max(self.most_held, leaf.held)
+        self.lines += [f"pick {each} {other}" for each, other in enumerate([*away, row], self.count)]
+        self.lines.append(f"end {at} {leaf.charged - by_rule} 1")
+        self.lines += [f"end {each} 0 1" for each in range(self.count, at)]
 
     def pick(self, processor: int, row: int) -> None:
         """A processor takes a task. Before there were terms a CPU was two processors."""
