@@ -226,6 +226,16 @@ def test_recorded_picks(dispatch, path):
     assert f"{LESSER}\n" in found
 
 
+def test_premises_of_a_guest(dispatch):
+    """The pages have the number of events at which the premises of the law fail."""
+    trace = gzip.decompress((ROOT / "bench/kernel/runs/picks-guarantees.txt.gz").read_bytes())
+    premises = replayed(dispatch, trace.decode())[1].splitlines()[1]
+    same(premises, "premises: fail first at line 10, in all at 107 of 13675 events")
+    for page in ("LINUX.md", "PROVED.md"):
+        said = (ROOT / "docs" / page).read_text(encoding="utf-8").replace("13,675", "13675")
+        assert "fail at 107 of " in said and "13675 events" in said, page
+
+
 class Model:
     """The rule, with clocks as fractions."""
 
