@@ -23,6 +23,8 @@ SPAN = layout.Span(seconds=3, settle=1, has_grid=False)
 NAMES = ("two-three", "two-pinned")
 # Hundredths of a CPU that a group may be off in three seconds, and the least part that is served.
 MOST_OFF, LEAST_SERVED = 3.0, 0.98
+# Of so many picks at most one goes before a task that waits for some CPUs.
+MOST_PASSED = 20
 # What `arbiterctl hold` itself holds; each run ends in its own way (`ENDS`). In the second one the
 # plan changes each second.
 LOOPS = ("two-eight", "two-flip")
@@ -68,19 +70,19 @@ def test_the_plan_is_served(traced_runs, name):
 
 
 def test_each_pick_is_one_that_the_rule_allows(traced_runs):
-    """All of the first plan, where each task may run on each CPU."""
-    trace = traced.of_first_plan(traced_runs[2])
+    """All of both plans, with tasks that are passed by on processors of their own."""
     if not traced.DISPATCH.is_file():
         pytest.skip(f"no {traced.DISPATCH}")
-    assert traced.replayed(trace) == f"allowed: {trace.count('pick ')} picks"
-    assert trace.count("pick ") > 500
+    replay = outside.Replay(traced_runs[2])
+    assert traced.replayed(traced_runs[2]) == f"allowed: {replay.text.count('pick ')} picks"
 
 
 def test_picks_before_a_bound_task(traced_runs):
-    """Others go before the pinned task of the second plan, which waits for its CPU. No other pick
-    leaves the rule, in both plans."""
+    """Others go before the pinned task of the second plan, which waits for its CPU, and before one
+    that the kernel keeps on a CPU for a moment. They are few. No other pick leaves the rule."""
     found = outside.Replay(traced_runs[2]).found
-    assert not found[outside.WRONG] and found[outside.ALLOWED] > 500 and found[outside.BOUND]
+    assert set(+found) == {outside.ALLOWED, outside.BOUND}
+    assert found[outside.ALLOWED] > MOST_PASSED * found[outside.BOUND] and found.total() > 1000
 
 
 @pytest.fixture(scope="module", name="loops")

@@ -189,7 +189,8 @@ CASES = {
         {1: (1, 1), 2: (199, 1)}, {2: 600}, {1: 1200}, seconds=60) for count in (100, 400, 4000)},
     **{f"{count} tasks planned a tenth of a CPU": Case(
         2, (f"a,10,0,{count},{ALWAYS}:g=100", f"a,190,0,2,{ALWAYS}:g=1900"),
-        {1: (10, 1), 2: (190, 1)}, {2: 120}, seconds=60) for count in (100, 1000, 3000)},
+        {1: (10, 1), 2: (190, 1)}, {2: lack}, seconds=60)
+       for count, lack in ((100, 120), (1000, 120), (3000, 140))},
     # rounds, and leaves that wake
     **{f"{count} light groups": Case(
         cpus, (f"a,10000,0,{cpus},{ALWAYS}:g={heavy}", *lights(count, light)),

@@ -26,8 +26,6 @@ TOP = Path(__file__).resolve().parents[3]
 DISPATCH = TOP / "crates/dispatch/out/dispatch"
 SPAN = layout.Span(seconds=5, settle=1, has_grid=False)
 SECONDS = 120
-# The step that begins a plan.
-LEVEL = "level\n"
 
 
 def traces(kernel: packages.Kernel, setting: machine.Setting, found: Sequence[Scenario],
@@ -43,11 +41,6 @@ def traces(kernel: packages.Kernel, setting: machine.Setting, found: Sequence[Sc
     told = held.lines_of(kernel, found[0].board, setting, scripts, None, True)
     lines, steps = held.traces_in(told)
     return lines, "".join(steps.values())
-
-
-def of_first_plan(trace: str) -> str:
-    """The steps of a trace before its second plan."""
-    return LEVEL.join(trace.split(LEVEL)[:2])
 
 
 def replayed(trace: str) -> str:
