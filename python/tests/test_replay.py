@@ -87,7 +87,7 @@ def test_samples_as_csv():
     cells = [series.SampleCell(at, 2 * at, None if at % 2 else 9, 3, at, 0, 1, 0, 5)
              for at in range(4)]
     found = series.Series(["a,b", "x\x1b", "1", "-"], {"g/\u202e": cells, ".": cells[::-1]},
-                          Host(2, 100000, 5000))
+                          Host(2, 100000, 5000), "", "")
     assert series.records(found, "slices").csv() == (
         "sample,group,gets,wants,limit,periods,throttled,throttled_not_by_limit,bursts,starved,"
         "withheld_usec\n"

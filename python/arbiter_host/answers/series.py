@@ -22,7 +22,7 @@ from arbiter_host.base.faults import HostFault, UsageFault
 from arbiter_host.base.model import Model, checked
 from arbiter_host.base.names import cut, parent_path, short, shown
 from arbiter_host.base.plan import Engine
-from arbiter_host.base.tables import Column, Forms, Table, TableAnswer
+from arbiter_host.base.tables import Column, Forms, Table, TableAnswer, plain
 from arbiter_host.sources.samples import History
 
 FLAGS = (("T", "throttled", "#b4231f"), ("t", "throttled, not by its limit", "#d97706"),
@@ -87,6 +87,9 @@ class Series:
     names: list[str]
     groups: dict[str, list[SampleCell]]
     host: Host
+    # What the demands and the weights are, in words.
+    asked: str
+    weighed: str
 
 
 def target(model: Model, children: Mapping[str, list[str]], pattern: str) -> str:
@@ -192,15 +195,23 @@ def asked_of(engine: Engine, model: Model, history: History, unit: str, path_of:
                     periods)
 
 
+def asked_words(history: History, usec: int) -> str:
+    """The words for demands that are samples of so many microseconds; 0 stands for one period."""
+    each = units.span_words(Fraction(usec, 10**6)) if usec else "one period"
+    return f"{len(history.samples)} samples, each of {each}"
+
+
 def run(engine: Engine, model: Model, history: History, unit: str, chosen: Sequence[str],
-        path_of: Mapping[str, str], periods: int, tick: Callable[[], None]) -> Series:
-    """The samples one after another. Columns of no path are left out."""
+        path_of: Mapping[str, str], sample: int, tick: Callable[[], None]) -> Series:
+    """The samples, of so many microseconds each, one after another. Columns of no path are left
+    out."""
+    periods = sample_periods(sample, model.host.period_us)
     asked = asked_of(engine, model, history, unit, path_of, periods)
     if not asked.demands:
         raise HostFault("no sample")
     shown_ = list(dict.fromkeys(chosen or path_of.values() or ["."]))
     return Series([each.name for each in history.samples], asked.cells(engine, shown_, tick),
-                  asked.host)
+                  asked.host, asked_words(history, sample), model.weighed)
 
 
 def set_demands(model: Model, path_of: Mapping[str, str], asked: Mapping[str, Fraction]) -> None:
@@ -270,12 +281,26 @@ def column(key: str, value: Callable[[Sampled], Any]) -> Column[Sampled]:
                   value=value)
 
 
+def heads(series: Series, unit: str) -> Iterator[str]:
+    """The lines above the table."""
+    periods = max((sum(each.periods for each in cells) for cells in series.groups.values()),
+                  default=0)
+    starves = any(cell.starved for cells in series.groups.values() for cell in cells)
+    yield f"{text.host_words(series.host)}; the proved check accepted each plan"
+    yield f"demands: {series.asked}; weights: {series.weighed}"
+    yield (f"wanted, got: means, in {text.UNIT_WORDS[unit]}; throttled to starved: sums over"
+           f" {periods} periods")
+    yield from ["samples in a row: the most in which it starved"] * starves
+    yield ""
+
+
 def forms(series: Series, unit: str) -> Forms:
     """The forms of samples."""
-    return {**TableAnswer(lambda: [table(series, unit)], dict).forms(),
+    return {**TableAnswer(lambda: [*plain(*heads(series, unit)), table(series, unit)], dict).forms(),
             "csv": lambda: records(series, unit).csv(),
-            "json": lambda: json.dumps({"unit": unit, "records": records(series, unit).data()},
-                                       indent=1) + "\n",
+            "json": lambda: json.dumps({
+                "unit": unit, "demands": series.asked, "weights": series.weighed,
+                "records": records(series, unit).data()}, indent=1) + "\n",
             "svg": lambda: picture(series)}
 
 

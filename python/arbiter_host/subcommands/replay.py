@@ -77,8 +77,7 @@ def forms(options: argparse.Namespace, files: Sequence[Opened], uses: UseOptions
         output.warn(f"{used.name(uses)}: without a number, which counts as 0, {some(lacking)}")
     paths = shown_groups(options, model)
     with progress.bar("samples", len(history.samples)) as tick:
-        found = series.run(by, model, history, options.unit, paths, path_of,
-                           series.sample_periods(sample, model.host.period_us), tick)
+        found = series.run(by, model, history, options.unit, paths, path_of, sample, tick)
     return series.forms(found, options.unit)
 
 
