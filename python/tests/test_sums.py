@@ -97,7 +97,8 @@ def test_hosts_and_workloads(ctl, folder, seed):
     by_load = sum(Fraction(str(each["served_cpus"])) for each in loads)
     assert by_load == per == Fraction(str(fleet["served_cpus"]))
     for title, at, key in (("Hosts, the greatest lack first", 2, "served"),
-                           ("Workloads, the greatest lack first", -3, "served")):
+                           ("Workloads, the greatest lack first, with requests as the scheduler counts them",
+                            -3, "served")):
         if title.startswith("W") and not loads:
             continue
         shown = [Fraction(row[at]) for row in table(text, title)[1:]]

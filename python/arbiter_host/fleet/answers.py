@@ -89,8 +89,7 @@ def explained(_: Job, plans: Iterator[Plan], told: dict[str, Any]) -> dict[str, 
     return {**sums(plan, chosen), "workloads": by_workload(plan, told, chosen),
             "limits": len(limiting), "limiting": limiting[:MOST_NAMED],
             "worst": [[path, plan.groups[row].gets, plan.groups[row].want]
-                      for _, path, row in worst],
-            "demands": str(told["demands"]), "weights": str(told["weights"])}
+                      for _, path, row in worst]}
 
 
 def moved(before: Plan, after: Plan, chosen: Chosen = None) -> list[tuple[int, str]]:
@@ -190,7 +189,9 @@ def answer_of(job: Job, sent: Sent | str, engine: Engine) -> dict[str, Any]:
         answer = ACTIONS[job.action](
             job, (accepted(engine, host, each) for each in sent.plans), sent.told
         ) if job.action in ACTIONS else replayed(engine, host, sent)
-        told = {key: words_in(sent.told[key]) for key in ("refused", "notes")}
+        told = {key: words_in(sent.told[key]) for key in ("refused", "notes")} | {
+            key: str(sent.told[word]) for key, word in (("demands", "asked"),
+                                                        ("weights", "weighed"))}
     except BROKEN as error:
         raise HostFault(f"what its worker answers cannot be read: {type(error).__name__}"
                         ) from error

@@ -26,7 +26,7 @@ RULES = {
 OWN = "the order is arbiterctl's own, neither proved nor the scheduler's scores: by"
 # The amounts of a pod that is put on a host.
 AMOUNTS = ("gets", "wants", "lost")
-MOST_MOVED = 10
+MOST_MOVED, MOST_REASONS = 10, 3
 # The titles of pages.
 TITLES = {Action.PLAN: "What each host serves", Action.CHANGE: "A change on many hosts",
           Action.PODS: "Where pods would go", Action.SAMPLES: "Demands over time on many hosts"}
@@ -136,6 +136,8 @@ def of_row(title: str, key: str, is_left: bool | None = None, is_bad: bool = Fal
     return Column(title, cell, is_left, is_optional=is_bad)
 
 
+# (the requests of a pod are no sum of its containers' where an init container needs more)
+LOADS_TITLE = "Workloads, the greatest lack first, with requests as the scheduler counts them"
 LOADS: list[Column[Row]] = [
     Column("workload", lambda row: shown(row["workload"]) + (" (HPA)" if row["scaled"] else ""),
            True), Column("requests", lambda row: f"{row['request_millicpu']}m"),
@@ -152,14 +154,19 @@ def of_plan(hosts: Sequence[HostAnswer], _: str) -> Parts:
              " the proved check accepted each plan",
              f"groups without all that they want: {counts['lacking']}, of these starved:"
              f" {counts['starved']}; throttled: {counts['throttled']}",
-             f"demands: {distinct(hosts, 'demands')}; weights: {distinct(hosts, 'weights')}"]
+             asked(hosts)]
     ordered = sorted(hosts, key=lambda host: (-lack(host), host.name))
     loads = workloads(hosts)
     data = {f"{key}_cpus": number(value) for key, value in amounts.items()} | counts | {
         "workloads": loads}
     tables: list[Table[Any]] = [Table(PLAN_COLUMNS, ordered, "Hosts, the greatest lack first")]
-    tables += [Table(LOADS, loads, "Workloads, the greatest lack first")] if loads else []
+    tables += [Table(LOADS, loads, LOADS_TITLE)] if loads else []
     return lines, tables, data, {"": amounts["served"]}
+
+
+def asked(hosts: Sequence[HostAnswer]) -> str:
+    """The demands and the weights of some hosts, in words."""
+    return f"demands: {distinct(hosts, 'demands')}; weights: {distinct(hosts, 'weights')}"
 
 
 def distinct(hosts: Sequence[HostAnswer], key: str) -> str:
@@ -224,7 +231,7 @@ def of_changes(hosts: Sequence[HostAnswer], _: str) -> Parts:
     gain, lose = (sum(count for rise, count in changes if sign * rise > 0) for sign in (1, -1))
     with_group = sum(host.answer["matched"] > 0 for host in hosts)
     lines = [f"{cpu(before)} CPUs served before, {cpu(after)} after; the proved check accepted"
-             " each plan",
+             " each plan", asked(hosts),
              f"hosts with such a group: {with_group} of {len(hosts)}",
              f"groups that gain: {gain}, that lose: {lose}, of"
              f" {sum(count for _, count in changes)} without children"]
@@ -264,7 +271,7 @@ def place_columns(place: int) -> Columns:
 
 def of_places(hosts: Sequence[HostAnswer], rule: str) -> Parts:
     """The report of `place`: for each pod the best hosts first."""
-    lines, tables, best = [f"{OWN} {rule}: {RULES[rule]}; amounts are CPUs"], [], {}
+    lines, tables, best = [f"{OWN} {rule}: {RULES[rule]}; amounts are CPUs", asked(hosts)], [], {}
     for place, name in enumerate(pod["pod"] for pod in hosts[0].answer["pods"]) if hosts else ():
         order, pods = ranked(hosts, place, rule), [host.answer["pods"][place] for host in hosts]
         cannot = [f"{host.name}: {shown(pod['why'])}" for host, pod in zip(hosts, pods)
@@ -317,7 +324,7 @@ def of_series(hosts: Sequence[HostAnswer], _: str) -> Parts:
     sums: dict[str, Any] = {f"mean_{each}_cpus": number(value) for each, value in means.items()}
     sums |= {name: sum(count(host, name) for host in hosts) for name in list(COUNTS.values())[3:]}
     lines = [f"{sums['mean_got_cpus']:.2f} CPUs got of {sums['mean_wanted_cpus']:.2f} wanted, as"
-             " means; the proved check accepted each plan",
+             " means; the proved check accepted each plan", asked(hosts),
              f"periods of groups: throttled {sums['throttled']}, with a burst {sums['bursts']},"
              f" starved {sums['starved']}"]
     ordered = sorted(hosts, key=lambda host: (mean(host, "got") - mean(host, "wanted"), host.name))
@@ -424,9 +431,15 @@ def refusal(place: int, hosts: Sequence[HostAnswer], order: Sequence[HostAnswer]
         return "no host is answered"
     if order:
         return f"pods before it take what {order[0].name} has left"
-    rest = f"; {len(hosts) - 1} more refuse it" if len(hosts) > 1 else ""
-    name, told = hosts[0].name, hosts[0].answer["pods"][place]
-    return f"{name}: {told['why'] if 'why' in told else whys[name]}{rest}"
+    # (reasons that differ in numbers alone are one, the one of most hosts first)
+    alike: dict[str, list[str]] = {}
+    for host in hosts:
+        told = host.answer["pods"][place]
+        why = told["why"] if "why" in told else whys[host.name]
+        alike.setdefault(re.sub("[0-9]+", "0", why), []).append(f"{host.name}: {why}")
+    first = [each[0] for each in sorted(alike.values(), key=lambda each: -len(each))[:MOST_REASONS]]
+    rest = len(hosts) - len(first)
+    return "; ".join([*first, *([f"{rest} more refuse it"] if rest else [])])
 
 
 def with_placed(to: Report, title: str, waiting: Sequence[Waiting], hosts: Sequence[HostAnswer],

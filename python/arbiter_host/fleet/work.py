@@ -89,6 +89,7 @@ class Sent(NamedTuple):
 
 
 SentPlans = tuple[list[SentRows], dict[str, Any]]
+AS_BUSY = "a request is no demand, and the demands stay: --want busy says who pays for it"
 
 
 def sent(model: Model, columns: Columns) -> SentRows:
@@ -111,8 +112,7 @@ def chosen(job: Job, model: Model) -> list[str] | None:
 
 def explained(_: Job, model: Model, engine: Engine) -> SentPlans:
     workloads = model.owned.workloads() if model.owned is not None else []
-    return rows(engine, model), {"demands": model.asked, "weights": model.weighed,
-                                 "workloads": [tuple(each) for each in workloads]}
+    return rows(engine, model), {"workloads": [tuple(each) for each in workloads]}
 
 
 def matched(model: Model, words: Sequence[str]) -> tuple[list[str], set[str]]:
@@ -131,7 +131,11 @@ def matched(model: Model, words: Sequence[str]) -> tuple[list[str], set[str]]:
 def compared(job: Job, model: Model, engine: Engine) -> SentPlans:
     words, paths = matched(model, job.sets)
     after = change.changed(model, words)
-    return rows(engine, model, after), {"matched": sorted(paths), "notes": after.notes}
+    stay = model.owned is not None and model.owned.busy() is not None and any(
+        change.split(word)[1] == "request" for word in words)
+    return rows(engine, model, after), {
+        "matched": sorted(paths), "notes": [*after.notes, *[AS_BUSY] * stay],
+        "asked": after.asked, "weighed": after.weighed}
 
 
 def with_pod(model: Model, pod: Model) -> tuple[Model, list[str]]:
@@ -199,7 +203,7 @@ def replayed(job: Job, model: Model, engine: Engine, history: History) -> SentPl
     return [SentRows(asked.paths, asked.settings)], {
         "demands": asked.demands, "carries": asked.carries, "periods": periods,
         "columns": [path for path in path_of.values() if wanted is None or path in wanted],
-        "unknown": missing, "chosen": wanted}
+        "unknown": missing, "chosen": wanted, "asked": series.asked_words(history, job.sample_usec)}
 
 
 ACTIONS = {Action.PLAN: explained, Action.CHANGE: compared, Action.PODS: placed}
@@ -224,7 +228,8 @@ def planned(job: Job, host: HostFile) -> Sent:
         model = options.of_samples(engine.library, kind, model, job.unit, job.sample_usec)
         plans, told = replayed(job, model, engine, host.history)
     notes = list(dict.fromkeys([*model.notes, *told.get("notes", [])]))
-    return Sent(model.host, plans, {**told, "notes": notes, "refused": model.refused})
+    return Sent(model.host, plans, {"asked": model.asked, "weighed": model.weighed, **told,
+                                    "notes": notes, "refused": model.refused})
 
 
 def answered(job: Job, host: HostFile) -> Sent | str:
