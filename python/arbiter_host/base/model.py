@@ -193,6 +193,10 @@ class Model:
             place[path] = len(rows)
             demand = slices.demand(group.usable) if group.demand else 0
             limit = slices.limit(*group.bandwidth)
+            # (a limit is rounded down and a demand up: that alone makes no group short)
+            if limit and demand > limit and group.usable * group.period <= 1000 * (
+                    group.quota or 0):
+                demand = limit
             if group.keeps_to is not None:
                 cpus = group.keeps_to * (self.host.period_us // self.host.slice_us)
                 limit = cpus if limit is None else min(limit, cpus)
