@@ -53,6 +53,9 @@ def unknown_of(model: Model) -> str:
         return f"groups that ask and have no number of tasks: {unknown}"
     if not asking:
         return "nothing is asked for"
+    bound = sum(group.keeps_to is not None for group in model.groups.values())
+    if bound:
+        return f"groups that keep to some CPUs: {bound}"
     count = sum(group.tasks or 0 for group in asking)
     if count > MOST_TASKS or model.host.processors > MOST_PROCESSORS:
         return f"more than {MOST_TASKS} tasks or {MOST_PROCESSORS} CPUs"

@@ -107,6 +107,8 @@ def head(ranked: Ranked) -> Iterator[str]:
     span = " to ".join(dict.fromkeys(map(units.decimal, (min(lengths), max(lengths)))))
     yield text.host_words(ranked.audit.plan.model.host)
     yield f"intervals: {len(intervals)}, each of {span} s; the proved check accepted each plan"
+    yield (f"demands: {ranked.audit.asked} of each interval; weights:"
+           f" {ranked.audit.plan.model.weighed or 'none'}")
     yield "off: what a group used less its plan, in hundredths of a CPU and in parts of the plan"
     unplanned = [each.unplanned for each in intervals if each.unplanned is not None]
     if unplanned:
@@ -168,7 +170,8 @@ def as_data(ranked: Ranked) -> dict[str, Any]:
     audit, host = ranked.audit, ranked.audit.plan.model.host
     return {"host": {"processors": host.processors, "period_usec": host.period_us,
                      "slice_usec": host.slice_us},
-            "check": "accepted", "engine": audit.plan.by,
+            "check": "accepted", "engine": audit.plan.by, "demands": audit.asked,
+            "weights": audit.plan.model.weighed,
             "intervals": [{"from": each.name, "seconds": number(each.seconds),
                            "unplanned_millicpu": number(each.unplanned)}
                           for each in audit.intervals],

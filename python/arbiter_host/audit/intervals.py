@@ -26,7 +26,7 @@ def collected(seen: Iterable[TreeReading], count: int = 0) -> list[TreeReading]:
     """Readings as a list, of which so many are to come. Equal settings are kept once, and those of
     a tree are named by the seconds since the first."""
     def settings_of(model: Model) -> list[tuple[object, ...]]:
-        return [(path, each.weight, each.quota, each.period, each.burst)
+        return [(path, each.weight, each.quota, each.period, each.burst, each.keeps_to)
                 for path, each in model.groups.items()]
 
     found: list[TreeReading] = []
@@ -103,6 +103,14 @@ class Audit:
     notes: list[str] = field(default_factory=list)
     # Why placement is known of no interval; empty where it may be.
     why_not: str = ""
+    # The rule of all demands; None where a group that was throttled or hungry has another.
+    want: str | None = None
+
+    @property
+    def asked(self) -> str:
+        """What the demands are, in words."""
+        return {None: "use, raised where throttled or hungry,", "usage": "use",
+                "psi": "use, raised by waiting,"}.get(self.want, f"{self.want}")
 
 
 def unplanned_cell(engine: Engine, group: Group, span: Span, tasks: int | None, host: Host,
@@ -215,4 +223,4 @@ def audited(engine: Engine, seen: Sequence[TreeReading], want: str | None, away:
     if last is None or not any(cell.used for each in intervals for cell in each.cells.values()):
         raise HostFault("no usage: no counter of a group rises from one look to the next. Take"
                         " later copies, or a longer range")
-    return Audit(intervals, last, notes_of(seen, intervals))
+    return Audit(intervals, last, notes_of(seen, intervals), want=want)

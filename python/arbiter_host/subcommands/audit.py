@@ -10,7 +10,7 @@ from arbiter_host.audit import answer, intervals, ranges, unknown
 from arbiter_host.audit.answer import Ranked
 from arbiter_host.base import progress
 from arbiter_host.base.faults import HostFault, UsageFault
-from arbiter_host.base.model import Model
+from arbiter_host.base.model import Model, bind
 from arbiter_host.base.names import shown
 from arbiter_host.base.output import write_forms
 from arbiter_host.base.plan import Engine, engine_of
@@ -50,6 +50,12 @@ def times_of(asked: argparse.Namespace, is_live: bool) -> Times:
     return times
 
 
+def bound(look: TreeReading) -> TreeReading:
+    """A reading whose groups that keep to some CPUs have at most these."""
+    bind(look.model, look.bound)
+    return look
+
+
 def of_trees(asked: argparse.Namespace, library: Library) -> list[TreeReading]:
     """The readings of copies of a tree, or at one tree again and again."""
     folders = asked.source or [readings.HOST_TREE]
@@ -61,7 +67,7 @@ def of_trees(asked: argparse.Namespace, library: Library) -> list[TreeReading]:
     options.check(asked, "cgroup")
     times = times_of(asked, len(folders) == 1)
     host = source_options(asked, times=times).machine(library)
-    seen = readings.readings_of(folders, host, times, has_threads=True)
+    seen = map(bound, readings.readings_of(folders, host, times, has_threads=True))
     return intervals.collected(seen, times.number or 0 if len(folders) == 1 else len(folders))
 
 
