@@ -15,7 +15,7 @@ complete -c arbiterctl -n __fish_use_subcommand -f -a hold -d 'hold the plan on 
 complete -c arbiterctl -n __fish_use_subcommand -s h -l help -d 'print help'
 complete -c arbiterctl -n __fish_use_subcommand -s V -l version -d 'print the version'
 
-complete -c arbiterctl -n '__fish_seen_subcommand_from explain' -s g -l group -x -d 'these groups and what is below them: a path, the end of one, a title, or a pattern with `*`; may be said again'
+complete -c arbiterctl -n '__fish_seen_subcommand_from explain' -s g -l group -x -d 'these groups and what is below them: a path or title, the end of one, or a pattern with `*`; may be said again'
 complete -c arbiterctl -n '__fish_seen_subcommand_from explain' -s n -l namespace -x -d 'the pods of a namespace alone; may be said again'
 complete -c arbiterctl -n '__fish_seen_subcommand_from explain' -s l -l selector -x -d 'the pods that have a label alone; may be said again'
 complete -c arbiterctl -n '__fish_seen_subcommand_from explain' -s o -l output -x -a 'text json html svg csv' -d 'the form, and the file that is written: text, json, html, svg, csv (default: the first of them on standard output); may be said again'
@@ -46,7 +46,7 @@ complete -c arbiterctl -n '__fish_seen_subcommand_from explain' -l slice -x -d '
 complete -c arbiterctl -n '__fish_seen_subcommand_from explain' -l library -r -F -d 'the C library (default: the first that is found)'
 complete -c arbiterctl -n '__fish_seen_subcommand_from explain' -s h -l help -d 'print help'
 
-complete -c arbiterctl -n '__fish_seen_subcommand_from diff' -s g -l group -x -d 'these groups and what is below them: a path, the end of one, a title, or a pattern with `*`; may be said again'
+complete -c arbiterctl -n '__fish_seen_subcommand_from diff' -s g -l group -x -d 'these groups and what is below them: a path or title, the end of one, or a pattern with `*`; may be said again'
 complete -c arbiterctl -n '__fish_seen_subcommand_from diff' -s n -l namespace -x -d 'the pods of a namespace alone; may be said again'
 complete -c arbiterctl -n '__fish_seen_subcommand_from diff' -s l -l selector -x -d 'the pods that have a label alone; may be said again'
 complete -c arbiterctl -n '__fish_seen_subcommand_from diff' -s o -l output -x -a 'text json html' -d 'the form, and the file that is written: text, json, html (default: the first of them on standard output); may be said again'
@@ -98,7 +98,7 @@ complete -c arbiterctl -n '__fish_seen_subcommand_from tune' -l slice -x -d 'sli
 complete -c arbiterctl -n '__fish_seen_subcommand_from tune' -l library -r -F -d 'the C library (default: the first that is found)'
 complete -c arbiterctl -n '__fish_seen_subcommand_from tune' -s h -l help -d 'print help'
 
-complete -c arbiterctl -n '__fish_seen_subcommand_from recommend' -s g -l group -x -d 'these groups and what is below them: a path, the end of one, a title, or a pattern with `*`; may be said again'
+complete -c arbiterctl -n '__fish_seen_subcommand_from recommend' -s g -l group -x -d 'these groups and what is below them: a path or title, the end of one, or a pattern with `*`; may be said again'
 complete -c arbiterctl -n '__fish_seen_subcommand_from recommend' -s n -l namespace -x -d 'the pods of a namespace alone; may be said again'
 complete -c arbiterctl -n '__fish_seen_subcommand_from recommend' -s l -l selector -x -d 'the pods that have a label alone; may be said again'
 complete -c arbiterctl -n '__fish_seen_subcommand_from recommend' -s o -l output -x -a 'text json' -d 'the form, and the file that is written: text, json (default: the first of them on standard output); may be said again'
@@ -124,7 +124,7 @@ complete -c arbiterctl -n '__fish_seen_subcommand_from recommend' -l slice -x -d
 complete -c arbiterctl -n '__fish_seen_subcommand_from recommend' -l library -r -F -d 'the C library (default: the first that is found)'
 complete -c arbiterctl -n '__fish_seen_subcommand_from recommend' -s h -l help -d 'print help'
 
-complete -c arbiterctl -n '__fish_seen_subcommand_from replay' -s g -l group -x -d 'these groups and what is below them: a path, the end of one, a title, or a pattern with `*`; may be said again'
+complete -c arbiterctl -n '__fish_seen_subcommand_from replay' -s g -l group -x -d 'these groups and what is below them: a path or title, the end of one, or a pattern with `*`; may be said again'
 complete -c arbiterctl -n '__fish_seen_subcommand_from replay' -s n -l namespace -x -d 'the pods of a namespace alone; may be said again'
 complete -c arbiterctl -n '__fish_seen_subcommand_from replay' -s l -l selector -x -d 'the pods that have a label alone; may be said again'
 complete -c arbiterctl -n '__fish_seen_subcommand_from replay' -s o -l output -x -a 'text json csv html svg' -d 'the form, and the file that is written: text, json, csv, html, svg (default: the first of them on standard output); may be said again'
@@ -151,7 +151,7 @@ complete -c arbiterctl -n '__fish_seen_subcommand_from replay' -l slice -x -d 's
 complete -c arbiterctl -n '__fish_seen_subcommand_from replay' -l library -r -F -d 'the C library (default: the first that is found)'
 complete -c arbiterctl -n '__fish_seen_subcommand_from replay' -s h -l help -d 'print help'
 
-complete -c arbiterctl -n '__fish_seen_subcommand_from top' -s g -l group -x -d 'these groups and what is below them: a path, the end of one, a title, or a pattern with `*`; may be said again'
+complete -c arbiterctl -n '__fish_seen_subcommand_from top' -s g -l group -x -d 'these groups and what is below them: a path or title, the end of one, or a pattern with `*`; may be said again'
 complete -c arbiterctl -n '__fish_seen_subcommand_from top' -s n -l namespace -x -d 'the pods of a namespace alone; may be said again'
 complete -c arbiterctl -n '__fish_seen_subcommand_from top' -s l -l selector -x -d 'the pods that have a label alone; may be said again'
 complete -c arbiterctl -n '__fish_seen_subcommand_from top' -s o -l output -x -a 'text json openmetrics' -d 'text, json, openmetrics (default: text at a terminal, else lines of json); `openmetrics=FILE` keeps the last round in a file for a textfile collector; may be said again'

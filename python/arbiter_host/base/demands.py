@@ -254,12 +254,13 @@ def set_demands(model: Model, measured: dict[str, Measured], want: str, seconds:
     if want == "busy" and idle:
         model.notes.append(f"groups without a task, which ask for nothing: {idle} of {len(leaves)}"
                            " (--want busy)")
+    unread = list[str]()
     for path in leaves:
         group, counters = model.groups[path], measured.get(path, Measured())
         group.request = counters.request
         demand = wanted(want, group, counters, model.host, seconds)
         if demand is None:
-            model.notes.append(f"{path}: nothing read for --want {want}: no demand")
+            unread.append(path)
             continue
         throttled = sum(rises(counters.readings, "throttled"))
         if throttled and want in ("usage", "peak", "p95"):
@@ -272,6 +273,10 @@ def set_demands(model: Model, measured: dict[str, Measured], want: str, seconds:
         if counters.tasks:
             needed = math.ceil(used(counters, seconds).most / 1000)
             group.tasks = max(counters.tasks, needed)
+    if unread:
+        many = f"{len(unread)} groups, " if len(unread) > 1 else ""
+        model.notes.append(f"{many}{names.listed(unread)}: nothing read for --want {want}: no"
+                           " demand")
 
 
 def stop(model: Model, paths: Sequence[str], why: str) -> None:
@@ -285,13 +290,14 @@ def stop(model: Model, paths: Sequence[str], why: str) -> None:
 
 
 def matching(model: Model, pattern: str) -> list[Group]:
-    """The groups of a path, a path's end, a title, or a pattern with `*` of these. In a pattern of
-    a path's end `*` stands for no slash. The fault where none is names some alike."""
+    """The groups of a path, a path's end, a title, a pattern with `*` of these, or a title's end. In
+    a pattern of an end `*` stands for no slash. The fault where none is names some alike."""
     shape, end = names.pattern(pattern), names.pattern_of_end(pattern)
     ways: tuple[Callable[[Group], object], ...] = (
         lambda each: pattern in (".", each.path, each.title) or shape.fullmatch(each.path),
         lambda each: each.path.endswith(f"/{pattern}"),
-        lambda each: shape.fullmatch(each.title), lambda each: end.fullmatch(each.path))
+        lambda each: shape.fullmatch(each.title), lambda each: end.fullmatch(each.path),
+        lambda each: end.fullmatch(each.title))
     for fits in ways:
         groups = [each for each in model.groups.values() if fits(each)]
         if groups:

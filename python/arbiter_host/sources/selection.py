@@ -7,7 +7,7 @@ from typing import NamedTuple
 from arbiter_host.base import demands
 from arbiter_host.base.faults import NothingFound, UsageFault
 from arbiter_host.base.model import Model
-from arbiter_host.base.names import parent_path, shown
+from arbiter_host.base.names import few, parent_path, shown
 
 
 class Selection(NamedTuple):
@@ -57,7 +57,9 @@ def pods(model: Model, by: Selection) -> list[str]:
     source = model.owned
     paths = source.pods_where(by.namespaces, labels) if source else []
     if not paths:
-        raise NothingFound(f"no pod of {shown(by._replace(groups=()).words)}")
+        spaces = sorted({each.pod[0] for each in model.groups.values()} - {""})
+        there = f" (namespaces here: {few(list(map(shown, spaces)))})" if spaces else ""
+        raise NothingFound(f"no pod of {shown(by._replace(groups=()).words)}{there}")
     return paths
 
 

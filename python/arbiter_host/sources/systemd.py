@@ -201,7 +201,7 @@ class UnitSource(Units, Measurable):
     # The properties of each unit by its path, and those of each reading.
     properties: Mapping[str, Properties]
     readings: tuple[Mapping[str, Properties], ...]
-    has_left_out: bool = False
+    left_out: int = 0
 
     def counters(self) -> dict[str, Measured]:
         by_path = {}
@@ -227,8 +227,8 @@ class UnitSource(Units, Measurable):
         # Each stands after those above it, siblings by name.
         for path in sorted(self.properties, key=lambda path: path.split("/")):
             add(self.library, model, self.properties[path], path)
-        if self.has_left_out:
-            model.notes.append("units without a group are left out")
+        if self.left_out:
+            model.notes.append(f"units without a group, left out: {self.left_out}")
         words = {path: self.properties.get(path, {}).get("AllowedCPUs") for path in model.groups}
         bind_to(model, {path: word.replace(" ", ",") for path, word in words.items() if word})
         demands.set_demands(model, self.counters(), self.options.want, self.seconds)
@@ -319,6 +319,7 @@ def read(files: Sequence[File], library: Library, options: SourceOptions) -> Mod
         raise UsageFault("--used: units that were printed twice have what they used themselves")
     options = replace(options, want=options.want or (
         "usage" if len(files) > 1 or options.measured else "busy"))
+    left_out = sum(not path_of(unit) for unit in blocks(files[0][1])) if "" in readings[0] else 0
     source = UnitSource(options, options.machine(library), properties, tuple(readings),
-                        "" in readings[0], seconds=options.times.interval, library=library)
+                        left_out, seconds=options.times.interval, library=library)
     return (options.measured(source) if options.measured else source).model()

@@ -134,7 +134,8 @@ def heading(advice: Recommendation, short_: list[str]) -> Styled:
         lines.append((f"limits that stay: {kept} ({why})", ""))
     if advice.requests is not None:
         (now, then), most = advice.requests, advice.allocatable
-        of_node = "" if most is None else f", of {most}m that the node has"
+        node = "the node has" if len(advice.plans) == 1 else "these nodes have"
+        of_node = "" if most is None else f", of {most}m that {node}"
         lines.append((f"requests of all pods: {now}m now, {then}m then{of_node}",
                       "red" if most is not None and most < then else ""))
     return [*lines, (f"short when each uses this at once: {len(short_)}"
