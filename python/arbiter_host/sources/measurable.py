@@ -192,7 +192,8 @@ def measured(sources: Sequence[S], entries: Sequence[Used],
         prometheus.check_homes(here, entry.title, entry.labels, name)
     notes = [f"{name}: {what}, {some(titles)}" for what, titles in told.items() if titles]
     if not any(known) and not replicas:
-        raise HostFault(notes[-1] if notes else f"{name}: nothing was used by any container")
+        what = ": --query and --range say what is asked" if prometheus.is_address(name) else ""
+        raise HostFault(notes[-1] if notes else f"{name}: nothing was used by any container{what}")
     # (who proposes takes those elsewhere of all sources together)
     return [replace(each, known=of_source, elsewhere=() if at else tuple(replicas))
             for at, (each, of_source) in enumerate(zip(sources, known))], notes

@@ -251,6 +251,11 @@ def history_of(metrics: Sequence[Metric], url: str, window: float = LOOKBACK) ->
     above = {name.rpartition("/")[0] for name in leaves} - leaves
     columns = {name: parts for name, parts in columns.items() if name not in above}
     values = {name: summed(name, parts, url, window) for name, parts in columns.items()}
+    for name, of_times in values.items():
+        odd = next((each for each in of_times.values() if each[:1] in "+-I"), None)
+        if odd:
+            raise HostFault(f"{shown(url)}: {shown(cut(name, 100))} used {shown(cut(odd, 40))}:"
+                            " no amount of CPU")
     return History(list(values), [
         Sample(time_name(str(int(at))), {name: each[at] for name, each in values.items()
                                          if at in each}, shown(url))

@@ -63,6 +63,9 @@ def forms(options: argparse.Namespace, files: Sequence[Opened], uses: UseOptions
     model = source.of_samples(by.library, kind, model, options.unit, sample)
     load.warn(model, source_name(options.source))
     history = used.history(uses)
+    if not history.samples:
+        what = ": --query and --range say what is asked" if used.is_served(uses) else ""
+        raise HostFault(f"{used.name(uses)}: no sample{what}")
     missing: list[str] = []
     path_of = series.targets(model, history.columns, used.mapped(uses.columns),
                              missing if used.is_served(uses) else None)
