@@ -231,10 +231,12 @@ def test_nodes_that_take_no_such_pod(ctl):
         data = cluster(shut, keyed, plain, each)
         (one,) = planned(ctl, "-", given=data)[0]["pending"]
         found[each["metadata"]["name"]] = one["host"] or one["why"]
-    none = "keyed: it does not tolerate the taint gpu; 2 more refuse it"
+    none = ("keyed: it does not tolerate the taint gpu; plain: the node has no label disk=ssd;"
+            " shut: the node takes no new pods (unschedulable)")
     assert found == {"any": "plain", "equal": "keyed", "exists": "keyed", "other": none,
                      "ssd": "keyed",
-                     "hdd": "keyed: the node has no label disk=hdd; 2 more refuse it",
+                     "hdd": "keyed: the node has no label disk=hdd; shut: the node takes no new"
+                            " pods (unschedulable); 1 more refuse it",
                      "all": none}
 
 
@@ -430,7 +432,9 @@ def test_notes_of_a_change_of_many(ctl):
     given = cluster(node("n1"), node("n2"), running("a", "n1"), running("b", "n2"))
     _, err = ctl.run("diff", "-", "--set", "x/a.request=5", given=given)
     assert err == ("arbiterctl: warning: n1: the pods request 5000m of the 2000m that the node has"
-                   " for them: the scheduler puts no such pods there\n")
+                   " for them: the scheduler puts no such pods there\n"
+                   "arbiterctl: warning: n1: a request is no demand, and the demands stay:"
+                   " --want busy says who pays for it\n")
 
 
 def test_a_cluster_of_one_namespace_is_told_once():

@@ -198,7 +198,8 @@ def asked_of(engine: Engine, model: Model, history: History, unit: str, path_of:
 def asked_words(history: History, usec: int) -> str:
     """The words for demands that are samples of so many microseconds; 0 stands for one period."""
     each = units.span_words(Fraction(usec, 10**6)) if usec else "one period"
-    return f"{len(history.samples)} samples, each of {each}"
+    many = len(history.samples)
+    return f"{many} samples, each of {each}" if many != 1 else f"1 sample of {each}"
 
 
 def run(engine: Engine, model: Model, history: History, unit: str, chosen: Sequence[str],
@@ -289,14 +290,15 @@ def heads(series: Series, unit: str) -> Iterator[str]:
     yield f"{text.host_words(series.host)}; the proved check accepted each plan"
     yield f"demands: {series.asked}; weights: {series.weighed}"
     yield (f"wanted, got: means, in {text.UNIT_WORDS[unit]}; throttled to starved: sums over"
-           f" {periods} periods")
+           f" {periods} period{'s' if periods != 1 else ''}")
     yield from ["samples in a row: the most in which it starved"] * starves
     yield ""
 
 
 def forms(series: Series, unit: str) -> Forms:
     """The forms of samples."""
-    return {**TableAnswer(lambda: [*plain(*heads(series, unit)), table(series, unit)], dict).forms(),
+    lines = TableAnswer(lambda: [*plain(*heads(series, unit)), table(series, unit)], dict)
+    return {**lines.forms(),
             "csv": lambda: records(series, unit).csv(),
             "json": lambda: json.dumps({
                 "unit": unit, "demands": series.asked, "weights": series.weighed,

@@ -116,7 +116,8 @@ def compared(_: Job, plans: Iterator[Plan], told: dict[str, Any]) -> dict[str, A
     rises = moved(before, after, chosen)
     of_set = [rise for rise, path in rises
               if any(path == each or path.startswith(each + "/") for each in paths)]
-    return {"matched": len(paths), "before": sums(before, chosen), "after": sums(after, chosen),
+    return {"matched": len(paths), "sets": words_in(told["sets"]),
+            "before": sums(before, chosen), "after": sums(after, chosen),
             # How many groups have each change.
             "changes": sorted(Counter(rise for rise, _ in rises).items()),
             "changed_groups": sum(of_set), "others": sum(rise for rise, _ in rises) - sum(of_set),

@@ -16,7 +16,7 @@ from arbiter_host.fleet.answers import HostAnswer
 from arbiter_host.fleet.hosts import Fleet, Pending
 from arbiter_host.fleet.report import Report, Waiting
 from arbiter_host.fleet.work import Action, HostFile, Job
-from arbiter_host.sources import used
+from arbiter_host.sources import change, used
 from arbiter_host.sources.kubernetes import replicas_in
 from arbiter_host.sources.samples import History
 from arbiter_host.sources.selection import Selection, labels_of
@@ -102,6 +102,10 @@ def reported(name: str, planners: Planners, job: Job, fleet: Fleet, rule: str,
     if words and hosts and not (any(host.answer["groups"] for host in hosts) or asks and any(
             is_chosen(job.selection, each) for each in fleet.pending)):
         raise NothingFound(f"no group of {names.shown(words)} on any host")
+    unmet = [each for each in job.sets if hosts and not missing and not change.is_host(each)
+             and not any(each in host.answer["sets"] for host in hosts)]
+    if unmet:
+        raise NothingFound(f"--set {names.shown(unmet[0])}: no host has such a group")
     is_placed = job.action is Action.PODS or asks and bool(fleet.pending)
     among, placing = near.neighbours_in(fleet) if is_placed else None, hosts
     if job.action is Action.PODS:

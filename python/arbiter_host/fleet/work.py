@@ -134,7 +134,7 @@ def compared(job: Job, model: Model, engine: Engine) -> SentPlans:
     stay = model.owned is not None and model.owned.busy() is not None and any(
         change.split(word)[1] == "request" for word in words)
     return rows(engine, model, after), {
-        "matched": sorted(paths), "notes": [*after.notes, *[AS_BUSY] * stay],
+        "matched": sorted(paths), "sets": words, "notes": [*after.notes, *[AS_BUSY] * stay],
         "asked": after.asked, "weighed": after.weighed}
 
 
