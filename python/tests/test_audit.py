@@ -98,15 +98,16 @@ def test_table(ctl, folder):
     """The same as a table, the group that was most off first."""
     out, _ = ctl.run("audit", *copies(folder), "--read", "x10s", "--cpus", "2")
     lines = out.split("\n")
-    assert lines[:4] == [
+    assert lines[:5] == [
         "2 CPUs, period 1000 ms, slice 1 ms (one slice is 1m)",
         "intervals: 2, each of 10 s; the proved check accepted each plan",
+        "demands: use, raised where throttled or hungry, of each interval; weights: cpu.weight",
         "off: what a group used less its plan, in hundredths of a CPU and in parts of the plan",
         "used outside these groups, as a mean: 0.010 CPUs"]
-    assert lines[5].split() == " ".join(each.title for each in answer.COLUMNS).split()
-    assert lines[6].split()[:7] == ["1.300", "1.350", "-5.0", "-4%", "-10.0", "-7%", "2"]
-    assert lines[7].split()[:7] == ["0.490", "0.500", "-1.0", "-2%", "-2.0", "-4%", "2"]
-    assert [line.split()[-1] for line in lines[6:8]] == ["batch", "web"]
+    assert lines[6].split() == " ".join(each.title for each in answer.COLUMNS).split()
+    assert lines[7].split()[:7] == ["1.300", "1.350", "-5.0", "-4%", "-10.0", "-7%", "2"]
+    assert lines[8].split()[:7] == ["0.490", "0.500", "-1.0", "-2%", "-2.0", "-4%", "2"]
+    assert [line.split()[-1] for line in lines[7:9]] == ["batch", "web"]
 
 
 @pytest.mark.parametrize("off, planned, words", [

@@ -1,4 +1,5 @@
 """Figures that a stranger reads: each says what it is of, and none is from rounding alone."""
+import contextlib
 import json
 import random
 import re
@@ -11,10 +12,10 @@ from arbiter import Host
 from arbiter_host.answers import placement
 from arbiter_host.base import demands
 from arbiter_host.base.demands import Measured
-from arbiter_host.base.faults import NothingFound
+from arbiter_host.base.faults import HostFault, NothingFound
 from arbiter_host.base.model import Group, Model
 from arbiter_host.base.plan import plan
-from arbiter_host.sources import selection
+from arbiter_host.sources import prometheus, selection
 from arbiter_host.sources.selection import Selection
 from places import PACKAGE
 from test_cluster import cluster
@@ -195,8 +196,28 @@ def test_a_pod_is_chosen_by_its_name(calls):
         selection.chosen(model, Selection(namespaces=["x"]))
 
 
+@pytest.mark.parametrize("value", ["+Inf", "-Inf", "-0.5", "0.5", "NaN"])
+def test_a_series_of_no_amount_is_named(value):
+    series = prometheus.Metric({"namespace": "n", "pod": "a"}, prometheus.values_of(
+        [[1, "0.1"], [2, value]]))
+    fault = (pytest.raises(HostFault, match=re.escape(f"U: n/a used {value}: no amount of CPU"))
+             if value[-1:] == "f" or value[:1] == "-" else contextlib.nullcontext())
+    with fault:
+        prometheus.history_of([series], "U")
+
+
 def test_units_without_a_group_are_counted():
     text = "".join(f"Id={name}.service\nControlGroup={group}\n\n" for name, group in (
         ("a", "/a.service"), ("b", ""), ("c", "")))
     notes = reading.units([("u", text.encode())], FOUR, "busy").notes
     assert "units without a group, left out: 2" in notes
+
+
+@pytest.mark.parametrize("words, unmet", [
+    (["n/pa/c0.limit=4"], ""), (["n/pa/c0.limit=4", "n/pz/c0.limit=4"], "n/pz/c0.limit=4"),
+    (["zz.weight=5"], "zz.weight=5")])
+def test_a_change_of_no_host_is_refused(ctl, nodes, words, unmet):
+    """Also beside one that some host has, as on one host."""
+    sets = [part for each in words for part in ("--set", each)]
+    _, err = ctl.run("diff", nodes, *sets, *HOSTS, status=6 if unmet else 0)
+    assert (f"--set {unmet}: no host has such a group" in err) == bool(unmet)

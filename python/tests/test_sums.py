@@ -15,6 +15,7 @@ from arbiter import Host
 from arbiter_host.audit import answer, intervals
 from arbiter_host.audit.intervals import Interval
 from arbiter_host.base.model import Group, Model
+from arbiter_host.fleet import report
 from test_audit import cell
 from test_cluster import cluster, node, pending, running
 from test_figures import random_node
@@ -97,8 +98,7 @@ def test_hosts_and_workloads(ctl, folder, seed):
     by_load = sum(Fraction(str(each["served_cpus"])) for each in loads)
     assert by_load == per == Fraction(str(fleet["served_cpus"]))
     for title, at, key in (("Hosts, the greatest lack first", 2, "served"),
-                           ("Workloads, the greatest lack first, with requests as the scheduler counts them",
-                            -3, "served")):
+                           (report.LOADS_TITLE, -3, "served")):
         if title.startswith("W") and not loads:
             continue
         shown = [Fraction(row[at]) for row in table(text, title)[1:]]

@@ -290,8 +290,8 @@ def stop(model: Model, paths: Sequence[str], why: str) -> None:
 
 
 def matching(model: Model, pattern: str) -> list[Group]:
-    """The groups of a path, a path's end, a title, a pattern with `*` of these, or a title's end. In
-    a pattern of an end `*` stands for no slash. The fault where none is names some alike."""
+    """The groups of a path, a path's end, a title, a pattern with `*` of these, or a title's end.
+    In a pattern of an end `*` stands for no slash. The fault where none is names some alike."""
     shape, end = names.pattern(pattern), names.pattern_of_end(pattern)
     ways: tuple[Callable[[Group], object], ...] = (
         lambda each: pattern in (".", each.path, each.title) or shape.fullmatch(each.path),
