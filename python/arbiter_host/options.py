@@ -1,11 +1,11 @@
-"""The options of arbiterctl, each declared once: parsers, help, man pages and completions are made
-from this table. Its texts for people are in templates/.
+"""The options of arbiterctl, each declared once, in templates/options.toml: parsers, help, man pages
+and completions are made from it.
 
-templates/NAME.toml says which of them a subcommand takes, and what differs there. `add(parser,
-"explain")` adds them. `fill(options)` then gives every dest of the table its value, also those that
-the subcommand does not have, and `options.given` the dests that the command line names. A reader
-calls `check(options, kind)` when it knows what its source is: an option that was given and has no
-effect on such a source is refused with status 2.
+A subcommand's module says which of them it takes, and what differs there. `add(parser, "explain")`
+adds them. `fill(options)` then gives every dest of the table its value, also those that the
+subcommand does not have, and `options.given` the dests that the command line names. A reader calls
+`check(options, kind)` when it knows what its source is: an option that was given and has no effect
+on such a source is refused with status 2.
 
 The dests, where they differ from the long flag: `kind` (--from), `used` (a list), `node_weights`,
 `group` (a list), `namespace` (a list), `selector` (a list), `output` (a list of FORM[=FILE], see
@@ -29,38 +29,33 @@ from arbiter_host.base.output import Output
 # What a source is. `hosts` stands for many hosts: a folder, a list, or a cluster's JSON.
 KINDS = ("script", "toml", "json", "cgroup", "kubernetes", "systemd", "docker", "slurm")
 HOSTS = "hosts"
-ALL = (*KINDS, HOSTS)
-PODS, MEASURED = ("kubernetes", HOSTS), ("kubernetes", "docker", HOSTS)
-WANTS = ("usage", "peak", "p95", "psi", "limit", "request", "busy")
-STATES = ("starved", "throttled", "hurt", "asking", "tasks")
-SORTS = ("lack", "gets", "wants", "weight", "name")
-UNITS = ("cpu", "m", "%", "slices", "us")
-NODE_WEIGHTS = ("linear", "log", "runtime-log")
-RANKS = ("least-loss", "most-left")
-WAYS = ("systemd", "persistent", "files")
+# The words that stand for several kinds.
+SETS = {"all": (*KINDS, HOSTS), "one host": KINDS}
 # Of `hold`: the kernel's scheduler.
 SCHEDULER = "scheduler"
-MAX_DEPTH = 64
-# Forms that list groups.
-LISTS = ("text", "json", "csv")
 # Forms of each answer that is a table: `tables` of a subcommand stands for them.
 TABLES = ("text", "json")
-TEXTS = os.path.join(os.path.dirname(__file__), "templates")
+FOLDER = os.path.dirname(__file__)
+# What is said of a subcommand, at the head of its module: TOML, as PEP 723 has it in a script.
+SAID = re.compile(r"^# /// arbiterctl\n((?:#(?: .*)?\n)+)# ///$", re.M)
 
 
 @functools.lru_cache
 def texts(name: str) -> dict[str, Any]:
-    """The texts of templates/NAME.toml."""
-    with open(f"{TEXTS}/{name}.toml", "rb") as file:
-        return tomllib.load(file)
+    """All that is said of a subcommand: the TOML at the head of its module, which is not run."""
+    with open(f"{FOLDER}/subcommands/{name}.py", encoding="utf-8") as file:
+        found = SAID.search(file.read())
+    assert found, f"{name}: nothing is said of it"
+    return tomllib.loads(re.sub("^# ?", "", found[1], flags=re.M))
 
 
 class Option(NamedTuple):
-    """One option, as most subcommands have it. Its text is in templates/options.toml."""
+    """One option, as most subcommands have it."""
 
-    flags: tuple[str, ...]
     dest: str
+    flags: tuple[str, ...]
     title: str
+    help: str
     metavar: str = ""
     choices: tuple[str, ...] = ()
     default: Any = None
@@ -71,12 +66,11 @@ class Option(NamedTuple):
     is_list: bool = False
     # The kinds of sources for which it holds, the forms of --used with which it does, and the forms
     # of -o in which it shows (empty for all).
-    kinds: tuple[str, ...] = ALL
+    kinds: tuple[str, ...] = SETS["all"]
     used: tuple[str, ...] = ()
     forms: tuple[str, ...] = ()
     # Other kinds for which it holds, each with a form of --used.
-    pairs: tuple[tuple[str, str], ...] = ()
-    help: str = ""
+    pairs: tuple[str, ...] = ()
 
     @property
     def name(self) -> str:
@@ -89,74 +83,30 @@ class Option(NamedTuple):
 
     def holds(self, kind: str, used: str) -> bool:
         """Whether it has an effect on a source of a kind, with a form of --used."""
-        return kind in self.kinds or used in self.used or (kind, used) in self.pairs
+        return kind in self.kinds or used in self.used or f"{kind} {used}" in self.pairs
+
+    def with_said(self, said: dict[str, Any]) -> Option:
+        """The option with some fields as TOML has them: lists, and of kinds a word for several."""
+        words: dict[str, Any] = {key: tuple(each) if isinstance(each, list) else each
+                                 for key, each in said.items()}
+        kinds = words.get("kinds", self.kinds)
+        words["kinds"] = SETS[kinds] if isinstance(kinds, str) else kinds
+        return self._replace(**words)
 
     def of(self, subcommand: str) -> Option:
-        """The option as a subcommand has it: its text, and what is another one there. `all` stands
-        for all kinds."""
-        def own(table: str, other: Any) -> Any:
-            return texts(subcommand).get(table, {}).get(self.dest, other)
-
-        choices = forms(subcommand) if self.dest == "output" else own("choices", self.choices)
-        kinds, text = own("kinds", self.kinds), own("options", texts("options")[self.dest])
-        return self._replace(choices=tuple(choices), kinds=ALL if kinds == "all" else tuple(kinds),
-                             default=own("defaults", self.default),
-                             help=text.replace("WORDS", ", ".join(choices)))
+        """The option as a subcommand has it: its text, and what is another one there."""
+        said = {field: texts(subcommand)[key][self.dest] for key, field in OWN.items()
+                if self.dest in texts(subcommand).get(key, ())}
+        own = self.with_said(said | ({"choices": forms(subcommand)} if self.dest == "output"
+                                     else {}))
+        return own._replace(help=own.help.replace("WORDS", ", ".join(own.choices)))
 
 
-TABLE = (
-    Option(("-g", "--group"), "group", "choosing", "PATTERN", is_many=True),
-    Option(("-n", "--namespace"), "namespace", "choosing", "NAME", is_many=True, kinds=PODS),
-    Option(("-l", "--selector"), "selector", "choosing", "LABEL=VALUE", is_many=True, kinds=PODS),
-    Option(("-o", "--output"), "output", "view", "FORM[=FILE]", is_many=True),
-    Option(("--state",), "state", "view", "WORD,..", STATES, is_list=True, kinds=KINDS,
-           forms=LISTS),
-    Option(("--sort",), "sort", "view", choices=SORTS, kinds=KINDS, forms=(*LISTS, "html")),
-    Option(("--depth",), "depth", "view", "N", is_number=True, default=MAX_DEPTH, kinds=KINDS,
-           forms=(*LISTS, "svg", "openmetrics")),
-    Option(("--unit",), "unit", "view", choices=UNITS, default="cpu", kinds=KINDS),
-    Option(("--all",), "everything", "view", is_flag=True, forms=("text",)),
-    Option(("--guaranteed",), "guaranteed", "view", is_flag=True, kinds=KINDS),
-    Option(("-v", "--verbose"), "verbose", "view", is_flag=True),
-    Option(("--set",), "set", "change", "GROUP.KEY=VALUE", is_many=True),
-    Option(("--goal",), "goal", "change", "GROUP=AMOUNT", is_many=True),
-    Option(("--target",), "target", "change", "pN[,pN]", default="p95"),
-    Option(("--headroom",), "headroom", "change", "PERCENT", default="15"),
-    Option(("--alert",), "alert", "alerts", "CONDITION,..", default=""),
-    Option(("--command",), "command_of_alert", "alerts", "CMD"),
-    Option(("--listen",), "listen", "alerts", "ADDRESS:PORT"),
-    Option(("--yes",), "yes", "doing", is_flag=True),
-    Option(("--root",), "root", "doing", "DIR", default="/sys/fs/cgroup"),
-    Option(("--by",), "by", "doing", choices=WAYS, default="systemd"),
-    Option(("--undo",), "undo", "doing", "FILE"),
-    Option(("--force",), "force", "doing", is_flag=True),
-    Option(("--weights",), "weights", "doing", is_flag=True),
-    Option(("--once",), "once", "doing", is_flag=True),
-    Option(("--pod", "--pods"), "pod", "pods", "FILE", is_many=True),
-    Option(("--rank",), "rank", "many hosts", choices=RANKS, default="least-loss", kinds=(HOSTS,)),
-    Option(("--workers",), "workers", "many hosts", "N", is_number=True, kinds=(HOSTS,)),
-    Option(("--dask",), "dask", "many hosts", "ADDRESS", kinds=(HOSTS,)),
-    Option(("--from",), "kind", "source", choices=KINDS),
-    Option(("--want",), "want", "source", choices=WANTS),
-    Option(("--scale",), "scale", "source", "GROUP=1.5", is_many=True),
-    Option(("--read",), "read", "source", "[N]xTIME", kinds=("cgroup", "systemd"),
-           used=("folder",)),
-    Option(("--used",), "used", "source", "FILE|DIR|URL", is_many=True, kinds=MEASURED,
-           pairs=(("systemd", "folder"),)),
-    Option(("--range",), "range", "source", "TIME", kinds=(), used=("url",)),
-    Option(("--step",), "step", "source", "TIME", kinds=(), used=("url",)),
-    Option(("--query",), "query", "source", "QUERY", kinds=(), used=("url",)),
-    Option(("--map",), "map", "source", "COLUMN=GROUP", is_many=True, kinds=(),
-           used=("file", "folder", "url")),
-    Option(("--node",), "node", "source", "NAME", kinds=("kubernetes", "slurm"), default=""),
-    Option(("--node-weights",), "node_weights", "source", choices=NODE_WEIGHTS, default="linear",
-           kinds=MEASURED),
-    Option(("--strict",), "strict", "source", is_flag=True, kinds=("script", HOSTS)),
-    Option(("--cpus",), "cpus", "host", "N", is_number=True),
-    Option(("--period",), "period", "host", "TIME"),
-    Option(("--slice",), "slice", "host", "TIME"),
-    Option(("--library",), "library", "host", "PATH"),
-)
+# The tables of a subcommand with what is another one there, and the fields of options.
+OWN = {"options": "help", "kinds": "kinds", "choices": "choices", "defaults": "default"}
+with open(f"{FOLDER}/templates/options.toml", "rb") as file_:
+    TABLE = tuple(Option(dest, (), "", "").with_said(said)
+                  for dest, said in tomllib.load(file_).items())
 MOST = 46
 
 

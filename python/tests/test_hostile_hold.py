@@ -20,7 +20,7 @@ from arbiter_host.hold import hold
 from arbiter_host.setting import apply, record
 from arbiter_host.setting.apply import By, Change, Settings
 from arbiter_host.sources import readings
-from arbiter_host.subcommands import apply as applying, hold as holding
+from arbiter_host.subcommands import _steps, apply as applying, hold as holding
 from held import FREE, SECOND, World, begun, content, limit, said, started
 from places import PACKAGE
 
@@ -486,22 +486,22 @@ def test_apply_and_undo_beside_a_loop(folder, monkeypatch):
     root = safe_files.Root(str(folder))
     for name in ("held/a/b", "other", "held-not"):
         (folder / name).mkdir(parents=True)
-    applying.check_no_loop(root, ["held/a", "other"])
+    _steps.check_no_loop(root, ["held/a", "other"])
     held = record.lock(str(folder / "run"), str(folder / "held"))
-    applying.check_no_loop(root, ["other", "held-not", "gone"])
+    _steps.check_no_loop(root, ["other", "held-not", "gone"])
     for name in ("held/a/b", "held/a", "held"):
         with pytest.raises(HostFault, match="arbiterctl hold runs on .*/held: .* End it first"):
-            applying.check_no_loop(root, ["other", name])
+            _steps.check_no_loop(root, ["other", name])
     # the same tree by another path, as of a second mount of it or of a part of it
     (folder / "mount").symlink_to(folder / "held/a")
     with pytest.raises(HostFault, match="/held/a/b: arbiterctl hold runs on .*/held: "):
-        applying.check_no_loop(safe_files.Root(str(folder / "mount")), ["b"])
+        _steps.check_no_loop(safe_files.Root(str(folder / "mount")), ["b"])
     (folder / "held").rename(folder / "elsewhere")
     with pytest.raises(HostFault, match="/held: No such file or directory"):
-        applying.check_no_loop(root, ["elsewhere/a"])
+        _steps.check_no_loop(root, ["elsewhere/a"])
     for each in held:
         os.close(each)
-    applying.check_no_loop(root, ["elsewhere/a"])
+    _steps.check_no_loop(root, ["elsewhere/a"])
     assert record.holder(str(folder / "run")) is None
 
 
@@ -517,7 +517,7 @@ def test_apply_beside_a_loop_by_another_mount(folder, monkeypatch):
     held = record.lock(str(folder / "run"), str(folder / "held"))
     try:
         with pytest.raises(HostFault, match="/mount/a: arbiterctl hold runs on .*/held: "):
-            applying.check_no_loop(safe_files.Root(str(folder / "mount")), ["a"])
+            _steps.check_no_loop(safe_files.Root(str(folder / "mount")), ["a"])
     finally:
         subprocess.run(["umount", folder / "mount"], check=True)
         for each in held:

@@ -34,24 +34,26 @@ def test_size():
 
 def test_rows_are_of_subcommands_that_are_there():
     """Texts, kinds and defaults of a subcommand belong to an option that it takes. Each option has
-    a text, and each word of a subcommand's file is read."""
-    assert [*table.texts("options")] == [each.dest for each in table.TABLE]
+    a text, and each word that is said of a subcommand is read."""
+    assert all(each.flags and each.title and each.help for each in table.TABLE)
     for name in NAMES:
         said = table.texts(name)
-        assert set(said) <= {*Subcommand._fields, "order", "run", "forms", "takes", "options",
+        assert set(said) <= {*Subcommand._fields, "order", "forms", "takes", "options",
                              "kinds", "choices", "defaults"} - {"name"}, name
         assert {each.dest for each in table.of(name)} == set(said["takes"]), name
         for own in ("options", "kinds", "choices", "defaults"):
             assert set(said.get(own, ())) <= set(said["takes"]), name
-        assert all(set(each.kinds) <= set(table.ALL) for each in table.of(name)), name
+        assert all(set(each.kinds) <= set(table.SETS["all"]) for each in table.of(name)), name
         assert ("output" in said["takes"]) == bool(table.forms(name)), name
 
 
 def test_words_are_those_of_what_they_choose():
     """What options offer is what their readers know."""
-    assert set(table.STATES) == set(explain.ONLY) and set(table.SORTS) == set(explain.SORTS)
-    assert set(table.UNITS) == set(text.UNIT_WORDS) and set(table.KINDS) == set(READERS)
-    assert set(table.RANKS) == set(report.RULES) and table.WANTS == demands.WANTS
+    words = {each.dest: each.choices for each in table.TABLE}
+    assert set(words["state"]) == set(explain.ONLY) and set(words["sort"]) == set(explain.SORTS)
+    assert set(words["unit"]) == set(text.UNIT_WORDS) and set(words["rank"]) == set(report.RULES)
+    assert words["want"] == demands.WANTS and words["kind"] == table.KINDS
+    assert set(table.KINDS) == set(READERS)
     assert {each.dest for name in NAMES for each in table.of(name)} == {
         each.dest for each in table.TABLE}
 

@@ -1,6 +1,7 @@
 """The subcommands of arbiterctl, each in a module that is imported when it is asked for.
 
-A new one is a module here with `run`, and templates/NAME.toml with all that is said of it.
+A new one is a module here: all that is said of it at its head, and `run`. Modules of another kind
+have a name that begins with `_`.
 """
 from __future__ import annotations
 
@@ -12,9 +13,8 @@ from typing import Any, NamedTuple
 
 from arbiter_host import options as table
 
-# Each has its texts. The texts of options stand beside them.
-NAMES = {each.removesuffix(".toml") for each in os.listdir(table.TEXTS)
-         if each.endswith(".toml")} - {"options"}
+NAMES = {each.removesuffix(".py") for each in os.listdir(os.path.dirname(__file__))
+         if each.endswith(".py") and not each.startswith("_")}
 
 
 class Subcommand(NamedTuple):
@@ -43,11 +43,9 @@ def listed() -> list[str]:
 
 
 def find(name: str) -> Subcommand:
-    """The subcommand of a name. Its function is `run` of its module, unless it names another."""
-    texts = table.texts(name)
-    module, _, function = texts.get("run", f"{name}.run").partition(".")
-    run = getattr(importlib.import_module(f"{__name__}.{module}"), function)
-    return Subcommand(name, run, *(texts[key] for key in Subcommand._fields[2:]))
+    """The subcommand of a name. Its function is `run` of its module."""
+    module, texts = importlib.import_module(f"{__name__}.{name}"), table.texts(name)
+    return Subcommand(name, module.run, *(texts[key] for key in Subcommand._fields[2:]))
 
 
 def every() -> tuple[Subcommand, ...]:

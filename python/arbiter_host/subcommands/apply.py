@@ -1,48 +1,67 @@
-"""`arbiterctl apply` and `arbiterctl undo`."""
+"""`arbiterctl apply`."""
+# /// arbiterctl
+# order = 10
+# summary = "set weights and limits on a host; prints without --yes"
+# forms = ["text", "kubectl", "dropin", "compose", "slurm"]
+# takes = ["output", "verbose", "set", "yes", "root", "by", "undo", "kind", "node", "node_weights",
+#          "strict", "cpus", "library"]
+# description = """\
+# Prints how the settings of BEFORE become those of AFTER on a host with cgroup v2, each with what \
+# is there before. With --yes it is done, after an undo file was written, and read back."""
+# details = [
+# """\
+# Each file is read first. If one does not hold what BEFORE says, nothing is changed. The undo \
+# file is written and synced before the first change. A burst is lowered before its quota, and \
+# raised after it. An interruption at any point can be undone. With --yes the steps are printed \
+# that were made.""",
+# """\
+# Nothing outside --root is opened for writing, no symbolic link is followed below it, and no file \
+# is made there. Each group is open from the first reading to the last writing. If BEFORE is a \
+# tree, a group that was made again since it was read is refused. A unit is set only if its group \
+# is the folder that changes. A file that somebody sets between the reading and the writing ends \
+# it there. A group that `hold` holds is refused.""",
+# "The JSON of pods and that of their node, side by side, are one source.",
+# """\
+# With -o the change is written as files: `dropin` of units, `kubectl` patches of what owns pods, \
+# `compose` overrides, or `slurm` limits of users. What a form cannot say is refused by name, and \
+# nothing is written. Files are new, or such that -o wrote; no link is \
+# followed, and a folder that others may change is refused.""",
+# ]
+#
+# [argument]
+# name = "source"
+# nargs = "+"
+# metavar = "BEFORE [AFTER]"
+# help = "sources, as of explain"
+#
+# [examples]
+# "what would be done" = "arbiterctl apply host.script --set web.service.weight=200"
+# "doing it" = "arbiterctl apply host.script --set web.service.weight=200 --yes --undo undo.json"
+# "a drop-in for review" = """\
+# arbiterctl apply host.script --set web.service.weight=200 -o dropin=units/"""
+#
+# # Texts of options that are other ones here.
+# [options]
+# output = """\
+# write the change in a form to be reviewed and merged, to a file or a folder: WORDS; nothing of \
+# the host is changed"""
+# ///
 from __future__ import annotations
 
 import argparse
-import os
 import shlex
 import time
-from collections.abc import Iterable, Iterator, Sequence
-from contextlib import contextmanager, suppress
 
 from arbiter_host import exports
 from arbiter_host import options as table
-from arbiter_host.base import names, output, plain_files, safe_files
-from arbiter_host.base.faults import HostFault, UsageFault
+from arbiter_host.base import output, safe_files
+from arbiter_host.base.faults import UsageFault
 from arbiter_host.base.output import Output
-from arbiter_host.base.output import emit
 from arbiter_host.base.plan import engine_of
 from arbiter_host.records import source_options
-from arbiter_host.setting import apply, record
+from arbiter_host.setting import apply
 from arbiter_host.sources import change, load
-
-
-def print_steps(root: safe_files.Root, steps: Sequence[apply.Step]) -> None:
-    emit("".join(f"{names.shown(step.words(root))}\n" for step in steps) or "# no change\n")
-
-
-@contextmanager
-def printing(root: safe_files.Root) -> Iterator[list[apply.Step]]:
-    """A list whose steps are printed at the end: those that were made, also where a fault ends it.
-    Nothing is printed before: a reader that goes away stops no change halfway."""
-    done: list[apply.Step] = []
-    try:
-        yield done
-    except HostFault:
-        if done:
-            with suppress(HostFault, BrokenPipeError):
-                print_steps(root, done)
-        raise
-    print_steps(root, done)
-
-
-def warn(notes: Iterable[str]) -> None:
-    """Tells what is left alone."""
-    for words in notes:
-        output.warn(words)
+from arbiter_host.subcommands._steps import check_no_loop, print_steps, printing, warn
 
 
 def write_form(to: Output, draft: exports.Draft) -> None:
@@ -80,23 +99,6 @@ def run(options: argparse.Namespace) -> None:
         set_host(options, apply.changes(models[0], after, root), root, way)
 
 
-def check_no_loop(root: safe_files.Root, folders: Iterable[str]) -> None:
-    """A fault where a loop of `hold` has limits in a group: they would be taken for the operator's
-    own, and an undo would bring them back for good. A group may have another path there."""
-    loop = record.holder(record.FOLDER)
-    if loop is None:
-        return
-    with safe_files.faults(loop.top):
-        held = set(safe_files.identities(loop.top))
-    for path in (os.path.join(root.path, folder) for folder in folders):
-        # (a group that is gone is told later)
-        with suppress(FileNotFoundError):
-            if safe_files.identity_of(path) in held:
-                raise HostFault(f"{path}: arbiterctl hold runs on {loop.top}: what stands there is"
-                                " its own; nothing is changed. End it first, as by systemctl stop"
-                                " arbiter-hold")
-
-
 def set_host(options: argparse.Namespace, asked: tuple[list[apply.Change], list[str]],
              root: safe_files.Root, way: apply.By) -> None:
     """Prints the steps of some changes; with --yes makes them."""
@@ -116,19 +118,3 @@ def set_host(options: argparse.Namespace, asked: tuple[list[apply.Change], list[
             output.say(f"interrupted after {len(done)} of {len(steps)} steps; {back}")
             raise
         output.say(f"done and read back; {back}")
-
-
-def undo(options: argparse.Namespace) -> None:
-    """Prints the steps back; with --yes makes them."""
-    name = names.shown(options.file)
-    content = plain_files.file_bytes(options.file, is_trusted=True)
-    back = apply.read_undo(content, name, options.force)
-    try:
-        if options.yes:
-            check_no_loop(back.root, [each.folder for each in back.changes])
-            with printing(back.root) as done:
-                apply.undo(back, done)
-        else:
-            print_steps(back.root, apply.planned_steps(back.changes, back.by))
-    finally:
-        warn(back.left)

@@ -1,4 +1,59 @@
 """`arbiterctl diff`."""
+# /// arbiterctl
+# order = 2
+# summary = "what a change does, or what differs between two plans"
+# forms = ["tables", "html"]
+# takes = ["group", "namespace", "selector", "output", "sort", "unit", "everything", "verbose",
+#          "set", "workers", "dask", "kind", "want", "scale", "read", "used", "range", "step",
+#          "query", "node", "node_weights", "strict", "cpus", "period", "slice", "library"]
+# description = """\
+# Says what changes from BEFORE to AFTER. Without AFTER it is BEFORE with the changes of --set."""
+# details = [
+# """\
+# A change is GROUP.KEY=VALUE, with KEY one of weight, max, burst, period, demand, tasks. `*` in \
+# GROUP stands for any letters. Groups that are the same in both plans are counted alone.""",
+# """\
+# Of pods, KEY may also be request or limit: the weights and limits of the container, its pod, its \
+# class and kubepods follow by the formulas of kubelet and the runtime. Of units, also of those in \
+# a tree of cgroup v2, it may be CPUWeight or CPUQuota, of containers of docker cpus or \
+# cpu-shares. These changes are made first.""",
+# """\
+# Both plans are of one host: that of --cpus, else the one that AFTER names, else that of BEFORE. \
+# `.cpus=8`, `.period=1s` and `.slice=5ms` change the host of the plan after. Two sources that \
+# each name a host keep theirs.""",
+# """\
+# The JSON of pods and that of their node, side by side, are one source. Groups of a tree have the \
+# names of these pods where the other source is one. Of many hosts the change is \
+# made on each.""",
+# ]
+#
+# [argument]
+# name = "source"
+# nargs = "+"
+# metavar = "BEFORE [AFTER]"
+# help = "sources, as of explain; with --set a source of many hosts too"
+#
+# [examples]
+# "a greater weight on a host with more CPUs" = """\
+# arbiterctl diff host.toml --set web.weight=400 --set .cpus=32"""
+# "another request on a Kubernetes node" = """\
+# arbiterctl diff pods.json node.json --set prod/web-7c9f/nginx.request=500m"""
+# "the same as a page, with the pods of one namespace" = """\
+# arbiterctl diff pods.json node.json --set prod/web-7c9f/nginx.request=500m -n prod -o \
+# html=change.html"""
+# "two sources, as JSON" = "arbiterctl diff before.script after.script -o json"
+# "a greater weight on every host that has the group" = "arbiterctl diff hosts --set web.weight=400"
+#
+# # Texts of options that are other ones here.
+# [options]
+# sort = "`change`: the groups that change most first"
+#
+# [kinds]
+# everything = ["hosts"]
+#
+# [choices]
+# sort = ["change"]
+# ///
 from __future__ import annotations
 
 import argparse
@@ -17,7 +72,7 @@ from arbiter_host.sources.kubernetes import PodSource, with_pods
 from arbiter_host.sources.load import Opened
 from arbiter_host.sources.source_options import SourceOptions
 from arbiter_host.sources.systemd import TreeSource
-from arbiter_host.subcommands.base import answer, chosen_of_each, source_name, view_of
+from arbiter_host.subcommands._base import answer, chosen_of_each, source_name, view_of
 
 
 def read(options: SourceOptions, files: Sequence[Opened], by: Engine) -> Model | None:

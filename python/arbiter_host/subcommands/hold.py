@@ -1,4 +1,114 @@
 """`arbiterctl hold`."""
+# /// arbiterctl
+# order = 12
+# summary = "hold the plan on a host by limits of each round"
+# forms = ["json", "openmetrics"]
+# takes = ["output", "depth", "verbose", "yes", "root", "by", "undo", "force", "weights", "once",
+#          "read", "cpus", "period", "slice", "library"]
+# description = """\
+# Holds the plan on a host with cgroup v2: each round it reads what each group used, and with \
+# --yes writes limits for the next one. docs/LINUX.md says when it helps."""
+# details = [
+# """\
+# Each round reads cpu.stat of each group without children, in slices of one period. A group is \
+# hungry if it was stopped in the round, so it was throttled or used all that its limit allowed, \
+# or if a task of it waited for a hundredth of it or more, and slept for no longer than that and \
+# than a twentieth (schedstat, read where cpu.pressure rose). Where its tasks are new it is a \
+# guess: whether they waited for half of the round. A hungry group asks for a CPU for each such \
+# task and each new one, and for what the others used; if it was stopped, for a CPU for each task. \
+# It asks for everything if its tasks do not tell, or could use the whole host. The library's rule \
+# gives the limits, and its check accepts the plan. Where each group gets what it asks for or its \
+# own limit, nobody is held: `limit` is null, and own weights stand. Else cpu.max is written, \
+# where it is not 0 to 1/64 above the limit. With --period 100ms none is stopped for over a tenth \
+# of a second, and with few tasks in each more is lost.""",
+# """\
+# Without --yes nothing is written: each round is shown as it would be, and at the end which \
+# groups were over 5 hundredths of a CPU off their plans. With --once the limits of the last round \
+# alone are written, and stay until `arbiterctl undo`: for demands that stay. With --weights it \
+# writes cpu.weight too: 100 d / (1.01 - d) where the limit lets each task of a group use the part \
+# d of a CPU. A group with children has the sum of theirs. The plan is that of the operator's own \
+# weights. A weight that somebody sets meanwhile is such a one.""",
+# """\
+# The old settings are synced to the undo file before a group is first written. They are restored \
+# at the end, at a signal, after two failed readings in a row and after a failed writing. Then the \
+# undo file is removed. The loop lets go of groups to which limits do harm, and says why: where \
+# limits go back and forth for 60 rounds, the group whose use changes so; where in the last 60 \
+# rounds in which somebody was held a twentieth less of the plan was served than while nobody was, \
+# those that left most of it; where groups whose hunger is a guess used more than those that are \
+# hungry for sure, the former. Such a group has its own limit again, counts as asking for nothing, \
+# and has what weights give. The others are held on. With nobody left the loop ends with status 7, \
+# unless a group is of another user. SIGKILL and signals of faults, as SIGABRT, kill a loop: \
+# `arbiterctl undo FILE --yes` undoes it. A jump of the clock, or a stop, over more than five \
+# rounds and five seconds is a failed reading, and so is a tree without the cpu controller. A \
+# writing that fails in a group of another user ends no loop. Use of more than a twentieth of the \
+# CPUs outside DIR is told once.""",
+# """\
+# Each round is a line of JSON: want, plan, used and limit of each group in slices, whether it is \
+# hungry, whether that is a guess, and what a hungry group lacked of the plan that stood \
+# (unserved). `missed` is the number of rounds missed before it, `held` that of groups with \
+# another limit than their own, `served` the part of the plan of this reading that was served. \
+# Lines that nobody reads are dropped and counted, never waited for. -o openmetrics=FILE has the \
+# same in CPUs. Groups that come are held from their second reading on. A burst is 0 while a limit \
+# below the group's own stands. A limit below 1 ms is rounded up. A group whose limit somebody \
+# else sets meanwhile is left alone from then on, and so is the group in which the loop runs. A \
+# burst that somebody sets is the group's own from then on.""",
+# """\
+# One loop runs on a host: it locks hold.lock in /run/arbiter, or beside the undo file if --root \
+# is another tree than the host's. `apply` and `undo` change no group that it holds. More than \
+# 1024 groups of another user are held as one, and so are those that take half a second in two \
+# rounds. Of more than 4096 groups the settings are read in turn, and before each writing. Groups \
+# below kubepods are refused without --force, since kubelet writes their limits itself. Such as \
+# come later are left alone. As a service it tells systemd by NOTIFY_SOCKET that it is ready and \
+# alive. The Debian package has arbiter-hold.service, not enabled.""",
+# """\
+# With --by scheduler nothing in a group is written. The program arbiter-scheduler (a package of \
+# its own) loads a scheduler into the kernel, which serves the amounts of each round; it needs \
+# sched_ext and types of the kernel (Debian 13's backports from 6.16 on). What a group used and \
+# how long its tasks waited is read there. A round's line has as `scheduler` what it counted since \
+# it was loaded: picks, turns of tasks that waited for 10 s (late), stops at limits, and tasks \
+# that got no number (unplanned). Tasks outside DIR share what the plan leaves, at least by \
+# weights. When that program ends, or is killed, the kernel schedules by weights again. Its \
+# package has arbiter-schedule.service, not enabled, with the settings of arbiter-hold.service.""",
+# ]
+#
+# [argument]
+# name = "source"
+# metavar = "DIR"
+# help = "the tree, or a part of it, whose groups share the CPUs"
+#
+# [examples]
+# "one round of a part of the tree; --once --yes would write it" = """\
+# arbiterctl hold /sys/fs/cgroup/system.slice --read 2x1s"""
+# "the same with weights, and limits of a tenth of a second" = """\
+# arbiterctl hold /sys/fs/cgroup/system.slice --read 2x1s --weights --period 100ms"""
+# "by the kernel's scheduler; --yes would load it" = """\
+# arbiterctl hold /sys/fs/cgroup/system.slice --read 2x1s --by scheduler"""
+#
+# # Texts of options that are other ones here.
+# [options]
+# output = """\
+# `openmetrics=FILE` keeps the last round in a file for a textfile collector; a line of JSON for \
+# each round is printed"""
+# depth = """\
+# hold groups N below DIR as one, 1 to 64 (default 64): who owns the groups below can set their \
+# limits"""
+# by = """\
+# `scheduler`, a trial for hosts of one owner, gives the plan to a scheduler in the kernel \
+# (arbiter-scheduler) and writes no file (default limits)"""
+# undo = """\
+# the undo file, which must be new, in a folder that only this user may change (default \
+# /run/arbiter/hold-undo.json)"""
+# read = "a round lasts TIME, at least the period; N rounds (default x1s, which goes on)"
+# period = "period of the limits, 100ms or 1s (default 1s)"
+# slice = "slice, such as 1ms (default 1ms, of many CPUs 10ms)"
+#
+# [choices]
+# by = ["limits", "scheduler"]
+#
+# [defaults]
+# by = "limits"
+# read = "x1s"
+# ///
 from __future__ import annotations
 
 import argparse

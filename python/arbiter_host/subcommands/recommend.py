@@ -1,4 +1,63 @@
 """`arbiterctl recommend`."""
+# /// arbiterctl
+# order = 4
+# summary = "propose requests and limits by what was used"
+# forms = ["tables"]
+# takes = ["group", "namespace", "selector", "output", "unit", "verbose", "target", "headroom",
+#          "kind", "want", "scale", "read", "used", "range", "step", "query", "map", "node",
+#          "node_weights", "strict", "cpus", "period", "slice", "library"]
+# description = """\
+# Proposes a request and a limit for each container or unit from what it used, and says who would \
+# be short and what each is guaranteed."""
+# details = [
+# """\
+# The request is the percentile of --target with --headroom on top, at least 10m and at most the \
+# limit. The answer says how many samples there are, over what time, and which of them the \
+# percentile is. Limits stay, unless --target has a second percentile: then one is that of the \
+# use, or what a throttled container wanted at least, with the same on top. A container without a \
+# limit, or with one sample alone, gets none. In a guaranteed pod the request is the limit, and \
+# stays with it.""",
+# """\
+# What was used is said by --used; a tree of cgroups tells of throttling too, and tells it of \
+# units itself. A container of which nothing is said stays as it is.""",
+# """\
+# The pods of a Deployment, StatefulSet, DaemonSet or ReplicaSet, and the containers of a \
+# service of compose, have one row by all that was seen of them: on each node of a cluster, \
+# and of pods that are gone, by their names. A Prometheus is asked for 14 days, unless \
+# --range says otherwise.""",
+# """\
+# For containers of docker the request is 1024 cpu-shares for each CPU and the limit cpus, for \
+# units 100 of CPUWeight for each CPU and CPUQuota.""",
+# """\
+# In the plan each container asks for what its row used at the percentile, with the proposed \
+# weights and limits. Beside it is what each is guaranteed, whatever the others ask for.""",
+# ]
+#
+# [argument]
+# name = "source"
+# nargs = "+"
+# metavar = "SOURCE"
+# help = """\
+# pods and their node, containers of docker, units, or a tree of cgroup v2, as of explain"""
+#
+# [examples]
+# "from what was used at one time" = """\
+# kubectl top pods -A --containers | arbiterctl recommend pods.json node.json --used -"""
+# "from a history, as JSON" = """\
+# arbiterctl recommend pods.json node.json --used pods.csv --target p90 -o json"""
+# "of a whole cluster, from two weeks of Prometheus" = """\
+# arbiterctl recommend k8s:// --used http://127.0.0.1:9090"""
+#
+# # Texts of options that are other ones here.
+# [options]
+# unit = "unit of a history (default cpu)"
+# used = """\
+# what was used: a history as for replay, a file as `kubectl top pods -A --containers` prints it, \
+# a tree of cgroups, or the address of a Prometheus"""
+#
+# [kinds]
+# used = ["kubernetes", "docker", "systemd", "cgroup"]
+# ///
 from __future__ import annotations
 
 import argparse
@@ -27,7 +86,7 @@ from arbiter_host.sources.load import Opened
 from arbiter_host.sources.measurable import Measurable, measured
 from arbiter_host.sources.register import READERS
 from arbiter_host.sources.source_options import SourceOptions
-from arbiter_host.subcommands.base import chosen_of_each, source_name
+from arbiter_host.subcommands._base import chosen_of_each, source_name
 
 
 def options_of(options: argparse.Namespace) -> SourceOptions:

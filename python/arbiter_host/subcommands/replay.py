@@ -1,4 +1,54 @@
 """`arbiterctl replay`."""
+# /// arbiterctl
+# order = 5
+# summary = "plan many samples of what was used"
+# forms = ["tables", "csv", "html", "svg"]
+# takes = ["group", "namespace", "selector", "output", "unit", "everything", "verbose", "workers",
+#          "dask", "kind", "want", "scale", "read", "used", "range", "step", "query", "map", "node",
+#          "node_weights", "strict", "cpus", "period", "slice", "library"]
+# description = "Plans the groups of SOURCE for each sample of what was used."
+# details = [
+# """\
+# The samples of --used are planned one after another, with what was saved up. A sample lasts one \
+# period, or as long as --step says: then its period is repeated, so that a burst lasts as long as \
+# it would on a host. Unless the source says its period itself, that is 1 s where it can be, so \
+# that a slice is a thousandth of a CPU.""",
+# """\
+# A file is CSV with groups in the first row and a time in the first column, lines GROUP NUMBER \
+# GROUP NUMBER .., or what was used at one time as `kubectl top pods` prints it. An empty cell of \
+# CSV asks for nothing. For many hosts it is a folder with HOST.csv, or one CSV with the columns \
+# time, host, group and demand.""",
+# "The text has sums, and csv and json each sample. `wanted` and `got` are means.",
+# ]
+#
+# [argument]
+# name = "source"
+# nargs = "+"
+# metavar = "SOURCE"
+# help = """\
+# a source, as of explain, or many hosts: a folder of their files, a cluster's JSON"""
+#
+# [examples]
+# "samples of half an hour each" = "arbiterctl replay host.toml --used day.csv --step 30m"
+# "two days" = "arbiterctl replay host.toml --used monday.csv --used tuesday.csv --step 30m"
+# "a picture of some groups" = """\
+# arbiterctl replay host.toml --used day.csv --step 30m -g web -o svg=day.svg"""
+# "a day of each host" = "arbiterctl replay hosts --used demands --step 30m"
+#
+# # Texts of options that are other ones here.
+# [options]
+# unit = "unit of the demands and of the answer (default cpu)"
+# used = """\
+# the demands of each sample: a CSV, a file of lines of pairs, or the address of a Prometheus; for \
+# many hosts a folder or one CSV"""
+# step = "how long a sample lasts, such as 5m (default: one period; of a Prometheus 1m)"
+#
+# [kinds]
+# unit = "all"
+# everything = ["hosts"]
+# used = "all"
+# step = "all"
+# ///
 from __future__ import annotations
 
 import argparse
@@ -20,7 +70,7 @@ from arbiter_host.sources.samples import History, values_of
 from arbiter_host.sources.selection import Selection
 from arbiter_host.sources.source_options import UseOptions
 from arbiter_host.sources.usage import some
-from arbiter_host.subcommands.base import answer, source_name
+from arbiter_host.subcommands._base import answer, source_name
 
 
 def sample_of(uses: UseOptions) -> int:

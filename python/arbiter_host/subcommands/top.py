@@ -1,4 +1,75 @@
 """`arbiterctl top`."""
+# /// arbiterctl
+# order = 6
+# summary = "plan a host again and again: live, alerts, metrics"
+# forms = ["tables", "openmetrics"]
+# takes = ["group", "namespace", "selector", "output", "state", "sort", "depth", "unit",
+#          "everything", "verbose", "alert", "command_of_alert", "listen", "pod", "kind", "want",
+#          "scale", "read", "used", "range", "step", "query", "node", "node_weights", "strict",
+#          "cpus", "period", "slice", "library"]
+# description = """\
+# Plans a source again and again, compares the plan with what the groups got, and says when it \
+# gets bad."""
+# details = [
+# """\
+# At a terminal it is a live table. Keys: q ends, ? tells the keys, arrows, PgUp, PgDn, Home and \
+# End move, `-` and `+` fold and unfold a row, / searches and n goes on, s goes to the next order, \
+# f to the next filter, a shows groups that ask for nothing. `used` is what a group used since the \
+# last reading. The bars are what the plan gave it in the last ten rounds, as parts of its own \
+# most. Behind a pipe each round is a line of JSON; the table, with the options of what is shown, \
+# is -o text there.""",
+# """\
+# Of a tree a round has what each group used since the last reading, and how many of its periods \
+# were throttled. Its demands are taken by --want (default psi), and planned. Of files there is \
+# the plan alone, and with --used what that says. With --pods the groups of pods and containers in \
+# a tree have their names.""",
+# """\
+# GROUP of an alert is a path, its end, a title or a pattern with `*`. Groups with children are \
+# compared where GROUP names them without `*`, and by throttled. A GROUP that is not there is \
+# told. An alert ends the command with status 5. With --command, --listen or -o openmetrics it \
+# goes on, and status 5 stands at the end. A command is run when an alert begins, and again after \
+# it was away for a round. It has 60 seconds.""",
+# """\
+# The metrics are arbiter_plan_gets_cpus, arbiter_plan_wants_cpus, arbiter_got_cpus, \
+# arbiter_off_cpus, arbiter_throttled_ratio and arbiter_starved by group, arbiter_alert, and \
+# arbiter_round_timestamp_seconds. Pods have namespace, pod and container as kube-state-metrics \
+# has them. share/arbiter/grafana.json is a dashboard of Grafana for them. Every user of the \
+# machine can read the port.""",
+# ]
+#
+# [argument]
+# name = "source"
+# nargs = "*"
+# metavar = "SOURCE"
+# help = """\
+# a tree of cgroups, which is measured (default /sys/fs/cgroup), or files as of explain, which are \
+# read again in each round"""
+#
+# [examples]
+# "this machine, live" = "arbiterctl top"
+# "one look, for a script" = """\
+# arbiterctl top /sys/fs/cgroup --read 2x5s --alert 'starved,throttled>5%'"""
+# "metrics for Prometheus, with the names of pods" = """\
+# arbiterctl top --pods k8s:// --listen 127.0.0.1:9101"""
+# "a command at an alert that holds for four rounds" = """\
+# arbiterctl top --alert 'web*:lack>250m for 4' --command 'logger -t arbiter'"""
+#
+# # Texts of options that are other ones here.
+# [options]
+# output = """\
+# WORDS (default: text at a terminal, else lines of json); `openmetrics=FILE` keeps the last round \
+# in a file for a textfile collector; may be said again"""
+# pod = """\
+# the pods whose groups a tree has, so that these have their names: what `kubectl get pods -A -o \
+# json` prints, or k8s://; may be said again"""
+# read = """\
+# read again each TIME, N times (default: x1s at a terminal, else x15s; without N it goes on)"""
+#
+# [kinds]
+# pod = ["cgroup"]
+# read = "all"
+# node = ["kubernetes", "slurm", "cgroup"]
+# ///
 from __future__ import annotations
 
 import argparse
@@ -26,7 +97,7 @@ from arbiter_host.sources import kubernetes, load, readings
 from arbiter_host.sources.register import SERVICE
 from arbiter_host.sources.source_options import SourceOptions
 from arbiter_host.sources.times import times_of
-from arbiter_host.subcommands.base import chosen, view_of
+from arbiter_host.subcommands._base import chosen, view_of
 from arbiter_host.top import top, viewer
 
 if TYPE_CHECKING:

@@ -33,7 +33,7 @@ def answer(options: argparse.Namespace, action: str,
     source = source_options(options, **more)
     files = load.opened(source, options.source)
     if load.may_be_many(replace(source, uses=None), files):
-        from arbiter_host.subcommands import many  # (one host needs none)
+        from arbiter_host.subcommands import _many as many  # (one host needs none)
         if many.answered(options, files, action):
             return
     write_forms(outputs, of_one(options, files))
