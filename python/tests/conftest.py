@@ -39,15 +39,23 @@ def engine(calls):
     return Engine(calls)
 
 
-class Command:
-    """Runs arbiterctl over one library."""
+def environment_of(library):
+    """The environment of a run over a library."""
+    return {**os.environ, "ARBITER_LIBRARY": str(library), "LC_ALL": "C", "COLUMNS": "120",
+            "TMPDIR": "/tmp"}
 
-    def __init__(self, library):
-        self.environment = {**os.environ, "ARBITER_LIBRARY": str(library), "LC_ALL": "C",
-                            "COLUMNS": "120", "TMPDIR": "/tmp"}
+
+class Command:
+    """Runs arbiterctl over one library, by a process that has read the package where there is one.
+    """
+
+    def __init__(self, library, warm=None):
+        self.environment, self.warm = environment_of(library), warm
 
     def ended(self, *words, given=b"", **options):
         """A run that has ended."""
+        if self.warm and not options and self.warm.takes(self.environment):
+            return self.warm.ended([*map(str, words)], given, self.environment)
         return subprocess.run([sys.executable, str(PACKAGE / "arbiterctl"), *map(str, words)],
                               input=given, capture_output=True, timeout=SECONDS,
                               env=self.environment, check=False, **options)
@@ -60,10 +68,22 @@ class Command:
         return ended.stdout.decode(), ended.stderr.decode()
 
 
+@pytest.fixture(scope="session")
+def warm(request, library):
+    """What starts runs with --checked; none else."""
+    if not request.config.getoption("checked"):
+        yield None
+        return
+    from warm import Warm
+    process = Warm(environment_of(library))
+    yield process
+    process.end()
+
+
 @pytest.fixture
-def ctl(library):
+def ctl(library, warm):
     """The command over the library under test."""
-    return Command(library)
+    return Command(library, warm)
 
 
 @pytest.fixture
