@@ -1,7 +1,7 @@
 """The lock's code beside its models: recorded periods are replayed as events of `Crowd.antt` and
 turns of `Turns.antt`.
 
-A seat that is not lent makes its accesses by inspection. So each access of runs of 4 and of 16
+That each access of the code is a turn is by inspection. So each access of runs of 4 and of 16
 threads is looked at here. lock/record.c gives the threads their turns in an order that a seed
 picks. lock/replay.py says what it refuses.
 """

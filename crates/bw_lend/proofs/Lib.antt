@@ -24,4 +24,7 @@ mod Turned
 mod TurnsRun
 mod TurnsLeave
 mod TurnsLed
+mod BothHeld
+mod BothRuns
+mod BothLed
 mod PlacesOwed

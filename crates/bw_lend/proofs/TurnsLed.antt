@@ -16,7 +16,7 @@ use Rattle.bw_lend.proofs.TurnsLeave.{looks_ahead, lends_itself, stores_hint}
 use Rattle.bw_lend.proofs.TurnsLeave.{peeks, claims_to_help, claims_to_return, gives, gives_last}
 use Rattle.bw_lend.proofs.TurnsLeave.{returns, rouses_first, rouses}
 
-one_turn : (h k : Hall) → Meets h → (t : Turn) → IsTurn t h k → Goes h k (maker t)
+pub one_turn : (h k : Hall) → Meets h → (t : Turn) → IsTurn t h k → Goes h k (maker t)
 one_turn h k m (LooksAhead i) turn = looks_ahead h m i k turn
 one_turn h k m (LendsItself i) turn = lends_itself h m i k turn
 one_turn h k m (StoresHint i) turn = stores_hint h m i k turn

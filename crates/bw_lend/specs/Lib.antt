@@ -10,3 +10,4 @@ pub mod Turns
 pub mod Crowd
 pub mod CrowdLaws
 pub mod CrowdRounds
+pub mod BothTables

@@ -1,11 +1,13 @@
 //! Laws of lent seats: each is the contract of a function that does nothing.
 ghost use Rattle.std.specs.Prelude.{◌≡◌, ◌^◌};
+ghost use Rattle.bw_lend.specs.BothTables.{BothAreEvents, BothServeDrawnTickets};
 ghost use Rattle.bw_lend.specs.CrowdLaws.{NoWakeIsLost, NoneIsStuck, AwakeSeatsCanStep};
 ghost use Rattle.bw_lend.specs.CrowdLaws.{OnlyTheServedTicketIsInside, AtMostOneIsInside};
 ghost use Rattle.bw_lend.specs.CrowdRounds.{SeventeenRoundsRaiseServing, DrawnTicketsAreLeft};
 ghost use Rattle.bw_lend.specs.Turns.{TurnsAreEvents, TurnsLeaveDrawnTickets};
 
 use crate::table::{AWAY, BACK, CLAIMED, DONE, POSTED, TICKETS};
+use bw_machine::Machine;
 use bw_ticket::limits::MAX_TICKETS;
 
 /// Tickets fit into the words of places: a ticket is below 2^22, and a word has room for 2^28.
@@ -95,4 +97,23 @@ pub fn turns_are_events()
 /// for each seat.
 pub fn turns_leave_drawn_tickets()
     ensures { TurnsLeaveDrawnTickets }
+{}
+
+/// Each turn on the lock's own table or on the table of places is one event of the model, or none.
+///
+/// A turn on the lock's table is one of `bw_ticket`. A thread makes it where it draws, and where it
+/// is in a call of the lock, which it begins where its visit says that it enters. So a seat draws,
+/// enters and leaves as the model has it, and none stores a mark. The law begins with a lock that
+/// was just opened, and all of whose seats are lent. It assumes a hint word for each seat.
+pub fn both_tables_are_events<M: Machine>()
+    ensures { BothAreEvents M M.Call M.Reply }
+{}
+
+/// After any turns on both tables, each drawn ticket is served and left within seventeen rounds for
+/// itself and for each ticket before it that is not yet left.
+///
+/// In a round each seat that is neither idle nor asleep makes a turn that is an event. The law
+/// assumes a hint word for each seat. That rounds are made is left to the system.
+pub fn both_tables_serve_drawn_tickets<M: Machine>()
+    ensures { BothServeDrawnTickets M M.Call M.Reply }
 {}

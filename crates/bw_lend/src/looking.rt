@@ -10,7 +10,7 @@ pub(crate) struct Chance {
     nth: Count,
 }
 
-/// What a look found, by the right to it. Only [`Chance::look`] makes one. It is not `Drop`.
+/// The sight of one look, by the right to it. Only [`Chance::look`] makes one. It is not `Drop`.
 pub(crate) struct Found {
     nth: Count,
     served: u64,
@@ -50,7 +50,7 @@ impl Found {
         self.served
     }
 
-    /// The same, once it is noted.
+    /// Ends it, once it is noted. Returns the ticket.
     pub(crate) fn end(self) -> u64
         ensures { result ≡ self.served }
     {
