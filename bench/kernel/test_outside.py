@@ -18,12 +18,15 @@ OWED = ("processors 2\nslice 10\nterms 10 10 20\nleaf 0 1 1048576\nleaf 1 1 5242
         "pass 10\nwake 1 1\npass 100\n")
 # Leaf 2 is lifted to the clock of leaf 1, 20, though leaf 0 has 10.
 LIFTED = LIMIT + "leaf 2 1\nwake 2 1\npick 0 1\n"
+# At a new plan leaf 0 is at its limit: the level is the clock of leaf 1, 20, at which both begin.
+LEVEL = LIMIT + "level\ngive 0 1 0\ngive 1 1 0\nstop 0 0\npick 0 1\n"
 # Leaf 1 goes out of turn; leaf 0 has the lesser clock.
 LATE = HEAD + "wake 0 1\nwake 1 1\npick 0 1\nend 0 20 1\nlate 1\npick 0 1\n"
 # At a new plan leaf 0 leads by 31 of the 32 slices that it may keep, and leaf 1 has used 30 then.
 LEAD = HEAD + ("wake 0 1\nwake 1 1\npick 0 0\nend 0 310 1\nlevel\ngive 0 1 0\ngive 1 1 0\n"
                "pick 0 1\nend 0 300 1\n")
 TRACES = {
+    "a level without who is at its limit": (LEVEL, {outside.ALLOWED: 3, outside.PUT_ASIDE: 1}),
     "a late turn": (LATE, {outside.ALLOWED: 1, outside.LATE: 1}),
     "a lead of 31 slices is kept": (LEAD + "pick 0 1\n", {outside.ALLOWED: 3}),
     "it goes last": (LEAD + "pick 0 0\n", {outside.ALLOWED: 2, outside.WRONG: 1}),
@@ -83,6 +86,7 @@ def test_the_proved_program_allows_what_is_passed_by():
     # (with a run of leaf 2 that uses 10 at once)
     assert traced.replayed(LIFTED) == "allowed: 5 picks"
     assert traced.replayed(LEAD + "pick 0 1\n") == "allowed: 3 picks"
+    assert traced.replayed(LEVEL) == "allowed: 3 picks"
     assert "lesser clock" in traced.replayed(BEHIND + "bound 0 2 0\npick 0 1\n")
     assert traced.replayed(OWED + "pick 0 0\n") == "allowed: 1 picks"
     assert "earlier deadline" in traced.replayed(OWED + "pick 0 1\n")

@@ -1,6 +1,7 @@
 """The scheduler's rule and queues in a model of CPUs (tests/kernel/simulated.c): each pick is one
 that the proved rule allows, and each group has its part. Then what crowds, masks, limits and rounds
 do to others."""
+import random
 import shutil
 import subprocess
 from collections.abc import Iterable
@@ -58,7 +59,7 @@ def made(tmp_path_factory):
 
 def lines_of(program, options, seed, seconds, cpus, groups):
     """The lines that the model prints."""
-    words = [program, *options, seed, 1000 * seconds, cpus, *groups]
+    words = [program, *options, seed, round(1000 * seconds), cpus, *groups]
     return subprocess.run([*map(str, words)], check=True, capture_output=True, text=True,
                           timeout=600).stdout.splitlines(keepends=True)
 
@@ -284,6 +285,58 @@ def test_picks_past_who_is_held_back(program, name):
     replay = outside.Replay(trace)
     assert not replay.found[outside.WRONG] and replay.found[outside.ALLOWED] > 500
     assert replay.most_away and "cut " in trace
+    if traced.DISPATCH.is_file():
+        assert traced.replayed(trace) == f"allowed: {replay.text.count('pick ')} picks"
+
+
+# Of each kind the microseconds for which its tasks work, and sleep.
+TIMES = {"a": ([0], [0]), "w": ([300, 1000, 3000], [1000, 4000, 9000]), "f": ([2000, 20000], [1]),
+         "t": ([100000, 300000], [100000, 500000]), "p": ([5000, 20000], [50000, 95000])}
+
+
+def random_group(rnd: random.Random, cpus: int, left: int, limits: int) -> tuple[str, int]:
+    """A group of a kind, with a mask, a limit and a guarantee that is left; and this."""
+    kind = rnd.choice("aaawwftp")
+    amount, tasks = rnd.randint(1, 200), rnd.choice([1, 1, 2, 3, 5, 9, 20])
+    limit = rnd.choice([0, 0, 0, 1000, 10000, 60000])
+    on, off = (rnd.choice(times) for times in TIMES[kind])
+    mask = rnd.choice(["-1", "-1", str(rnd.randrange(cpus)), f"m{rnd.randint(1, 2**cpus - 1):x}"])
+    share = rnd.randint(0, left // 2)
+    guarantee = min(share, limit // 100) if limit else share
+    words = [f"{kind},{amount},{limit},{tasks},{on},{off},{700 * rnd.randint(0, 5)},{mask}",
+             f"g={guarantee}"]
+    words += [f"in={rnd.randint(1, limits)}"] if limits and rnd.random() < 0.5 else []
+    words += ["nice=19"] if rnd.random() < 0.2 else []
+    return ":".join(words), share
+
+
+def random_host(seed: int) -> tuple[list[str], int, list[str]]:
+    """Options, CPUs and groups of a host: with limits of groups, a real-time task, new plans, and
+    ends that are held up."""
+    rnd = random.Random(seed)
+    cpus, limits = rnd.choice([1, 2, 2, 3, 4, 4, 8]), rnd.choice([0, 0, 1, 2])
+    groups = [f"l,{rnd.choice([20000, 50000, 100000])},{rnd.randint(0, above)}"
+              for above in range(limits)]
+    groups += [f"r,{rnd.randrange(cpus)},50000,250000"] if rnd.random() < 0.3 else []
+    left = 1000 * cpus
+    for at in range(rnd.randint(2, 7)):
+        group, share = random_group(rnd, cpus, left, limits)
+        groups.append("+" * (at > 0 and rnd.random() < 0.15) + group)
+        left -= share
+    options = ["-p", str(rnd.choice([200, 1000]))] if rnd.random() < 0.6 else []
+    options += ["-j", "30"] if options and rnd.random() < 0.4 else []
+    options += ["-o", str(rnd.choice([500, 3000, 9000]))] if rnd.random() < 0.3 else []
+    return options, cpus, groups
+
+
+@pytest.mark.parametrize("seed", range(16))
+def test_random_hosts(program, seed):
+    """No pick is wrong, and the proved program allows each, where all of this meets."""
+    options, cpus, groups = random_host(seed)
+    lines = lines_of(program, options, seed, 1.5, cpus, groups)
+    trace = "".join(line for line in lines if not line.startswith(FOUND))
+    replay = outside.Replay(trace)
+    assert not replay.found[outside.WRONG], (options, cpus, groups)
     if traced.DISPATCH.is_file():
         assert traced.replayed(trace) == f"allowed: {replay.text.count('pick ')} picks"
 

@@ -17,7 +17,7 @@ MORE = ("bound ", "stop ", "late ")
 # What a pick or a wake is.
 ALLOWED, WRONG = "allowed", "wrong"
 BOUND, STOPPED, LIFTED = "before a bound task", "before a stopped leaf", "lifted over one held back"
-LATE = "out of turn"
+LATE, PUT_ASIDE = "out of turn", "at its limit at a new plan"
 # Parts of a CPU, and the most that a leaf keeps of its lead at a new plan, in slices.
 ONE_CPU, MOST_LEAD = 1 << 20, 32
 
@@ -144,7 +144,7 @@ class Replay:
             "end": self.end, "leave": self.leave, "level": self.set_level, "give": self.give,
             "cut": self.cut, "bound": self.bound, "stop": self.stop, "late": self.late}
         for line, (name, numbers) in zip(trace.splitlines(), words_of(trace)):
-            if name != "pick" and not line.startswith(MORE):
+            if name not in ("pick", "level") and not line.startswith(MORE):
                 self.lines.append(line)
             steps[name](*numbers)
 
@@ -199,10 +199,8 @@ class Replay:
         by_rule = leaf.charged
         wants = [each for each in self.leaves if each.waiting or each.running]
         if leaf not in wants:
-            seen = [each for each in wants if each.running or not each.is_stopped
-                    and (self.terms.quantum or each.is_ready)]
             by_rule = max(leaf.charged, self.level(leaf, wants))
-            leaf.charged = max(leaf.charged, self.level(leaf, seen))
+            leaf.charged = max(leaf.charged, self.level(leaf, self.seen()))
         leaf.waiting += tasks
         if leaf.charged != by_rule:
             self.found[LIFTED] += 1
@@ -285,15 +283,30 @@ class Replay:
         if leaf.rate < before:
             self.cut(row)
 
+    def seen(self) -> list[Leaf]:
+        """The leaves that want, but those that wait at their limit with all of their tasks."""
+        return [each for each in self.leaves if each.running or each.waiting and not each.is_stopped
+                and (self.terms.quantum or each.is_ready)]
+
     def set_level(self) -> None:
-        """The level of a new plan: the least settled clock of those that want."""
-        wants = [each for each in self.leaves if each.waiting or each.running]
+        """The level of a new plan: the least settled clock of those that want. In the text those at
+        their limit want nothing for this moment."""
+        away = [row for row, each in enumerate(self.leaves)
+                if each.is_stopped and each.waiting and not each.running]
+        for row in away:
+            self.cut(row)
+        wants = self.seen()
         if wants:
             least = min(wants, key=lambda each: Fraction(each.settled(self.slice), each.amount))
             self.level_now = least.settled(self.slice), least.amount
         else:
             most = max(self.leaves, key=lambda each: Fraction(each.charged, each.amount))
             self.level_now = most.charged, most.amount
+        waiting = [self.leaves[row].waiting for row in away]
+        self.lines += [f"leave {row}" for row, count in zip(away, waiting) for _ in range(count)]
+        self.lines.append("level")
+        self.lines += [f"wake {row} {count}" for row, count in zip(away, waiting)]
+        self.found[PUT_ASIDE] += len(away)
 
     def give(self, row: int, amount: int, guarantee: int) -> None:
         """A new plan gives a leaf an amount and a guarantee. It keeps its lead."""
