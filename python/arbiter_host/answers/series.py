@@ -87,7 +87,7 @@ class Series:
     names: list[str]
     groups: dict[str, list[SampleCell]]
     host: Host
-    # What the demands and the weights are, in words.
+    # The demands and the weights in words.
     asked: str
     weighed: str
 

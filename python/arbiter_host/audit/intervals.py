@@ -108,7 +108,7 @@ class Audit:
 
     @property
     def asked(self) -> str:
-        """What the demands are, in words."""
+        """The rule of the demands, in words."""
         return {None: "use, raised where throttled or hungry,", "usage": "use",
                 "psi": "use, raised by waiting,"}.get(self.want, f"{self.want}")
 
