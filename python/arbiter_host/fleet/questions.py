@@ -154,8 +154,9 @@ def check_answered(fleet: Fleet, hosts: Sequence[HostAnswer], missing: Missing,
     pods = [host.answer["pods"] for host in hosts if "pods" in host.answer]
     for each in zip(*pods):
         if all("why" in pod for pod in each):
+            why, *_ = report.reasons((host.name, pod["why"]) for host, pod in zip(hosts, each))
             raise NothingFound(f"{names.shown(each[0]['pod'])}: no host of {len(hosts)} takes it,"
-                               f" as {hosts[0].name}: {each[0]['why']}")
+                               f" as {why}")
     for row in told.data.get("pending", []) if pods else []:
         if row["host"] is None:
             raise NothingFound(f"{names.shown(row['pod'])}: {row['why']}")

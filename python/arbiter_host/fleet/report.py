@@ -269,17 +269,27 @@ def place_columns(place: int) -> Columns:
                                                           host), True)]
 
 
+def reasons(whys: Iterable[tuple[str, str]]) -> list[str]:
+    """The reasons of hosts, one of each kind, that of most hosts first. Reasons that differ in
+    numbers alone are of one kind."""
+    alike: dict[str, list[str]] = {}
+    for name, why in whys:
+        alike.setdefault(re.sub("[0-9]+", "0", why), []).append(f"{name}: {why}")
+    return [each[0] for each in sorted(alike.values(), key=lambda each: -len(each))]
+
+
 def of_places(hosts: Sequence[HostAnswer], rule: str) -> Parts:
     """The report of `place`: for each pod the best hosts first."""
     lines, tables, best = [f"{OWN} {rule}: {RULES[rule]}; amounts are CPUs", asked(hosts)], [], {}
     for place, name in enumerate(pod["pod"] for pod in hosts[0].answer["pods"]) if hosts else ():
         order, pods = ranked(hosts, place, rule), [host.answer["pods"][place] for host in hosts]
-        cannot = [f"{host.name}: {shown(pod['why'])}" for host, pod in zip(hosts, pods)
+        cannot = [(host.name, shown(pod["why"])) for host, pod in zip(hosts, pods)
                   if "why" in pod]
         whole = sum("why" not in pod and pod["gets"] == pod["wants"] and not pod["lost"]
                     for pod in pods)
         lines.append(f"{shown(name)}: hosts that give it all without a loss to others: {whole} of"
-                     f" {len(hosts)}" + (f"; that cannot take it: {len(cannot)}, as {cannot[0]}"
+                     f" {len(hosts)}" + (f"; that cannot take it: {len(cannot)}, as"
+                                         f" {reasons(cannot)[0]}"
                                          if cannot else "")
                      + "".join(f"; not looked at: {each}" for each in unjudged(pods)[:1]))
         tables.append(Table(place_columns(place), order,
@@ -431,13 +441,9 @@ def refusal(place: int, hosts: Sequence[HostAnswer], order: Sequence[HostAnswer]
         return "no host is answered"
     if order:
         return f"pods before it take what {order[0].name} has left"
-    # (reasons that differ in numbers alone are one, the one of most hosts first)
-    alike: dict[str, list[str]] = {}
-    for host in hosts:
-        told = host.answer["pods"][place]
-        why = told["why"] if "why" in told else whys[host.name]
-        alike.setdefault(re.sub("[0-9]+", "0", why), []).append(f"{host.name}: {why}")
-    first = [each[0] for each in sorted(alike.values(), key=lambda each: -len(each))[:MOST_REASONS]]
+    pods = ((host.name, host.answer["pods"][place]) for host in hosts)
+    first = reasons((name, each["why"] if "why" in each else whys[name]) for name, each in pods)[
+        :MOST_REASONS]
     rest = len(hosts) - len(first)
     return "; ".join([*first, *([f"{rest} more refuse it"] if rest else [])])
 
