@@ -54,6 +54,8 @@ def test_kinds_of_picks(trace, found):
 RECORDED = {
     "held-two-pinned": {outside.ALLOWED: 3219, outside.BOUND: 17},
     "held-two-limit": {outside.ALLOWED: 3222, outside.STOPPED: 5},
+    # `two-three` and `two-pinned` by one load, with guarantees
+    "held-guarantees": {outside.ALLOWED: 4575, outside.BOUND: 9},
 }
 
 

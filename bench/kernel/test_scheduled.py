@@ -21,7 +21,9 @@ from support import scheduler_lacks
 
 SPAN = layout.Span(seconds=3, settle=1, has_grid=False)
 NAMES = ("two-three", "two-pinned")
-# Hundredths of a CPU that a group may be off in three seconds, and the least part that is served.
+# Hundredths of a CPU that a group may be off in three seconds, of what was served, and the least
+# part that is. (In such a guest a CPU idles while the task that it picked is on its way from
+# another one.)
 MOST_OFF, LEAST_SERVED = 3.0, 0.98
 # Of so many picks at most one goes before a task that waits for some CPUs.
 MOST_PASSED = 20
@@ -63,7 +65,8 @@ def test_the_plan_is_served(traced_runs, name):
     found, runs, _ = traced_runs
     outcome = compare.outcome_of(found[name], runs[name], SPAN)
     root, *groups = outcome.lines
-    assert [(line.path, line.off) for line in groups if abs(line.off) > MOST_OFF] == []
+    offs = {line.path: line.had * root.share / root.had - line.share for line in groups}
+    assert {path: off for path, off in offs.items() if abs(off) > MOST_OFF} == {}
     assert root.had >= LEAST_SERVED * root.share
     assert any(f"ended after {len(NAMES)} plans; out of turn 0" in line
                for line in runs[NAMES[-1]].told)

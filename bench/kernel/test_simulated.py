@@ -231,8 +231,8 @@ CASES = {
 }
 
 
-# Hosts whose tasks are held back for long: by masks, a limit, and a real-time task on the CPU that a
-# task is bound to. So what a leaf is owed passes the most that it may keep.
+# Hosts whose tasks are held back for long: by masks, a limit, and a real-time task on the CPU that
+# a task is bound to. So what a leaf is owed passes the most that it may keep.
 TAKEN = ("r,0,300000,700000", f"a,90,0,1,{ALWAYS}:g=500", f"a,50,0,2,{ALWAYS}:g=500")
 HELD_BACK = {
     "a pool and 60 tasks at a limit": CASES["a pool and 60 tasks at a limit"],

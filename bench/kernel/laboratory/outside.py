@@ -2,8 +2,8 @@
 
 The proved rule knows neither. Here it is stated with both: a leaf is held back at a pick if it is
 stopped, or if each of its tasks that wait does so for other CPUs. Then others go first. A leaf that
-wakes is not lifted to the clock of one that is held back from all CPUs, but further. A task that has
-waited for long has a turn past the rule. All these are counted.
+wakes is not lifted to the clock of one that is held back from all CPUs, but further. A task that
+has waited for long has a turn past the rule. All these are counted.
 """
 from __future__ import annotations
 
@@ -207,8 +207,8 @@ class Replay:
             self.charge(row, by_rule)
 
     def charge(self, row: int, by_rule: int) -> None:
-        """A leaf that wakes is lifted further than the rule lifts it: the text has a run of it, by a
-        processor of its own, that uses the rest at once."""
+        """A leaf that wakes is lifted further than the rule lifts it: the text has a run of it, by
+        a processor of its own, that uses the rest at once."""
         leaf = self.leaves[row]
         woken = replace(leaf, charged=by_rule)
         away = self.away([each for each, other in enumerate(self.leaves)
@@ -216,7 +216,8 @@ class Replay:
         at = self.count + len(away)
         self.most_away = max(self.most_away, len(away) + 1)
         self.most_held = max(self.most_held, leaf.held)
-        self.lines += [f"pick {each} {other}" for each, other in enumerate([*away, row], self.count)]
+        picked = enumerate([*away, row], self.count)
+        self.lines += [f"pick {each} {other}" for each, other in picked]
         self.lines.append(f"end {at} {leaf.charged - by_rule} 1")
         self.lines += [f"end {each} 0 1" for each in range(self.count, at)]
 
