@@ -1,5 +1,5 @@
-"""The options of arbiterctl, each declared once, in templates/options.toml: parsers, help, man pages
-and completions are made from it.
+"""The options of arbiterctl, each declared once, in templates/options.toml: parsers, help, man
+pages and completions are made from it.
 
 A subcommand's module says which of them it takes, and what differs there. `add(parser, "explain")`
 adds them. `fill(options)` then gives every dest of the table its value, also those that the

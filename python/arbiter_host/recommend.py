@@ -12,7 +12,7 @@ import re
 from collections.abc import Iterable, Mapping, Sequence, Set
 from dataclasses import dataclass
 from fractions import Fraction
-from typing import Any, NamedTuple
+from typing import NamedTuple
 
 from arbiter_host.base import demands, names, units
 from arbiter_host.base.demands import Use
@@ -105,19 +105,6 @@ class Proposal:
         titles = dict(zip(self.groups, self.titles))
         return [f"{titles[at, each.path]}.{each.key}={each.value}" for at, each in self.settings
                 if at in hosts]
-
-    @property
-    def data(self) -> dict[str, Any]:
-        """The amounts that were and are to be, as data."""
-        span = self.use.span
-        return {"samples": len(self.use.values), "of": self.use.groups,
-                "span_seconds": None if span is None else float(span),
-                "used_millicpu": float(self.used), "most_millicpu": float(self.most),
-                "throttled": self.is_throttled, "scaled": self.is_scaled,
-                "request_millicpu": self.now.request,
-                "limit_millicpu": self.now.limit,
-                "recommended": {"request_millicpu": self.then.request,
-                                "limit_millicpu": self.then.limit}}
 
 
 class Outcome(NamedTuple):
@@ -337,20 +324,3 @@ def recommended(engine: Engine, hosts: Sequence[SeenHost], rule: Rule) -> Recomm
         (sum(now for (now, _), _ in known), sum(then for _, (then, _) in known))
         if known else None, sum(room) if len(room) == len(plans) else None, kind.noun, kind.keys,
         frozenset(at for at, host in enumerate(hosts) if host.chosen != frozenset()))
-
-
-def as_data(advice: Recommendation) -> dict[str, Any]:
-    """The recommendation as data. Amounts are thousandths of a CPU."""
-    requests, rows = advice.requests or (None, None), []
-    for each in advice.rows:
-        one, least = each.proposal, each.least._asdict()
-        amounts: dict[str, Any] = {f"{key}_millicpu": float(least[key]) for key in least}
-        rows.append({
-            advice.noun: one.title, **one.data, "groups": list(one.titles), **amounts,
-            "set": one.words_of_set(advice.chosen),
-            "settings": {key: {"now": now, "then": one.values.get(key)}
-                         for key, now in zip(advice.keys, one.words)}})
-    return {"percent": advice.rule.percent, "headroom": float(advice.rule.headroom),
-            "percentile": advice.percentile, "engine": advice.plans[0][1].by,
-            "requests_millicpu": requests[0], "recommended_requests_millicpu": requests[1],
-            "allocatable_millicpu": advice.allocatable, f"{advice.noun}s": rows}

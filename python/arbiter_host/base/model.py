@@ -171,6 +171,15 @@ class Model:
         self.groups[group.path] = group
         return group
 
+    def make(self, path: str) -> Group:
+        """The group of a path, which is made where it is not there, with each group above it."""
+        if path not in self.groups:
+            above = names.parent_path(path)
+            if above != ".":
+                self.make(above)
+            self.add(Group(path))
+        return self.groups[path]
+
     def children(self) -> dict[str, list[str]]:
         """The paths of the children of each group and of the root, in order of creation."""
         below: dict[str, list[str]] = {".": []}

@@ -14,7 +14,6 @@ from arbiter_host.base.demands import Measured, Place
 from arbiter_host.base.faults import HostFault
 from arbiter_host.base.model import MAX_CAPACITY, Group, Model, bind_to, check_count, checked
 from arbiter_host.base.owned import NONE, Range, Setting
-from arbiter_host.sources import systemd
 from arbiter_host.sources.data import field, flat, loads, number, table, text_field
 from arbiter_host.sources.measurable import Measurable
 from arbiter_host.sources.source_options import File, SourceOptions
@@ -90,7 +89,7 @@ def parent_path(model: Model, folder: str) -> str:
     """The path of a folder, which is made where it is not there."""
     path = names.path_of_folder(folder)
     if path:
-        systemd.make(model, path).place = folder
+        model.make(path).place = folder
     return path or "."
 
 

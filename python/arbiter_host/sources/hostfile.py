@@ -164,14 +164,6 @@ def checked_path(path: str) -> str:
     return path
 
 
-def add(model: Model, group: Group) -> None:
-    """Adds a group, and each group above it that the file does not name."""
-    above = names.parent_path(group.path)
-    if above != "." and above not in model.groups:
-        add(model, Group(above))
-    model.add(group)
-
-
 def read_host(entry: Any, library: Library, options: SourceOptions) -> Host:
     """The table `host`, with what is asked for in its place."""
     numbers: dict[str, int] = {}
@@ -217,7 +209,10 @@ def model_of(data: bytes, name: str, is_toml: bool, library: Library,
                 group = read_group(path, {} if each is None else each)
                 if path in model.groups:
                     raise HostFault("a group stands before the groups below it")
-                add(model, group)
+                above = names.parent_path(path)
+                if above != ".":
+                    model.make(above)
+                model.add(group)
                 model.notes += beyond(names.shown(path), each, model.host)
         for path, below in model.children().items():
             if path != "." and below and model.groups[path].demand:

@@ -102,17 +102,9 @@ def path_of(unit: Properties) -> str:
     return "." if is_root else names.path_of_folder(unit.get("ControlGroup", ""))
 
 
-def make(model: Model, path: str) -> Group:
-    """A group, with each one above it that no unit has named."""
-    above = names.parent_path(path)
-    if above != "." and above not in model.groups:
-        make(model, above)
-    return model.groups[path] if path in model.groups else model.add(Group(path))
-
-
 def add(library: Library, model: Model, unit: Properties, path: str) -> None:
     """Adds a unit's group."""
-    group, title = make(model, path), unit.get("Description", "")
+    group, title = model.make(path), unit.get("Description", "")
     group.place = unit.get("ControlGroup", "").strip("/")
     group.title = title if title != unit.get("Id", "") else ""
     set_weight(library, group, unit, model.notes)

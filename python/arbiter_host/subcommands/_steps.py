@@ -12,6 +12,7 @@ from arbiter_host.setting import apply, record
 
 
 def print_steps(root: safe_files.Root, steps: Sequence[apply.Step]) -> None:
+    """Prints steps as lines of a shell."""
     emit("".join(f"{names.shown(step.words(root))}\n" for step in steps) or "# no change\n")
 
 

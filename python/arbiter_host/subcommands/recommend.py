@@ -75,7 +75,7 @@ from arbiter_host.base.model import Model
 from arbiter_host.base.names import cut, few, short, shown
 from arbiter_host.base.output import Styled
 from arbiter_host.base.plan import Engine, engine_of
-from arbiter_host.base.tables import Column, Table, TableAnswer
+from arbiter_host.base.tables import TEXT, Column, Table, TableAnswer, fact
 from arbiter_host.fleet import hosts as cluster
 from arbiter_host.fleet.hosts import Fleet
 from arbiter_host.recommend import Advised, Proposal, Recommendation, SeenHost
@@ -209,20 +209,53 @@ def title(one: Proposal) -> str:
 
 
 def columns(advice: Recommendation) -> list[Column[Advised]]:
-    """The columns of owners: what weighs and what limits their groups is as people write them."""
-    weighs, limits = advice.keys
+    """The columns of owners: what weighs and what limits their groups is as people write them. As
+    data amounts are thousandths of a CPU."""
+    def setting(at: int) -> list[Column[Advised]]:
+        return [Column(advice.keys[at], lambda each: cut(each.proposal.words[at], 20)),
+                Column("then", lambda each: each.proposal.values.get(advice.keys[at], "-"))]
+
+    def least(key: str, *forms: str) -> Column[Advised]:
+        return Column(key, lambda each: f"{units.decimal(getattr(each.least, key), 1)}m",
+                      key=f"{key}_millicpu", value=lambda each: float(getattr(each.least, key)),
+                      forms=forms)
+
+    def amounts(key: str) -> Column[Advised]:
+        return fact(f"{key}_millicpu", lambda each: getattr(each.proposal.now, key))
+
     return [
-        Column("samples", lambda each: str(len(each.proposal.use.values))),
-        Column("used", lambda each: f"{float(each.proposal.used):.0f}m"),
+        Column(advice.noun, lambda each: title(each.proposal), True, advice.noun,
+               lambda each: each.proposal.title, is_last=True),
+        Column("samples", lambda each: str(len(each.proposal.use.values)), key="samples",
+               value=lambda each: len(each.proposal.use.values)),
+        fact("of", lambda each: each.proposal.use.groups),
+        fact("span_seconds", lambda each: None if each.proposal.use.span is None
+             else float(each.proposal.use.span)),
+        Column("used", lambda each: f"{float(each.proposal.used):.0f}m", key="used_millicpu",
+               value=lambda each: float(each.proposal.used)),
         Column("most", lambda each: f"{float(each.proposal.most):.0f}m"
-               f"{'*' if each.proposal.is_throttled else ''}"),
-        Column(weighs, lambda each: cut(each.proposal.words[0], 20)),
-        Column("then", lambda each: each.proposal.values.get(weighs, "-")),
-        Column(limits, lambda each: cut(each.proposal.words[1], 20)),
-        Column("then", lambda each: each.proposal.values.get(limits, "-")),
-        Column("gets", lambda each: f"{units.decimal(each.least.gets, 1)}m"),
-        Column("guaranteed", lambda each: f"{units.decimal(each.least.guaranteed, 1)}m"),
-        Column(advice.noun, lambda each: title(each.proposal), True)]
+               f"{'*' if each.proposal.is_throttled else ''}", key="most_millicpu",
+               value=lambda each: float(each.proposal.most)),
+        fact("throttled", lambda each: each.proposal.is_throttled),
+        fact("scaled", lambda each: each.proposal.is_scaled),
+        amounts("request"), amounts("limit"),
+        fact("recommended", lambda each: {f"{key}_millicpu": getattr(each.proposal.then, key)
+                                          for key in ("request", "limit")}),
+        *setting(0), *setting(1), fact("groups", lambda each: list(each.proposal.titles)),
+        least("gets_now"), least("gets", *TEXT), least("wants"), least("guaranteed", *TEXT),
+        fact("set", lambda each: each.proposal.words_of_set(advice.chosen)),
+        fact("settings", lambda each: {
+            key: {"now": now, "then": each.proposal.values.get(key)}
+            for key, now in zip(advice.keys, each.proposal.words)})]
+
+
+def as_data(advice: Recommendation, table_: Table[Advised]) -> dict[str, Any]:
+    """The recommendation as data."""
+    now, then = advice.requests or (None, None)
+    return {"percent": advice.rule.percent, "headroom": float(advice.rule.headroom),
+            "percentile": advice.percentile, "engine": advice.plans[0][1].by,
+            "requests_millicpu": now, "recommended_requests_millicpu": then,
+            "allocatable_millicpu": advice.allocatable, f"{advice.noun}s": table_.data()}
 
 
 def answer(advice: Recommendation) -> TableAnswer:
@@ -236,6 +269,6 @@ def answer(advice: Recommendation) -> TableAnswer:
          any(each.proposal.is_scaled for each in advice.rows)),
         (f"(N) N {advice.noun}s: `gets` and `guaranteed` are of the one that has least",
          any(len(each.proposal.groups) > 1 for each in advice.rows))) if is_told]
-    return TableAnswer(lambda: [*heading(advice, short_), Table(
-        columns(advice), advice.rows, style=lambda each: "red" if each.is_short else ""), *notes],
-                       lambda: recommend.as_data(advice))
+    rows = Table(columns(advice), advice.rows, style=lambda each: "red" if each.is_short else "")
+    return TableAnswer(lambda: [*heading(advice, short_), rows, *notes],
+                       lambda: as_data(advice, rows))
