@@ -84,7 +84,7 @@ def read_package():
 
 
 def ended_with(run):
-    """The status of a call that ends as a program does, after what is left to be done at its end."""
+    """The status of a call that ends as a program does, and what is done at its end."""
     try:
         run()
         status = 0
@@ -116,39 +116,53 @@ def begin(asked, files, run):
     os._exit(ended_with(run) & 255)
 
 
+class Runs:
+    """The runs that are under way, each by a handle that is ready when it has ended."""
+
+    def __init__(self, listener, run):
+        self.listener, self.run, self.under, self.looks = listener, run, {}, select.poll()
+        self.looks.register(listener, select.POLLIN)
+
+    def take(self):
+        """Takes a run, and tells its number. False where nobody asks any more."""
+        message, files, _, _ = socket.recv_fds(self.listener, 16, 4)
+        if not message:
+            return False
+        asked, number = socket.socket(fileno=files[0]), os.fork()
+        if number == 0:
+            self.listener.close()
+            begin(asked, files[1:], self.run)
+        for file in files[1:]:
+            os.close(file)
+        asked.sendall(number.to_bytes(4, "big"))
+        handle = os.pidfd_open(number)
+        self.under[handle] = number, asked
+        self.looks.register(handle, select.POLLIN)
+        return True
+
+    def tell(self, handle):
+        """Tells the status of a run that has ended."""
+        number, asked = self.under.pop(handle)
+        self.looks.unregister(handle)
+        os.close(handle)
+        status = os.waitstatus_to_exitcode(os.waitpid(number, 0)[1])
+        with asked:
+            asked.sendall(status.to_bytes(4, "big", signed=True))
+
+
 def serve(listener):
     """Takes runs until nobody asks any more, and tells of each its number and its status."""
     read_package()
-    from arbiter_host.command import main as run
+    from arbiter_host.command import main
     sys.modules["__main__"].__file__ = str(PACKAGE / "arbiterctl")
     gc.freeze()
-    under = {}
-    looks = select.poll()
-    looks.register(listener, select.POLLIN)
+    runs = Runs(listener, main)
     while True:
-        for ready, _ in looks.poll():
-            if ready in under:
-                number, asked = under.pop(ready)
-                looks.unregister(ready)
-                os.close(ready)
-                status = os.waitstatus_to_exitcode(os.waitpid(number, 0)[1])
-                with asked:
-                    asked.sendall(status.to_bytes(4, "big", signed=True))
-                continue
-            message, files, _, _ = socket.recv_fds(listener, 16, 4)
-            if not message:
+        for ready, _ in runs.looks.poll():
+            if ready in runs.under:
+                runs.tell(ready)
+            elif not runs.take():
                 return
-            asked = socket.socket(fileno=files[0])
-            number = os.fork()
-            if number == 0:
-                listener.close()
-                begin(asked, files[1:], run)
-            for file in files[1:]:
-                os.close(file)
-            asked.sendall(number.to_bytes(4, "big"))
-            handle = os.pidfd_open(number)
-            under[handle] = number, asked
-            looks.register(handle, select.POLLIN)
 
 
 if __name__ == "__main__":

@@ -4,9 +4,9 @@
 # summary = "why each group gets what it gets"
 # forms = ["tables", "html", "svg", "csv"]
 # takes = ["group", "namespace", "selector", "output", "state", "sort", "depth", "unit",
-#          "everything", "guaranteed", "verbose", "rank", "workers", "dask", "kind", "want", "scale",
-#          "read", "used", "range", "step", "query", "node", "node_weights", "strict", "cpus",
-#          "period", "slice", "library"]
+#          "everything", "guaranteed", "verbose", "rank", "workers", "dask", "kind", "want",
+#          "scale", "read", "used", "range", "step", "query", "node", "node_weights", "strict",
+#          "cpus", "period", "slice", "library"]
 # description = "Says why each group gets what it gets."
 # details = [
 # """\
