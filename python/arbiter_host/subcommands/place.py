@@ -7,7 +7,9 @@
 #          "scale", "read", "used", "range", "step", "query", "node", "node_weights", "strict",
 #          "cpus", "period", "slice", "library"]
 # description = """\
-# Says what a pod would get on each host, who would lose, and which host is the best for it."""
+# Says what a pod would get on each host, who would lose, and which host is the best for it. \
+# Several pods go in a greedy order that is not the library's: one after another, each to the best \
+# host left."""
 # details = [
 # """\
 # A pod is any source: a host file with its groups, or JSON of `kubectl get pod` or of what makes \
@@ -19,7 +21,7 @@
 # the operating system decide what fits. In a cluster so do pod affinity, pod anti-affinity and \
 # topology spread. Other conditions are named as not looked at: volumes, host ports, resource \
 # claims, and affinity by labels of namespaces. Of an object with replicas as many pods are \
-# placed, one after another. Where a pod fits on no host the exit status is 6.""",
+# placed. Where a pod fits on no host the exit status is 6.""",
 # ]
 #
 # [argument]
