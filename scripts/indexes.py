@@ -5,6 +5,7 @@
     scripts/indexes.py --laws           the laws alone, in words
     scripts/indexes.py --definitions    the definitions that these name, in words
     scripts/indexes.py --lemmas         the lemma files, with what each proves
+    scripts/indexes.py --unstated       public constants that clauses name and no law states
 """
 import re
 import sys
@@ -44,7 +45,7 @@ def crates() -> List[str]:
 
 @dataclass
 class Contract:
-    """A function's contract: each clause's kind and label, "" for none, and all of its words.
+    """A function's contract: each clause's kind and label, "" for none, its text and its words.
 
     A law takes nothing, returns nothing and does no work. `comment` has the words above it.
     """
@@ -53,6 +54,7 @@ class Contract:
     is_public: bool
     is_of_crate: bool
     clauses: List[Tuple[str, str]]
+    text: str
     words: Set[str]
     is_law: bool
     comment: str
@@ -107,8 +109,8 @@ def contracts(text: str) -> Iterator[Contract]:
             own = contract_lines(lines, at, len(head[1]))
             clauses = [(found[1], found[2] or "") for found in map(CLAUSE.match, own) if found]
             is_public = head[2] == "pub " or TRAIT.match(part) is not None
-            words = set(re.findall(r"\w+", " ".join(own)))
-            yield Contract(head[3], is_public, head[2] == "pub(crate) ", clauses, words,
+            text_, words = " ".join(own), set(re.findall(r"\w+", " ".join(own)))
+            yield Contract(head[3], is_public, head[2] == "pub(crate) ", clauses, text_, words,
                            LAW.match(line) is not None, doc_comment(lines, at))
 
 
@@ -276,9 +278,61 @@ def lemmas() -> str:
     return text
 
 
+# Constants
+
+CONSTANT = re.compile(r"^ *pub(?:\(\w+\))? const ([A-Z]\w*):", re.M)
+USE = re.compile(r"^ *(?:pub )?use (\w+)::([^;]*);", re.M)
+OWN = ("crate", "self", "super")
+Constant = Tuple[str, str]
+
+
+def constants_of(crate: str, path: Path) -> Dict[str, Constant]:
+    """The constants that a file can name: by the name there, the crate and the name."""
+    text = path.read_text(encoding="utf-8")
+    found = {other: (each, name) for each, file, name, other in imports(path)
+             if file.endswith("TheConstants")}
+    for head, names in USE.findall(text):
+        found |= {name: (crate if head in OWN else head, name)
+                  for name in re.findall(r"\b[A-Z][A-Z_0-9]+\b", names)}
+    return found | {name: (crate, name) for name in CONSTANT.findall(text)}
+
+
+def public_constants(crate: str, path: Path) -> Set[Constant]:
+    """The constants of a file that other crates can name in code."""
+    top = ROOT / "crates" / crate / "src"
+    root = "".join(each.read_text(encoding="utf-8") for each in top.glob("lib.rt"))
+    module = path.relative_to(top).parts[0].removesuffix(".rt")
+    shown = set(re.findall(r"\w+", " ".join(re.findall(r"^pub use [^;]*;", root, re.M))))
+    names = CONSTANT.findall(path.read_text(encoding="utf-8"))
+    return {(crate, name) for name in names if f"pub mod {module};" in root or name in shown}
+
+
+def unstated() -> List[str]:
+    """The public constants that a clause of a public function or a definition names, of which no
+    law says which number they are."""
+    declared: Set[Constant] = set()
+    cited: Set[Constant] = set()
+    stated: Set[Constant] = set()
+    for crate in crates():
+        for path in sources(crate):
+            text, known = path.read_text(encoding="utf-8"), constants_of(crate, path)
+            declared |= public_constants(crate, path)
+            for each in filter(lambda each: each.is_public, contracts(text)):
+                cited |= {known[word] for word in each.words if word in known}
+                stated |= {known[word] for word in re.findall(r"\{ (\w+) ≡ [(\d]", each.text)
+                           if each.is_law and word in known}
+        for path in (ROOT / "crates" / crate / "specs").rglob("*.antt"):
+            cited |= set(constants_of(crate, path).values())
+    return [f"{crate}: {name}" for crate, name in sorted(cited & declared - stated)]
+
+
+def unstated_page() -> str:
+    return "".join(f"{each}\n" for each in unstated())
+
+
 LISTS: Dict[str, Callable[[], str]] = {
     "--clauses": clauses_page, "--laws": laws_page, "--definitions": definitions_page,
-    "--lemmas": lemmas}
+    "--lemmas": lemmas, "--unstated": unstated_page}
 
 
 def main(words: List[str]) -> int:

@@ -621,6 +621,52 @@ def test_other_lists_are_refused():
     same(run([ROOT / "scripts/indexes.py", "other"]).status, 2)
 
 
+def test_constants_are_stated():
+    """A law says the number of each constant that a public clause or a definition names."""
+    same(indexes.unstated(), [], "constants of which no law says the number")
+
+
+LIMITS = """/// Some.
+pub const {}: u64 = 7;
+
+/// Cuts.
+pub fn cut(amount: u64) -> u64
+    requires {{ amount ≤ {} }}
+{{}}
+"""
+STATES = """use low::limits::MOST;
+
+/// Law: the number of it.
+pub fn numbers({})
+    ensures {{ MOST ≡ 7 }}
+{{}}
+"""
+
+
+@pytest.mark.parametrize("shown", ["pub mod limits;", "pub use limits::{LEAST, MOST};"])
+@pytest.mark.parametrize("name, cited, argument, specs, found", [
+    ("MOST", "MOST", "", "", []),
+    # A clause names it, or a definition of another crate, and none that is a law says its number.
+    ("MOST", "MOST", "some: u64", "", ["low: MOST"]),
+    ("LEAST", "LEAST", "", "", ["low: LEAST"]),
+    ("LEAST", "7", "", "use Rattle.low.specs.declared.limits.TheConstants.{LEAST}\n",
+     ["low: LEAST"]),
+    ("LEAST", "7", "", "use Rattle.low.specs.Limits.{LEAST}\n", []),
+])
+def test_constants_are_found(tmp_path, monkeypatch, name, cited, argument, specs, found, shown):
+    (tmp_path / "crates.txt").write_text("# The crates\nlow:\nhigh: low\n")
+    for file, text in [("low/src/lib.rt", f"{shown}\n"),
+                       ("low/src/limits.rt", LIMITS.format(name, cited)),
+                       ("high/src/laws.rt", STATES.format(argument)),
+                       ("high/specs/Some.antt", specs)]:
+        (tmp_path / "crates" / file).parent.mkdir(parents=True, exist_ok=True)
+        (tmp_path / "crates" / file).write_text(text)
+    monkeypatch.setattr(indexes, "ROOT", tmp_path)
+    same(indexes.unstated(), found, "constants")
+    (tmp_path / "crates/low/src/lib.rt").write_text("mod limits;\n")
+    same(indexes.unstated(), [], "constants that no other crate can name")
+
+
 CONTRACTS = """pub trait Gate {
     fn uses(&self) -> bool
         ensures { True }
