@@ -261,6 +261,22 @@ uint32_t arbiter_tune(uint64_t processors, uint64_t period_us, uint64_t slice_us
                       const uint64_t *goals, size_t goals_length, const uint8_t *may, size_t may_length, uint32_t guaranteed,
                       uint64_t *tuned, size_t tuned_length, uint64_t *unmet);
 
+/* Goals that leave each of the others half of what it has, and what goals come to up the tree. The others are the leaves below
+ * the root with no goal at them or above them. What one has is the plan's or its guarantee. arbiter_tune takes these goals. One
+ * plan, and one more for guarantees.
+ * Reads:
+ *   goals       slices that each row is to get at least, 0 for no goal
+ *   guaranteed  not 0 where goals are met whatever the others ask for, as arbiter_guarantee has it; 0 where the plan meets them
+ * Writes:
+ *   kept     the goals; of each of the others half of what it has, rounded up
+ *   come_to  the goal of each row, or what those of its children come to together, if that is more
+ * Answers 0, or 50 where columns differ in length; 1 to 3 where the host is refused; 4 to 10 where the rows are refused. */
+uint32_t arbiter_goals(uint64_t processors, uint64_t period_us, uint64_t slice_us,
+                       const uint32_t *parents, size_t parents_length, const uint64_t *weights, size_t weights_length,
+                       const uint64_t *limits, size_t limits_length, const uint64_t *demands, size_t demands_length,
+                       const uint64_t *goals, size_t goals_length, uint32_t guaranteed, uint64_t *kept, size_t kept_length,
+                       uint64_t *come_to, size_t come_to_length);
+
 /* Limits with which weights meet the goals, where arbiter_tune has none. They are the greatest: one level for all rows that may
  * be limited, and then each in row order from that level on. So there is one answer. With them arbiter_tune gives the weights.
  * Row 0 keeps its limit, and so does each row with a goal at, above or below it. arbiter_tune is asked at most 33 times, and

@@ -220,6 +220,13 @@ int main(void)
         return 63;
     if (arbiter_limit_others(1, 100000, 5000, parents, 3, alike, 3, limits, 3, demands, 3, too_much, 3, may, 3, lowest, 3, 1, caps, 3, &met) != 0 || met != 0)
         return 64;
+    /* The second keeps half of its 10. */
+    if (arbiter_goals(1, 100000, 5000, parents, 3, alike, 3, limits, 3, demands, 3, just_one, 3, 0, caps, 3, heavy, 2) != 50 || heavy[1] != 100)
+        return 71;
+    if (arbiter_goals(1, 100000, 5000, parents, 3, alike, 3, limits, 3, demands, 3, just_one, 3, 1, caps, 3, heavy, 3) != 0)
+        return 72;
+    if (caps[0] != 0 || caps[1] != 14 || caps[2] != 5 || heavy[0] != 14 || heavy[1] != 14 || heavy[2] != 0)
+        return 73;
     /* A starved task used half of the processor and could have used it whole. Its group may use three quarters of it. */
     if (arbiter_reading(1, 100000, 5000, 1000000000, 500000, 500000, 1, 0, ARBITER_NO_LIMIT, half, 1, half, 0, &used_now, &asked_now, &is_hungry, &is_guess) != 50
             || arbiter_reading(1, 100000, 5000, 0, 500000, 500000, 1, 0, ARBITER_NO_LIMIT, half, 1, half, 1, &used_now, &asked_now, &is_hungry, &is_guess) != 15 || used_now != 9)

@@ -65,7 +65,7 @@ static uint64_t carried[5], cells[9][10];
 
 #define ROWS 1, 100000, 5000, parents, 5, weights, 5, limits, 5, demands, 5
 /* The calls before the check. */
-#define CALLS 19
+#define CALLS 20
 
 static void mark(void)
 {
@@ -139,6 +139,7 @@ static uint32_t call(int which)
                                 tuned, 5, &unmet);
     case 17: return arbiter_limit_others(ROWS, just_one, 5, none, 5, lowest, 5, 0, tuned, 5, &met);
     case 18: return arbiter_serve(ROWS, hungry, 5, asks, 5, caps, 5);
+    case 19: return arbiter_goals(ROWS, just_one, 5, 1, tuned, 5, caps, 5);
     default: return arbiter_check(ROWS, amounts, 5, flags, 5, nums, 5, dens, 5, places, 5, &row);
     }
 }

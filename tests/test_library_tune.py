@@ -145,6 +145,51 @@ def test_numbers_that_fit_no_word(module):
             module.tune(HOST, EVEN, [goal, 0, 0, 0, 0], ALL)
 
 
+@pytest.mark.parametrize("rows, goals, guaranteed, kept, come_to", [
+    (EVEN, [0, 0, 0, 0, 0], False, [0, 5, 0, 3, 3], [0] * 5),
+    # Row 4 has no goal and keeps half of its 5, rounded up.
+    (EVEN, [0, 12, 0, 8, 0], False, [0, 12, 0, 8, 3], [20, 12, 8, 8, 0]),
+    # A goal of the pod is no goal of another row, and more than that of the row in it.
+    (EVEN, [0, 0, 12, 8, 0], False, [0, 5, 12, 8, 0], [12, 0, 12, 8, 0]),
+    # Those of its rows come to more. A goal of the root is one of each row below it.
+    (EVEN, [0, 0, 12, 8, 9], False, [0, 5, 12, 8, 9], [17, 0, 17, 8, 9]),
+    (EVEN, [7, 0, 0, 0, 0], True, [7, 0, 0, 0, 0], [7, 0, 0, 0, 0]),
+    # Row 3 has all 20. If the others ask for all, it has 5. Row 1 asks for nothing.
+    (IDLE, [0, 0, 0, 0, 0], False, [0, 0, 0, 10, 0], [0] * 5),
+    (IDLE, [0, 0, 0, 0, 0], True, [0, 0, 0, 3, 0], [0] * 5),
+    (EVEN, [0, 0, 0, 2**64 - 1, 2**64 - 1], True, [0, 5, 0, 2**64 - 1, 2**64 - 1],
+     [2**64 - 1, 0, 2**64 - 1, 2**64 - 1, 2**64 - 1]),
+    # The root is none of the others.
+    ([Row(None, demand=20)], [0], False, [0], [0]),
+])
+def test_halves(module, rows, goals, guaranteed, kept, come_to):
+    """Half of what each leaf has with no goal at it or above it, and what goals come to."""
+    same(module.goals(HOST, rows, goals, guaranteed), (kept, come_to))
+
+
+@pytest.mark.parametrize("number, row, host, tuples", REFUSED,
+                         ids=[f"{case[0]}, {at}" for at, case in enumerate(REFUSED)])
+def test_halves_are_refused(module, number, row, host, tuples):
+    """Host and rows are refused as those of a plan are."""
+    rows = rows_of(tuples)
+    same(number_of(module.goals, host, rows, [0] * len(rows)), (number, row))
+
+
+@pytest.mark.parametrize("by", [-1, 1], ids=["one too few", "one too many"])
+def test_wrong_length_of_halves(module, by):
+    """A wrong length of each column in turn: 50 before the host, and nothing is written."""
+    for host in (HOST, arbiter.Host(0, 0, 0)):
+        for at in range(7):
+            lengths = [5] * 7
+            lengths[at] += by
+            columns = [(type(column)._type_ * 6)(*column, 7) for column in raw_columns(EVEN)]
+            written = [(c.U64 * 6)(*[7] * 6) for _ in range(2)]
+            words = with_lengths([*columns, (c.U64 * 6)(*[1] * 6), *written], lengths)
+            number = module.calls.arbiter_goals(*host_words(host), *words[:10], c.U32(1),
+                                                *words[10:])
+            same((number, [*map(list, written)]), (50, [[7] * 6] * 2), f"column {at}")
+
+
 # Beside each choice of a few weights
 
 
@@ -219,6 +264,38 @@ def at_level(rows: Sequence[Row], may: Sequence[bool], own: Sequence[bool],
     """The rows, of which those that may change and are not the goals' have the level at most."""
     return with_weights(rows, [min(row.weight, level) if each and not mine else row.weight
                                for row, each, mine in zip(rows, may, own)])
+
+
+@pytest.mark.parametrize("guaranteed", [False, True], ids=["by the plan", "by the guarantee"])
+def test_halves_of_tiny_trees(module, guaranteed):
+    """Beside the slow model's plans, each row's way up, and sums from the leaves up."""
+    chance, host = random.Random(SEED), arbiter.Host(1, 100000, 10000)
+    seen = {"half": 0, "goal": 0, "above": 0, "more below": 0}
+    for _ in range(TREES):
+        rows = tiny(chance)
+        goals = [chance.choice((0, 0, 0, 1, 5)) for _ in rows]
+        amounts = model_of(host, rows).plan()
+        inner = {row.parent for row in rows}
+
+        def wanted(row: int) -> int:
+            """The goal of a row beside those of others."""
+            has = any(goal and is_under(rows, top, row) for top, goal in enumerate(goals))
+            if row in inner or row == 0 or has:
+                seen["goal" if goals[row] else "above"] += 1
+                return goals[row]
+            seen["half"] += 1
+            return -(-(kept(host, rows, row) if guaranteed else amounts[row]) // 2)
+
+        def together(row: int) -> int:
+            """What the goals of a row and below it come to."""
+            below = sum(together(each) for each, it in enumerate(rows) if it.parent == row)
+            seen["more below"] += below > goals[row] > 0
+            return max(goals[row], below)
+
+        found = module.goals(host, rows, goals, guaranteed)
+        same(found, ([*map(wanted, range(len(rows)))], [*map(together, range(len(rows)))]),
+             f"{rows}, {goals}")
+    assert min(seen.values()) >= LEAST_OF_EACH, seen
 
 
 @pytest.mark.parametrize("guaranteed", [False, True], ids=["by the plan", "by the guarantee"])

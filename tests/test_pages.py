@@ -505,7 +505,8 @@ CALLS_OF_COUNTS = {
     "bw_questions": {
         r"\*plans = plans\.one_more\(\);": {"least.rt": 1},
         r"\bplan(?:_\w+)?\((?:rt, )?alloc":
-            {"guaranteed.rt": 1, "held.rt": 2, "held/served.rt": 1, "least.rt": 1},
+            {"guaranteed.rt": 1, "held.rt": 2, "held/served.rt": 1, "least.rt": 1,
+             "from_root/beside.rt": 2},
         r"\bCount::none\(": {},
     },
     "bw_plan": {

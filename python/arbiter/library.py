@@ -253,6 +253,19 @@ class Library:
         tuned, unmet = self.ask("tune", host, rows, goals, flag_column(may), int(bool(guaranteed)))
         return list(tuned) if unmet == c.NO_GOAL else int(unmet)
 
+    def goals(self, host: Host, rows: Rows, goals: Sequence[int], guaranteed: bool = False
+              ) -> tuple[list[int], list[int]]:
+        """The goals with halves of others, and what goals come to at each row.
+
+        Goals are those of `tune`. Each leaf below the root with no goal at it or above it is to
+        keep half of what it has, rounded up: by the plan or, where `guaranteed`, whatever the
+        groups ask for that are not under it. The goals of a row come to its own, or to those of its
+        children together, if that is more. Refused as a plan is, and by 50 WrongLength if there is
+        not one goal for each row.
+        """
+        kept, come_to = self.ask("goals", host, rows, goals, int(bool(guaranteed)))
+        return list(kept), list(come_to)
+
     def limit_others(self, host: Host, rows: Rows, goals: Sequence[int], may: Sequence[bool],
                      lowest: Sequence[int | None], guaranteed: bool = False
                      ) -> list[int | None] | None:

@@ -21,6 +21,7 @@ WORDS = {
     "least_limit": f"{HOST} {ROWS} group:I amount:Q >limit:Q",
     "least_processors": f"{HOST} {ROWS} group:I amount:Q >least:Q",
     "tune": f"{HOST} {ROWS} goals:Q[] may:B[] guaranteed:I >tuned:Q[] >unmet:Q",
+    "goals": f"{HOST} {ROWS} goals:Q[] guaranteed:I >kept:Q[] >come_to:Q[]",
     "limit_others": f"{HOST} {ROWS} goals:Q[] may:B[] lowest:Q[] guaranteed:I >limited:Q[] >met:I",
     "refused_row": f"{ROWS} >row:I",
     "hold": f"{HOST} parents:I[] weights:Q[] limits:Q[] used:Q[] hungry:B[] >held:Q[] "

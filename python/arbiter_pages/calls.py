@@ -288,6 +288,16 @@ QUESTIONS = (
                  U64, "a row: no weights of rows that may change meet the goals of it and below"
                  " it together, whatever it is given", "ARBITER_NO_GOAL", "all goals are met")),
          OF_PLAN),
+    Call("goals", "goals beside halves of others, and what goals come to",
+         "Goals that leave each of the others half of what it has, and what goals come to up the"
+         " tree. The others are the leaves below the root with no goal at them or above them. What"
+         " one has is the plan's or its guarantee. arbiter_tune takes these goals. One plan, and"
+         " one more for guarantees.",
+         (HOST, ROWS, GOALS, GUARANTEED,
+          room("kept", U64, "the goals; of each of the others half of what it has, rounded up"),
+          room("come_to",
+               U64, "the goal of each row, or what those of its children come to together, if that"
+               " is more")), OF_PLAN),
     Call("limit_others", "limits of others that allow such weights",
          "Limits with which weights meet the goals, where arbiter_tune has none. They are the"
          " greatest: one level for all rows that may be limited, and then each in row order from"

@@ -115,6 +115,7 @@ def of_tree(library, host, rows, chance):
     may = [chance.random() < 0.5 for _ in range(len(rows))]
     for least in ([chance.choice((0, 0, 3, 9)) for _ in range(len(rows))], []):
         yield from (("tune", (host, rows, least, may, guaranteed)) for guaranteed in (False, True))
+        yield from (("goals", (host, rows, least, guaranteed)) for guaranteed in (False, True))
         lowest = [chance.choice((None, 0, 4)) for _ in range(len(rows))]
         yield from (("limit_others", (host, rows, least, may, lowest, guaranteed))
                     for guaranteed in (False, True))

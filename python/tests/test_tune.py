@@ -778,9 +778,10 @@ def test_met_or_never(engine, model, goals, is_guaranteed, others):
 def goals_kept(found):
     """The goals of an answer and, where others keep half, what these keep."""
     asked_, keeps = found.asked, found.best.told in (HALF, LOWER_HALF)
-    kept = tune_weights.halves(asked_) if keeps else {}
+    kept = [(row, half) for row, (goal, half) in enumerate(zip(asked_.column, asked_.with_halves))
+            if half > goal and keeps]
     return [*asked_.goals, *(goals_.Goal(found.before.groups[row], amount, Fraction(0))
-                             for row, amount in kept.items())]
+                             for row, amount in kept)]
 
 
 @SOME

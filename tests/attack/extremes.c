@@ -224,6 +224,7 @@ static void nothing(void)
     IS(5, arbiter_hold(HOST, ALL(0), flags, 0, amounts, 0, amounts, 0, amounts, 0, flags, 0, amounts, 0, amounts, 0, places, 0));
     IS(5, arbiter_serve(HOST, ALL(0), flags, 0, amounts, 0, amounts, 0));
     IS(5, arbiter_tune(HOST, ALL(0), amounts, 0, flags, 0, 1, amounts, 0, &number));
+    IS(5, arbiter_goals(HOST, ALL(0), amounts, 0, 1, weights, 0, amounts, 0));
     IS(5, arbiter_limit_others(HOST, ALL(0), amounts, 0, flags, 0, amounts, 0, 1, weights, 0, &count));
     IS(50, arbiter_periods(HOST, parents, 0, weights, 0, limits, 0, weights, 0, demands, 0, demands, 0, UINT64_MAX, amounts, 0, amounts, 0, amounts, 0,
                            amounts, 0, amounts, 0, amounts, 0, amounts, 0, amounts, 0, amounts, 0, amounts, 0));
@@ -267,6 +268,7 @@ static void millions(void)
     IS(4, arbiter_hold(HOST, ALL(n), hungry, n, held, n, round, n, amounts, n, flags, n, nums, n, dens, n, places, n));
     IS(4, arbiter_serve(HOST, ALL(n), hungry, n, round, n, held, n));
     IS(4, arbiter_tune(HOST, ALL(n), weights, n, hungry, n, 1, held, n, &number));
+    IS(4, arbiter_goals(HOST, ALL(n), weights, n, 1, held, n, round, n));
     IS(4, arbiter_limit_others(HOST, ALL(n), weights, n, hungry, n, limits, n, 1, held, n, &count));
     munmap(held, n * 8), munmap(round, n * 8), munmap(hungry, n);
     IS(50, arbiter_plan(HOST, parents, n, weights, 3, limits, n, demands, n, amounts, n));

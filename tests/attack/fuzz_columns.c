@@ -424,6 +424,34 @@ static void hold_tune(struct host host, struct rows rows)
     guard_drop(goals), guard_drop(tuned), guard_drop(may);
 }
 
+/* Each leaf with no goal at it or above it keeps half of what it gets. Goals come to more up the tree. */
+static void hold_goals(struct host host, struct rows rows)
+{
+    size_t n = rows.parents_length;
+    uint64_t *goals = column(n, 8), *kept = marked(n, 8), *come_to = marked(n, 8), *below = column(n, 8);
+    uint8_t *inner = column(n, 1), *has = column(n, 1);
+    uint32_t guaranteed = (uint32_t)(taken(1) % 2);
+
+    for (size_t row = 0; row < n; row++) {
+        goals[row] = taken(1) % 4 ? 0 : number(12);
+        inner[row] = 0, below[row] = 0;
+    }
+    demand(counted(arbiter_goals(HOST(host), ROWS(rows), goals, n, guaranteed, kept, n, come_to, n)) == 0, "no goals");
+    for (size_t row = 1; row < n; row++)
+        inner[rows.parents[row]] = 1;
+    for (size_t row = 0; row < n; row++) {
+        has[row] = goals[row] > 0 || (row && has[rows.parents[row]]);
+        uint64_t half = row && !inner[row] && !has[row] ? (gets(host, rows, (uint32_t)row, guaranteed) + 1) / 2 : goals[row];
+        demand(kept[row] == half, "another half");
+    }
+    for (size_t row = n; row-- > 0;) {
+        demand(come_to[row] == (goals[row] > below[row] ? goals[row] : below[row]), "another sum of goals");
+        uint64_t *above = row ? &below[rows.parents[row]] : below;
+        *above = come_to[row] > UINT64_MAX - *above ? UINT64_MAX : *above + come_to[row];
+    }
+    guard_drop(goals), guard_drop(kept), guard_drop(come_to), guard_drop(below), guard_drop(inner), guard_drop(has);
+}
+
 /* With limits of some rows weights of rows that may change meet the goals, or with none from the lowest on. */
 static void hold_limit_others(struct host host, struct rows rows)
 {
@@ -524,6 +552,7 @@ static void hold_refusal(struct host host, struct rows rows, struct answer *foun
                                 found->dens, n, found->places, n)) == answer, "hold answers another number");
     demand(counted(arbiter_serve(HOST(host), ROWS(rows), hungry, n, demands, n, held, n)) == answer, "serve answers another number");
     demand(counted(arbiter_tune(HOST(host), ROWS(rows), demands, n, hungry, n, 0, held, n, &number_)) == answer, "tune answers another number");
+    demand(counted(arbiter_goals(HOST(host), ROWS(rows), found->dens, n, 0, held, n, demands, n)) == answer, "goals answer another number");
     demand(counted(arbiter_limit_others(HOST(host), ROWS(rows), demands, n, hungry, n, demands, n, 0, held, n, &count)) == answer,
            "limit_others answers another number");
     demand(is_marked(held, n * 8) && is_marked(demands, n * 8), "a refused call wrote");
@@ -565,6 +594,7 @@ static void hold_answer(struct host host, struct rows rows, struct answer *found
     hold_least(host, rows, group, number(64));
     hold_round(host, rows);
     hold_tune(host, rows);
+    hold_goals(host, rows);
     hold_limit_others(host, rows);
     hold_periods(host, rows, amounts);
     hold_check(host, rows, found);

@@ -11,7 +11,7 @@
 
 #define THREADS 16
 #define MOST 200
-#define CALLS 19
+#define CALLS 20
 #define NONE ARBITER_NO_LIMIT
 #define TEXT 4000
 #define LINES 90
@@ -23,6 +23,7 @@ struct answers {
     uint8_t flags[MOST], reasons[MOST], tights[MOST];
     /* of a round and its scheduler, of goals, and of a script */
     uint64_t held[MOST], demands[MOST], planned[MOST], round_nums[MOST], round_dens[MOST], kept[MOST], tuned[MOST], limited[MOST], served[MOST], parts[MOST], unmet;
+    uint64_t halves[MOST], come_to[MOST];
     uint32_t round_places[MOST], above[LINES], faults[LINES], made;
     uint8_t round_flags[MOST], names[TEXT];
     uint64_t columns[7][LINES], lines[LINES], names_count, refused_count;
@@ -95,6 +96,7 @@ static void ask(const struct tree *tree, struct answers *found)
                                   found->cells[5], n, found->cells[6], n, found->cells[7], n, found->cells[8], n);
     numbers[17] = arbiter_limit_others(HOST, ROWS, found->amounts, n, tree->hungry, n, found->amounts, n, 0, found->limited, n, &found->met);
     numbers[18] = arbiter_serve(HOST, ROWS, tree->hungry, n, found->served, n, found->parts, n);
+    numbers[19] = arbiter_goals(HOST, ROWS, found->amounts, n, 1, found->halves, n, found->come_to, n);
     atomic_fetch_add(&calls, CALLS);
 }
 

@@ -280,6 +280,31 @@ uint32_t arbiter_tune(uint64_t processors, uint64_t period_us, uint64_t slice_us
     return answer;
 }
 
+uint32_t arbiter_goals(uint64_t processors, uint64_t period_us, uint64_t slice_us,
+                       const uint32_t *parents, size_t parents_length, const uint64_t *weights, size_t weights_length,
+                       const uint64_t *limits, size_t limits_length, const uint64_t *demands, size_t demands_length,
+                       const uint64_t *goals, size_t goals_length, uint32_t guaranteed, uint64_t *kept, size_t kept_length,
+                       uint64_t *come_to, size_t come_to_length)
+{
+    begin("goals");
+    put(' ', processors);
+    put(' ', period_us);
+    put(' ', slice_us);
+    COLUMN(parents, parents_length);
+    COLUMN(weights, weights_length);
+    COLUMN(limits, limits_length);
+    COLUMN(demands, demands_length);
+    COLUMN(goals, goals_length);
+    put(' ', guaranteed);
+    COLUMN(kept, kept_length);
+    COLUMN(come_to, come_to_length);
+    uint32_t answer = (uint32_t)sent_line();
+    TOLD(kept, kept_length);
+    TOLD(come_to, come_to_length);
+    pthread_mutex_unlock(&lock);
+    return answer;
+}
+
 uint32_t arbiter_limit_others(uint64_t processors, uint64_t period_us, uint64_t slice_us,
                               const uint32_t *parents, size_t parents_length, const uint64_t *weights, size_t weights_length,
                               const uint64_t *limits, size_t limits_length, const uint64_t *demands, size_t demands_length,

@@ -7,6 +7,7 @@ pub mod Checked
 pub mod Demand
 pub mod Figured
 pub mod FromRoot
+pub mod Goals
 pub mod Groups
 pub mod Held
 pub mod Limited

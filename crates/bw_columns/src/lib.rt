@@ -2,9 +2,9 @@
 //! the instance that they stand for, and the groups of a hierarchy.
 //!
 //! Over them are the planner's answers: plan, certificate, verdict, limiting groups, figures,
-//! reasons, limits of a round, what a scheduler is given for one, weights for goals of rows and
-//! limits of others, questions about a group, refused row. And a booked period, and conversions of
-//! what operators write to slices.
+//! reasons, limits of a round, what a scheduler is given for one, weights for goals of rows, goals
+//! beside those of others, limits of others, questions about a group, refused row. And a booked
+//! period, and conversions of what operators write to slices.
 #![tactic(auto)]
 
 mod asked_group;
@@ -20,6 +20,7 @@ mod figured;
 mod first_row;
 mod from_root;
 mod front;
+mod goals;
 mod groups;
 mod held;
 mod laws;
@@ -53,6 +54,7 @@ pub use figured::{FigureColumns, figures_of};
 pub use first_row::refused_row;
 pub use from_root::{FromRootColumns, NO_GOAL, from_root_of, measure_of};
 pub use front::write_front;
+pub use goals::{GoalColumns, goals_of};
 pub use groups::{GroupColumns, group_columns};
 pub use held::{HeldColumns, held_of};
 pub use laws::{column_numbers, limits_of_periods};

@@ -11,6 +11,7 @@ mod demand_call;
 mod fault;
 mod figures_call;
 mod fit;
+mod goals_call;
 mod greatest_part_call;
 mod guarantee_call;
 mod hold_call;

@@ -13,6 +13,7 @@ mod CutRows
 mod ExactReadings
 mod FreeRows
 mod GoalRows
+mod GoalSums
 mod Halving
 mod Help
 mod InTurn

@@ -1,4 +1,5 @@
 -- The files of definitions.
+pub mod Beside
 pub mod Busy
 pub mod Change
 pub mod Exact

@@ -3,6 +3,7 @@
 ghost use Rattle.std.specs.Prelude.{◌≡◌, length, IfOk};
 ghost use Rattle.bw_questions.specs.Lowered.{IsTuned};
 
+mod beside;
 mod either;
 mod guaranteed;
 mod laws;
@@ -16,20 +17,23 @@ mod needs;
 mod own;
 mod pass;
 mod planned;
+mod sums;
 mod tops;
 mod weighed;
 
+pub use beside::halves_kept;
 use bw_change_laws::others_weights_give_nothing;
 use bw_model::Instance;
 use bw_model::limits::MAX_WEIGHT;
 use bw_plan::there_is_one_plan;
 pub(crate) use either::tuned_from_root;
-pub use laws::{level_numbers, there_is_one_from_root};
+pub use laws::{goals_come_to, halves_are_had, level_numbers, there_is_one_from_root};
 pub use least::Tuned;
 use lower::{greatest_level, lowered};
 pub use measure::Measure;
 use own::own_rows;
 use std::alloc::{AllocError, Global};
+pub use sums::goal_sums;
 
 /// Weights of the rows that may change under which each row has its goal, all else as it is.
 ///

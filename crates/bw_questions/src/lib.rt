@@ -11,7 +11,10 @@ mod least;
 mod other_limits;
 mod why;
 
-pub use from_root::{Measure, Tuned, level_numbers, there_is_one_from_root, tune};
+pub use from_root::{
+    Measure, Tuned, goal_sums, goals_come_to, halves_are_had, halves_kept, level_numbers,
+    there_is_one_from_root, tune,
+};
 pub use guaranteed::{GuaranteeFault, guarantee};
 pub use held::{
     Held, LeafTimes, Reading, RoundTimes, Served, asked_is_admitted_as_planned, calm_holds_nobody,

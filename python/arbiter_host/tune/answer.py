@@ -142,7 +142,7 @@ class TuneAnswer:
         is_host, are_many = clash.group.parent is None, len(clash.goals) > 1
         which = "these goals together" if are_many else "this goal"
         inside = f" in {where}" if are_many and not is_host else ""
-        asked = self.words(self.tuned.asked.needs[clash.group.row])
+        asked = self.words(self.tuned.asked.come_to[clash.group.row])
         there = f"served in all: {most}" if is_host else f"{where} can be given {most} at most"
         kept = self.tuned.asked.kept & self.tuned.asked.paths
         whose = ("requests were found that" if not clash.is_of_all else "weights of any groups"
@@ -159,7 +159,7 @@ class TuneAnswer:
     def clash_data(self, clash: Clash) -> dict[str, Any]:
         """Goals that cannot be met together as data."""
         return {"group": clash.group.path, "together": [goal.group.path for goal in clash.goals],
-                "asked_millicpu": self.before.millicpu(self.tuned.asked.needs[clash.group.row]),
+                "asked_millicpu": self.before.millicpu(self.tuned.asked.come_to[clash.group.row]),
                 "served_millicpu": self.before.millicpu(self.served(clash))}
 
     def alone(self) -> Table[SingleSetting]:

@@ -14,7 +14,7 @@ from arbiter_host.base.faults import HostFault, UsageFault, naming
 from arbiter_host.base.model import Model
 from arbiter_host.base.names import shown
 from arbiter_host.base.owned import Setting
-from arbiter_host.base.plan import Plan, PlannedGroup, plan, walk
+from arbiter_host.base.plan import Plan, PlannedGroup, asking, plan, walk
 
 NO_CHANGE = "all goals are met as it stands: nothing changes"
 # At most so many changes are left out one by one.
@@ -137,14 +137,22 @@ class Goals:
                  - self.paths - self.kept for some in parents]
         return [rows for rows in dict.fromkeys(found) if rows]
 
+    @functools.cached_property
+    def told(self) -> tuple[list[int], list[int]]:
+        """The goals with halves of others, and what goals come to at each row."""
+        with asking("goals"):
+            return self.before.engine.library.goals(
+                self.before.planned_host, self.columns, self.column, self.is_guaranteed)
+
     @property
-    def needs(self) -> list[int]:
-        """The slices that each row has to get at least for the goals of it and below it."""
-        needs, below = self.column, [0] * len(self.before.groups)
-        for group in reversed(self.before.groups):
-            needs[group.row] = max(needs[group.row], below[group.row])
-            below[group.parent or 0] += needs[group.row]
-        return needs
+    def with_halves(self) -> list[int]:
+        """The goals, where each of the others is to keep half of what it has."""
+        return self.told[0]
+
+    @property
+    def come_to(self) -> list[int]:
+        """The slices that the goals of each row and below it come to."""
+        return self.told[1]
 
     @functools.cached_property
     def beyond(self) -> frozenset[int]:

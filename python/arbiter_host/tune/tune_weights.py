@@ -6,10 +6,9 @@ Where no such weights meet the goals, those of groups beside are lowered to the 
 """
 from __future__ import annotations
 
-from collections.abc import Collection, Mapping, Sequence
+from collections.abc import Collection, Sequence
 from dataclasses import replace
 
-from arbiter_host.base import units
 from arbiter_host.base.plan import asking, walk
 from arbiter_host.tune.goals import Clash, Goals, NewSetting, Way
 
@@ -20,11 +19,10 @@ LEVEL = (f"{MEET}, beside others that are lowered to one weight, the greatest wi
 HALF = "leave each other group half of what it gets"
 
 
-def own_weights(goals: Goals, keeps: Mapping[int, int], may: Sequence[bool]) -> list[int] | Clash:
-    """The weight of each row where all goals are met, or goals that no weights meet together. Some
-    rows keep slices, as by goals of their own, and some beside the goals may be lowered."""
+def own_weights(goals: Goals, column: Sequence[int], may: Sequence[bool]) -> list[int] | Clash:
+    """The weight of each row where all goals of a column are met, or goals that no weights meet
+    together. Some weights beside the goals may be lowered."""
     before = goals.before
-    column = [max(amount, keeps.get(row, 0)) for row, amount in enumerate(goals.column)]
     with asking("tune"):
         answer = before.engine.library.tune(before.planned_host, goals.columns, column, may,
                                             goals.is_guaranteed)
@@ -35,24 +33,10 @@ def own_weights(goals: Goals, keeps: Mapping[int, int], may: Sequence[bool]) -> 
     return Clash(group, tuple(goal for goal in goals.goals if goal.group.row in inside), all(may))
 
 
-def halves(goals: Goals) -> dict[int, int]:
-    """Half of what each other group gets, rounded up: by the plan, or whatever the others ask for.
-
-    The others' greatest demands leave a group the least. So one plan tells all guarantees.
-    """
-    before = goals.before
-    amounts = before.answer.amounts
-    if goals.is_guaranteed:
-        busy = before.engine.plan(before.planned_host, before.columns.asking([
-            0 if group.children else units.MAX_DEMAND for group in before.groups]))
-        amounts = [min(each) for each in zip(busy.amounts, before.answer.figures.mosts)]
-    return {group.row: (amounts[group.row] + 1) // 2 for group in goals.others}
-
-
-def by_weights(goals: Goals, keeps: Mapping[int, int] = {},
-               beside: Collection[int] = ()) -> Way | Clash:
-    """The weights as settings with their accepted plan."""
-    answer = own_weights(goals, keeps, goals.may(beside))
+def by_weights(goals: Goals, beside: Collection[int] = (), keeps: bool = False) -> Way | Clash:
+    """The weights as settings with their accepted plan. Others may keep half of what they have."""
+    column = goals.with_halves if keeps else goals.column
+    answer = own_weights(goals, column, goals.may(beside))
     if isinstance(answer, Clash):
         return answer
     changes = [NewSetting(group.path, "weight", str(group.weight), str(weight))
@@ -65,21 +49,21 @@ def by_weights(goals: Goals, keeps: Mapping[int, int] = {},
 def clash_of_all(goals: Goals, clash: Clash) -> Clash:
     """Goals that no weights of any groups meet together, where there are such; else a clash of the
     weights that may change. Whatever is requested, it makes weights."""
-    answer = own_weights(goals, {}, [True] * len(goals.before.groups))
+    answer = own_weights(goals, goals.column, [True] * len(goals.before.groups))
     return answer if isinstance(answer, Clash) else clash
 
 
 def best_weights(goals: Goals) -> Way | Clash:
     """Weights where each other group keeps half of what it gets, or else where weights do not
     allow that. Where none meet the goals, weights of groups beside these are lowered too."""
-    half = by_weights(goals, halves(goals))
+    half = by_weights(goals, keeps=True)
     if isinstance(half, Way):
         return replace(half, told=half.told.replace(MEET, f"{MEET} and {HALF}"))
     way = by_weights(goals)
     if isinstance(way, Way):
         return replace(way, told=f"{way.told}; none {HALF}")
     for rows in goals.beside:
-        way = by_weights(goals, beside=rows)
+        way = by_weights(goals, rows)
         if isinstance(way, Way):
             break
     return way

@@ -510,6 +510,20 @@ pub fn tune(host: Host, rows: &[Row], goals: &[u64], may: &[bool], guaranteed: b
     })
 }
 
+/// Goals with halves of others, and what goals come to at each row.
+///
+/// `goals` and `guaranteed` are those of [`tune`]. Each leaf below the root with no goal at it or above it is to keep half of what
+/// it has, rounded up. The goals of a row come to its own, or to those of its children together, if that is more.
+///
+/// # Errors
+/// As of [`plan`], and 50 where there is not one goal for each row.
+pub fn goals(host: Host, rows: &[Row], goals: &[u64], guaranteed: bool) -> Result<(Vec<u64>, Vec<u64>), Fault> {
+    let (columns, mut kept, mut come_to) = (Columns::of(rows), vec![0; rows.len()], vec![0; rows.len()]);
+    let number = raw::goals(host, &columns, goals, u32::from(guaranteed), &mut kept, &mut come_to);
+    of_rows(number, &columns)?;
+    Ok((kept, come_to))
+}
+
 /// The limit of each row with which weights that [`tune`] gives meet the goals, or none where no limits do.
 ///
 /// `goals`, `may` and `guaranteed` are those of [`tune`]. `lowest` has the lowest limit in slices that each row may get, none where
@@ -952,6 +966,14 @@ mod tests {
         let refused = Err(fault(50, None));
         assert_eq!(tune(host, &rows, &[0, 14], &may, false), refused);
         assert_eq!(tune(host, &rows, &[0, 14, 6], &may[1..], false), refused);
+    }
+
+    #[test]
+    fn leaves_halves() {
+        let (host, rows) = (Host::default(), equal());
+        assert_eq!(goals(host, &rows, &[0, 14, 0], false), Ok((vec![0, 14, 5], vec![14, 14, 0])));
+        assert_eq!(goals(host, &rows, &[0, 14, 7], true), Ok((vec![0, 14, 7], vec![21, 14, 7])));
+        assert_eq!(goals(host, &rows, &[0, 14], true), Err(fault(50, None)));
     }
 
     #[test]

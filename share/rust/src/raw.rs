@@ -55,6 +55,10 @@ extern "C" {
                     demands: *const u64, demands_length: usize, goals: *const u64, goals_length: usize,
                     may: *const u8, may_length: usize, guaranteed: u32, tuned: *mut u64, tuned_length: usize,
                     unmet: *mut u64) -> u32;
+    fn arbiter_goals(processors: u64, period_us: u64, slice_us: u64, parents: *const u32, parents_length: usize,
+                     weights: *const u64, weights_length: usize, limits: *const u64, limits_length: usize,
+                     demands: *const u64, demands_length: usize, goals: *const u64, goals_length: usize, guaranteed: u32,
+                     kept: *mut u64, kept_length: usize, come_to: *mut u64, come_to_length: usize) -> u32;
     fn arbiter_limit_others(processors: u64, period_us: u64, slice_us: u64, parents: *const u32, parents_length: usize,
                             weights: *const u64, weights_length: usize, limits: *const u64, limits_length: usize,
                             demands: *const u64, demands_length: usize, goals: *const u64, goals_length: usize,
@@ -360,6 +364,16 @@ pub(crate) fn tune(host: Host, columns: &Columns, goals: &[u64], may: &[u8], gua
                      columns.weights.as_ptr(), columns.weights.len(), columns.limits.as_ptr(), columns.limits.len(),
                      columns.demands.as_ptr(), columns.demands.len(), goals.as_ptr(), goals.len(), may.as_ptr(), may.len(),
                      guaranteed, tuned.as_mut_ptr(), tuned.len(), unmet)
+    }
+}
+
+pub(crate) fn goals(host: Host, columns: &Columns, goals: &[u64], guaranteed: u32, kept: &mut [u64], come_to: &mut [u64]) -> u32 {
+    // SAFETY: as the head of this file says
+    unsafe {
+        arbiter_goals(host.processors, host.period_us, host.slice_us, columns.parents.as_ptr(), columns.parents.len(),
+                      columns.weights.as_ptr(), columns.weights.len(), columns.limits.as_ptr(), columns.limits.len(),
+                      columns.demands.as_ptr(), columns.demands.len(), goals.as_ptr(), goals.len(), guaranteed,
+                      kept.as_mut_ptr(), kept.len(), come_to.as_mut_ptr(), come_to.len())
     }
 }
 

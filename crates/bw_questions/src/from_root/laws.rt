@@ -1,5 +1,6 @@
-//! The law of the weights with which all goals are met, and the numbers of a split.
+//! Laws of the weights with which all goals are met and of these goals, and the numbers of a split.
 ghost use Rattle.std.specs.Prelude.{◌≡◌};
+ghost use Rattle.bw_questions.specs.Beside.{GoalsComeTo, HalvesAreHad};
 ghost use Rattle.bw_questions.specs.Lowered.{ThereIsOneTuned};
 
 use bw_split::limits::{GREATEST_LEVEL, MAX_PART, STEPS};
@@ -8,6 +9,17 @@ use bw_split::limits::{GREATEST_LEVEL, MAX_PART, STEPS};
 /// all goals are met.
 pub fn there_is_one_from_root()
     ensures { ThereIsOneTuned }
+{}
+
+/// Law: a plan that gives a row and each row below it its goal gives the row what these goals come
+/// to.
+pub fn goals_come_to()
+    ensures { GoalsComeTo }
+{}
+
+/// Law: no leaf is to keep more beside the goals of others than the plan gives it.
+pub fn halves_are_had()
+    ensures { HalvesAreHad }
 {}
 
 /// States the numbers of a split: a cost of one has 2^27 steps, the greatest level is the cost of
