@@ -5,14 +5,15 @@ use Rattle.std.proofs.Common.{mul-le-mul_left}
 use Rattle.std.specs.Prelude.{max, min, sum}
 use Rattle.std.proofs.lemmas.Bool.{cases_eq, cases_lt, eq-eqb, ne_eqb}
 use Rattle.std.proofs.lemmas.Bool.{lt-ltb, le-ltb}
-use Rattle.std.proofs.lemmas.Nat.{le-div}
 use Rattle.std.proofs.Math.Nat.{div-mul-le_self, mul-div_cancel, mul-le-mul_right}
 use Rattle.std.proofs.Math.Nat.{lt_of_mul-lt-mul_right, le_of_mul-le-mul_left}
 use Rattle.bw_model.proofs.CallerLemmas.{sum_below, sum-is, sum_below-le}
 use Rattle.bw_model.proofs.CallerLemmas.{sum_below-term, sum_by-range}
 use Rattle.bw_questions.specs.Served.{beside, part_of, served_amount}
+use Rattle.bw_questions.proofs.CallerLemmas.{beside_le, div-mono, part_le, part_le_sum}
+use Rattle.bw_questions.proofs.CallerLemmas.{served_le}
 use Rattle.bw_laws.specs.Parts.{AmountsKeepShares, PartsAreWithin, PartsFillTheLimit, sum_of_parts}
-use Rattle.bw_laws.proofs.Quotients.{div-cross, div-rises, div-above, div-le}
+use Rattle.bw_laws.proofs.Quotients.{div-cross, div-above, div-le}
 
 -- Amounts
 
@@ -30,21 +31,6 @@ beside_none given floor = refl
 beside_some : (theirs given floor : ℕ) → 0 < theirs
     → beside theirs given floor ≡ floor * max theirs given / theirs
 beside_some theirs given floor some = rw (ne_eqb theirs 0 (λ e. omega (arith, some, e))) refl
-
-beside_le : (theirs given floor : ℕ) → floor ≤ beside theirs given floor
-beside_le theirs given floor = elim (cases_eq theirs 0) [
-  | inl none ↦ rw (eq-eqb theirs 0 none) (omega arith)
-  | inr other ↦ rw (ne_eqb theirs 0 other) (le-div floor (floor * max theirs given) theirs
-      (omega (arith, other)) (mul-le-mul_left floor (omega arith)))
-]
-
-served_le : (theirs given floor amount : ℕ)
-    → max floor amount ≤ served_amount theirs given floor amount
-served_le theirs given floor amount = elim (cases_lt amount floor) [
-  | inl less ↦ rw (served_beside theirs given floor amount less)
-      (omega (arith, less, beside_le theirs given floor))
-  | inr enough ↦ rw (served_planned theirs given floor amount enough) (omega (arith, enough))
-]
 
 -- beside leaves that are planned a whole number of times their floors
 beside_times : (theirs floor often : ℕ) → 0 < theirs → 1 ≤ often
@@ -88,7 +74,7 @@ beside_rises theirs given more floor within = elim (cases_eq theirs 0) [
       let times : floor * max theirs given ≤ floor * max theirs more =
       mul-le-mul_left floor (omega (arith, within)) in
       rw (beside_some theirs given floor some) (rw (beside_some theirs more floor some)
-      (div-rises (floor * max theirs given) (floor * max theirs more) theirs some times))
+      (div-mono (floor * max theirs given) (floor * max theirs more) theirs some times))
 ]
 
 beside_rises_with_floor : (theirs given floor more : ℕ) → floor ≤ more
@@ -100,7 +86,7 @@ beside_rises_with_floor theirs given floor more within = elim (cases_eq theirs 0
       let times : floor * max theirs given ≤ more * max theirs given =
       mul-le-mul_right (max theirs given) within in
       rw (beside_some theirs given floor some) (rw (beside_some theirs given more some)
-      (div-rises (floor * max theirs given) (more * max theirs given) theirs some times))
+      (div-mono (floor * max theirs given) (more * max theirs given) theirs some times))
 ]
 
 -- the greater of a number and another rises by no greater ratio than the number
@@ -218,12 +204,6 @@ part_either false limit above amount held = elim (cases_eq above 0) [
       inr (some, part_some limit above amount held some)
 ]
 
-part_le : (calm : Bool) (limit above amount held : ℕ) → part_of calm limit above amount held ≤ limit
-part_le calm limit above amount held = elim (part_either calm limit above amount held) [
-  | inl whole ↦ rw whole (omega arith)
-  | inr share ↦ rw share.1 (omega arith)
-]
-
 part_alone : (calm : Bool) (limit above held : ℕ) → part_of calm limit above above held ≡ limit
 part_alone calm limit above held = elim (part_either calm limit above above held) [
   | inl whole ↦ whole
@@ -283,7 +263,7 @@ part_rises_with_limit false limit more above amount held within = elim (cases_eq
   | inr other ↦
       let some : 0 < above = omega (arith, other) in
       let times : limit * amount ≤ more * amount = mul-le-mul_right amount within in
-      let shares = div-rises (limit * amount) (more * amount) above some times in
+      let shares = div-mono (limit * amount) (more * amount) above some times in
       rw (part_some limit above amount held some) (rw (part_some more above amount held some)
       (omega (arith, within, shares)))
 ]
@@ -296,7 +276,7 @@ part_rises_with_plan false limit above amount more held within = elim (cases_eq 
   | inr other ↦
       let some : 0 < above = omega (arith, other) in
       let times : limit * amount ≤ limit * more = mul-le-mul_left limit within in
-      let shares = div-rises (limit * amount) (limit * more) above some times in
+      let shares = div-mono (limit * amount) (limit * more) above some times in
       rw (part_some limit above amount held some) (rw (part_some limit above more held some)
       (omega (arith, shares)))
 ]
@@ -362,11 +342,6 @@ parts_below : (limit : ℕ) (planned held : List ℕ) → sum_of_parts limit pla
     ≡ sum_below (length planned) (part_k limit planned held)
 parts_below limit planned held = sum_by-range (part_k limit planned held) (length planned)
 
-planned_le : (planned : List ℕ) (k : ℕ) → k < length planned → get_or planned k 0 ≤ sum planned
-planned_le planned k below =
-    let term = sum_below-term (length planned) k (λ i. get_or planned i 0) below in
-    omega (arith, term, sum-is planned)
-
 limit_is : (limit : ℕ) (planned : List ℕ)
     → sum_below (length planned) (λ k. limit * get_or planned k 0) ≡ limit * sum planned
 limit_is limit planned = sum_scaled (length planned) limit (λ k. get_or planned k 0)
@@ -387,7 +362,7 @@ all_lost limit planned held some = elim (cases_eq (sum planned) 0) [
       sum_lt (length planned) (λ k. limit * get_or planned k 0)
       (λ k. (part_k limit planned held k + 1) * sum planned) some
       (λ k below. part_lost false limit (sum planned) (get_or planned k 0) (get_or held k 0) above
-      (planned_le planned k below)) in
+      (part_le_sum planned k below)) in
       let times : limit * sum planned
       < (sum_below (length planned) (part_k limit planned held) + length planned) * sum planned =
       omega (

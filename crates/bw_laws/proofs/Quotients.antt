@@ -12,9 +12,6 @@ div-cross a b x y some_b some_y cross =
     let scaled : b * (a / b * y) ≤ b * x = omega (arith, times, cross) in
     le-div (a / b) x y some_y (le_of_mul-le-mul_left scaled some_b)
 
-pub div-rises : (a b d : ℕ) → 0 < d → a ≤ b → a / d ≤ b / d
-div-rises a b d some within = le-div (a / d) b d some (omega (arith, div-mul-le_self a d, within))
-
 -- a quotient is less than one below
 pub div-above : (a d : ℕ) → 0 < d → a < (a / d + 1) * d
 div-above a d some =

@@ -6,8 +6,9 @@ use Rattle.std.proofs.Math.Nat.{div-mul-le_self, div-add-mod', mul-le-mul_right,
 use Rattle.bw_model.specs.Host.{Shape, IsHost, capacity_of, slices_per_processor}
 use Rattle.bw_model.specs.declared.limits.TheConstants.{MAX_DEMAND}
 use Rattle.bw_questions.specs.Hunger.{slices_of_time}
+use Rattle.bw_questions.proofs.CallerLemmas.{div-mono}
 use Rattle.bw_laws.specs.Readings.{SlicesCoverTime}
-use Rattle.bw_laws.proofs.Quotients.{div-above, div-le, div-rises}
+use Rattle.bw_laws.proofs.Quotients.{div-above, div-le}
 
 -- a quotient that is rounded up
 abbrev pub up : ℕ → ℕ → ℕ
@@ -25,7 +26,7 @@ up-below x d some =
 
 pub up-rises : (x y d : ℕ) → 0 < d → x ≤ y → up x d ≤ up y d
 up-rises x y d some within =
-    div-rises (x + (d - 1)) (y + (d - 1)) d some (omega (arith, within))
+    div-mono (x + (d - 1)) (y + (d - 1)) d some (omega (arith, within))
 
 pub up-one_more : (x y d : ℕ) → 0 < d → x + d ≤ y → up x d + 1 ≤ up y d
 up-one_more x y d some within =

@@ -1,2 +1,5 @@
 -- What other crates may cite of this one's proofs, each passed on from the module that proves it.
 pub use Rattle.bw_questions.proofs.Rows.{one_each}
+pub use Rattle.bw_questions.proofs.ServedRounds.{part_le, beside_le, served_le}
+pub use Rattle.bw_questions.proofs.TimeSlices.{div-mono}
+pub use Rattle.bw_questions.proofs.Levels.{part_le_sum}

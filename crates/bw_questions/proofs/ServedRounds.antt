@@ -16,7 +16,7 @@ use Rattle.bw_questions.specs.Served.{NoneServedBelowItsGuarantee}
 use Rattle.bw_questions.proofs.RoundFloors.{floor_enough}
 
 -- No part is more than the limit.
-part_le : (calm : Bool) (limit above amount held : ℕ) → part_of calm limit above amount held ≤ limit
+pub part_le : (calm : Bool) (limit above amount held : ℕ) → part_of calm limit above amount held ≤ limit
 part_le calm limit above amount held = elim (cases_Bool (calm || above == 0)) [
   | inl whole ↦ rw whole (omega arith)
   | inr part ↦ rw part (omega arith)
@@ -40,7 +40,7 @@ none_served_above used hungry amounts limits leaf above own served below is unde
     )
 
 -- A floor beside others is no less.
-beside_le : (theirs given floor : ℕ) → floor ≤ beside theirs given floor
+pub beside_le : (theirs given floor : ℕ) → floor ≤ beside theirs given floor
 beside_le theirs given floor = elim (cases_eq theirs 0) [
   | inl none ↦ rw (eq-eqb theirs 0 none) (omega arith)
   | inr some ↦ rw (ne_eqb theirs 0 some) (le-div floor (floor * max theirs given) theirs
@@ -48,7 +48,7 @@ beside_le theirs given floor = elim (cases_eq theirs 0) [
 ]
 
 -- No amount is below the plan or the floor.
-served_le : (theirs given floor amount : ℕ)
+pub served_le : (theirs given floor amount : ℕ)
     → max floor amount ≤ served_amount theirs given floor amount
 served_le theirs given floor amount = elim (cases_lt amount floor) [
   | inl less ↦ rw (lt-ltb amount floor less) (omega (arith, less, beside_le theirs given floor))

@@ -5,7 +5,7 @@ use Rattle.std.proofs.lemmas.Nat.{le-div}
 use Rattle.bw_model.specs.Host.{Shape}
 use Rattle.bw_questions.specs.Hunger.{slices_of_time}
 
-div-mono : (a b d : ℕ) → 0 < d → a ≤ b → a / d ≤ b / d
+pub div-mono : (a b d : ℕ) → 0 < d → a ≤ b → a / d ≤ b / d
 div-mono a b d above within =
     le-div (a / d) b d above (omega (arith, div-mul-le_self a d, within))
 
