@@ -221,3 +221,16 @@ def test_a_change_of_no_host_is_refused(ctl, nodes, words, unmet):
     sets = [part for each in words for part in ("--set", each)]
     _, err = ctl.run("diff", nodes, *sets, *HOSTS, status=6 if unmet else 0)
     assert (f"--set {unmet}: no host has such a group" in err) == bool(unmet)
+
+
+def test_a_paused_container_is_proposed_nothing(ctl, folder):
+    """That it used nothing while it was paused is no history of it."""
+    (folder / "d.json").write_text(json.dumps([
+        {"Id": letter * 64, "Name": f"/{letter}", "State": {
+            "Status": "paused" if letter == "b" else "running", "Running": True,
+            "Paused": letter == "b"}, "HostConfig": {"CpuShares": 512}} for letter in "ab"]))
+    (folder / "s").write_text("CONTAINER ID   NAME   CPU %   PIDS\n" + "".join(
+        f"{letter * 12}   {letter}   {used}%   1\n" for letter, used in (("a", 50), ("b", 0))))
+    out, err = ctl.run("recommend", folder / "d.json", "--cpus", "4", "--used", folder / "s")
+    rows = [line.split()[-1] for line in out.splitlines() if re.match(" +1 +[0-9]+m ", line)]
+    assert [each[-1] for each in rows] == ["a"] and "b: it asks for nothing" in err

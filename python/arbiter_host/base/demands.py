@@ -285,6 +285,7 @@ def stop(model: Model, paths: Sequence[str], why: str) -> None:
         for each in model.groups.values():
             if f"{each.path}/".startswith(f"{path}/"):
                 each.demand = Fraction(0)
+                model.stopped.add(each.path)
     if paths:
         model.notes.append(f"{why}: {names.listed(paths)}: it asks for nothing")
 

@@ -157,6 +157,8 @@ class Model:
     # What its demands are and where its weights are from, in words.
     asked: str = ""
     weighed: str = ""
+    # The groups whose tasks are stopped: that they use nothing tells nothing.
+    stopped: set[str] = field(default_factory=set)
 
     def add(self, group: Group) -> Group:
         """Adds a group whose parent is there."""
@@ -221,7 +223,8 @@ class Model:
     def copy(self) -> Model:
         """A copy of the model, whose groups can be changed."""
         groups = {path: replace(group) for path, group in self.groups.items()}
-        return replace(self, groups=groups, notes=list(self.notes), refused=list(self.refused))
+        return replace(self, groups=groups, notes=list(self.notes), refused=list(self.refused),
+                       stopped=set(self.stopped))
 
 
 def bind(model: Model, cpus: Mapping[str, int | None]) -> None:

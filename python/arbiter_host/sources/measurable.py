@@ -148,7 +148,8 @@ class Measurable(Owned):
         model, places = self.built
         uses = {path: use_of(model.groups[path], self.known.get(place, Measured()), model.host,
                              self.seconds) for path, place in places.items()}
-        return {path: use for path, use in uses.items() if use is not None}
+        return {path: use for path, use in uses.items()
+                if use is not None and path not in model.stopped}
 
 
 def difference(own: Group, theirs: Group) -> Unlike:
