@@ -235,8 +235,7 @@ def test_nodes_that_take_no_such_pod(ctl):
             " shut: the node takes no new pods (unschedulable)")
     assert found == {"any": "plain", "equal": "keyed", "exists": "keyed", "other": none,
                      "ssd": "keyed",
-                     "hdd": "keyed: the node has no label disk=hdd; shut: the node takes no new"
-                            " pods (unschedulable); 1 more refuse it",
+                     "hdd": "keyed: the node has no label disk=hdd; 2 more refuse it",
                      "all": none}
 
 

@@ -164,13 +164,14 @@ def test_groups_of_which_nothing_was_read_have_one_note():
                            " no demand"]
 
 
-@pytest.mark.parametrize("rises, is_told", [(0, True), (1, False)])
-def test_a_copy_of_a_tree_stands_still(ctl, folder, rises, is_told):
-    for at in range(2):
+@pytest.mark.parametrize("copies, is_told", [(1, True), (2, False)])
+def test_a_copy_of_a_tree_stands_still(ctl, folder, copies, is_told):
+    """Alone it says nothing of use. Two of them say what they say."""
+    for at in range(copies):
         trees.root2(folder / f"t{at}")
-        trees.group2(folder / f"t{at}/a")
-        (folder / f"t{at}/a/cpu.stat").write_text(f"usage_usec {5000 + at * rises}\n")
-    _, err = ctl.run("explain", folder / "t0", folder / "t1", "--read", "x1s", "--cpus", "2")
+        trees.group2(folder / f"t{at}/a", usage=5000)
+    words = [folder / f"t{at}" for at in range(copies)]
+    _, err = ctl.run("explain", *words, "--read", "x1s" if copies == 2 else "2x1s", "--cpus", "2")
     assert ("no counter rose from one reading to the next: a copy of a tree stands still" in err
             ) == is_told
 

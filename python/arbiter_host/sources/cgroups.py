@@ -52,8 +52,9 @@ def read(folders: Sequence[str], host: Host, times: Times = Times(), want: str =
         model.notes.append("no groups with the cpu controller are below this folder")
     bind(model, series.first.bound)
     model.notes += [f"{path}: gone at a later reading" for path in series.gone if path != "."]
-    if not is_once and not any(each.usage > looks[0].usage for looks in series.counters.values()
-                               for each in looks if each.usage and looks[0].usage is not None):
+    rose = any(one.usage != two.usage for each in series.counters.values()
+               for one, two in zip(each, each[1:]))
+    if len(folders) == 1 and not is_once and not rose:
         model.notes.append("no counter rose from one reading to the next: a copy of a tree stands"
                            " still, and one that was made later is a second source")
     measured = {path: series.measured(path) for path in model.groups}
