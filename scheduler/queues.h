@@ -438,16 +438,18 @@ static __noinline bool goes_on(struct on_cpu *here, u32 number, u32 other)
 }
 
 /* A CPU that takes a due task in the place of one whose slice ends and that is not due: one whose
- * task was picked as no due one, of a leaf that is further ahead. Else a leaf that may use a whole
- * CPU of its share could never catch up. `MOST_CPUS` if there is none. */
+ * task was picked as no due one, of another leaf that is further ahead. Else a leaf that may use a
+ * whole CPU of its share could never catch up. `MOST_CPUS` if there is none. */
 static __noinline u32 gives_way(u32 cpu, u32 number, u32 due)
 {
-    u32 most = task_at(number)->row, tree = task_at(due)->tree, found = MOST_CPUS, each;
+    u32 most = task_at(number)->row, tree = task_at(due)->tree, row = task_at(due)->row;
+    u32 found = MOST_CPUS, each;
 
     bpf_for(each, 0, cpus_there) {
         struct on_cpu *on = on_cpu(each);
         if (each == cpu || !on->task || on->is_due || on->handed || !is_open(tree, each)
-            || on->since_ns + MOMENT_NS > time_ns || !is_settled_less(most, on->row))
+            || on->row == row || on->since_ns + MOMENT_NS > time_ns
+            || !is_settled_less(most, on->row))
             continue;
         most = on->row;
         found = each;

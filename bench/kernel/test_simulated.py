@@ -341,6 +341,19 @@ def test_random_hosts(program, seed):
         assert traced.replayed(trace) == f"allowed: {replay.text.count('pick ')} picks"
 
 
+# Leaf 1 is due and runs on CPU 0, where its slice overruns: what that costs makes it due no more.
+OVERRUN = ("a,7,0,9,0,0,2800,-1:g=1494", "w,78,0,1,3000,9000,2100,-1:g=743",
+           "w,187,10000,2,300,1000,700,m2:g=49", "f,109,60000,9,2000,1,2800,2:g=43",
+           "a,43,0,5,0,0,700,1:g=183", "a,43,10000,3,0,0,2100,-1:g=100")
+
+
+def test_no_slice_of_a_due_leaf_is_ended_for_it(program):
+    """Each pick is the rule's where a due leaf runs on the CPU that would give way to it."""
+    lines = lines_of(program, ["-o", "9000"], 134, 1.5, 3, OVERRUN)
+    found = outside.Replay("".join(line for line in lines if not line.startswith(FOUND))).found
+    assert not found[outside.WRONG] and found[outside.ALLOWED] > 300
+
+
 @pytest.mark.parametrize("name", ROWS)
 def test_rows_are_by_the_rule(program, name):
     """Each pick and wake of these hosts is the rule's, new plans amid."""
