@@ -188,19 +188,24 @@ NOWHERE = {"affinity": {"nodeAffinity": {REQUIRED: {"nodeSelectorTerms": [{"matc
     {"key": "zone", "operator": "In", "values": ["a", "b"]}]}]}}}}
 
 
+# What the node of Windows says, or that it says the same.
+OF_WINDOWS = "; windows-1: the node runs windows, for which the pod does not ask"
+ONE_MORE = "; 1 more refuse it"
 WAITING = (
     (pod("memory", cpu="1", memory="900Gi"), None,
-     "it requests 900Gi of memory, and 768Gi less the 0Mi of others are there"),
+     "it requests 900Gi of memory, and 768Gi less the 0Mi of others are there" + OF_WINDOWS),
     (pod("cards", nvidia_com__gpu="8"), None,
-     "it requests 8 of nvidia_com/gpu, and 4 less the 0 of others are there"),
+     "it requests 8 of nvidia_com/gpu, and 4 less the 0 of others are there" + OF_WINDOWS),
     (pod("none", vendor__card="1"), None,
-     "it requests 1 of vendor/card, and 0 less the 0 of others are there"),
-    (pod("nowhere", NOWHERE), None, "its node affinity does not hold: zone In a, b"),
-    (pod("gated", {"schedulingGates": [{"name": "quota"}]}), None, "it waits for its gates quota"),
+     "it requests 1 of vendor/card, and 0 less the 0 of others are there" + OF_WINDOWS),
+    (pod("nowhere", NOWHERE), None, "its node affinity does not hold: zone In a, b" + ONE_MORE),
+    (pod("gated", {"schedulingGates": [{"name": "quota"}]}), None,
+     "it waits for its gates quota" + ONE_MORE),
     (pod("linux", cpu="1"), "gpu-1", ""),
     (pod("windows", {"os": {"name": "windows"}}), "windows-1", ""),
     (pod("great", {"nodeSelector": {"kubernetes.io/os": "windows"}}, memory="70Gi"), None,
-     "the node has no label kubernetes.io/os=windows"),
+     "the node has no label kubernetes.io/os=windows; windows-1: it requests 70Gi of memory, and"
+     " 64Gi less the 0Mi of others are there"),
 )
 
 
@@ -210,7 +215,7 @@ def test_pods_that_wait(ctl):
     out, _ = ctl.run("explain", "-", "--workers", "0", "-o", "json", given=given)
     found = json.loads(out)["pending"]
     assert [(row["host"], row.get("why"), row["not_looked_at"]) for row in found] == [
-        (host, None if host else f"gpu-1: {words}; 1 more refuse it", [])
+        (host, None if host else f"gpu-1: {words}", [])
         for _, host, words in WAITING]
 
 

@@ -54,10 +54,11 @@ def test_each_question_to_many_hosts_says_what_is_asked(ctl, folder, nodes):
              "diff": ("--set", "*/c0.limit=3950m")}
     for name, more in words.items():
         out, _ = ctl.run(name, nodes, *more, *HOSTS, "-o", "text", "-o", f"json={folder / 'j'}")
-        assert "\ndemands: requests; weights: of requests (linear)\n" in out, name
+        asked = "requests before the change" if name == "diff" else "requests"
+        assert f"\ndemands: {asked}; weights: of requests (linear)\n" in out, name
         hosts = json.loads((folder / "j").read_text())["hosts"]
         assert {(each["demands"], each["weights"]) for each in hosts} == {
-            ("requests", "of requests (linear)")}
+            (asked, "of requests (linear)")}
 
 
 def test_a_request_of_many_hosts_is_no_demand(ctl, nodes):

@@ -196,7 +196,7 @@ def test_random_trees(both):
         rows = some_rows(chance)
         more = compare(both, of_tree(both[0], host, rows, chance))
         met, refused = met + more[0], refused + more[1]
-    assert met == 27 * TREES and met / 4 < refused < met * 3 / 4
+    assert met == 31 * TREES and met / 4 < refused < met * 3 / 4
 
 
 def test_no_tree(both):
@@ -223,7 +223,7 @@ def test_examples(both, path):
     told = both[0].script(host, text)
     assert len(told.names) > 1
     asked = [("script", (host, text)), *of_tree(both[0], host, told.columns, random.Random(SEED))]
-    assert compare(both, asked)[0] == 28
+    assert compare(both, asked)[0] == 32
 
 
 def test_many_groups(both):

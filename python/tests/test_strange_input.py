@@ -156,13 +156,11 @@ def test_a_server_that_answers_in_part_is_told(monkeypatch):
 
 
 def test_a_part_that_is_no_amount_is_no_part_of_a_sum():
-    """It was left out of the sum of a container's CPUs."""
+    """It was left out of the sum of a container's CPUs. Now its series is refused by name."""
     parts = [prometheus.Metric({"pod": "p", "cpu": cpu}, {1.0: word, 2.0: "0.5"})
              for cpu, word in (("cpu00", "0.25"), ("cpu01", "+Inf"))]
-    history = prometheus.history_of(parts, "u")
-    with pytest.raises(HostFault, match="'.Inf' is no number"):
-        list(history.demands("cpu", FOUR))
-    assert dict(history.samples[1].cells) == {"p": "1"}
+    with pytest.raises(HostFault, match="p used .Inf: no amount of CPU"):
+        prometheus.history_of(parts, "u")
 
 
 # Lists in lists, and amounts that nobody can mean

@@ -228,7 +228,8 @@ def test_pods_that_wait_are_placed_beside_others(ctl):
     assert rows["n/a"]["host"] in ("n1", "n2") and rows["n/b"]["host"] in ("n1", "n2")
     assert rows["other/c"]["host"] and rows["third/d"]["why"] == (
         "n1: its pod affinity does not hold: no such pod has topology.kubernetes.io/zone=east;"
-        " 2 more refuse it")
+        " n3: its pod affinity does not hold: no such pod has topology.kubernetes.io/zone=west;"
+        " 1 more refuse it")
     assert all(each["not_looked_at"] == [] for each in rows.values())
 
 
