@@ -19,7 +19,8 @@ use Rattle.bw_lend.specs.CrowdLaws.{is_still}
 use Rattle.bw_lend.specs.Turns.{Hall, Turn, Makes, Visits, IsTurn, maker, opened}
 
 -- One turn. A thread makes a turn on the table of places, or one on the lock's table, by a seat of
--- the lock. It calls the lock to make the call of a seat, and ends that call. It wakes for no reason.
+-- the lock. It calls the lock to make the call of a seat, and ends that call. It wakes for no
+-- reason.
 pub data BothTurn : Type 0 where
   OnPlaces : Turn → BothTurn
   OnLock : ℕ → LockTurn → BothTurn
@@ -93,10 +94,10 @@ module _ {M C R : Type 0} where
   MayMake b i (Marks j) = (b.call i ≡ Some j) × (b.looked i ≡ true)
   MayMake b i u = b.call i ≡ Some (lock_seat u)
 
-  -- The turn leads from one state to the other. A turn on the lock's table is one of bw_ticket's, and
-  -- one on the table of places is made by a thread that is in no call of the lock. A thread calls the
-  -- lock where its visit says that it enters, with a seat that waits with the same ticket. The call
-  -- ends when the seat is idle.
+  -- The turn leads from one state to the other. A turn on the lock's table is one of bw_ticket's,
+  -- and one on the table of places is made by a thread that is in no call of the lock. A thread
+  -- calls the lock where its visit says that it enters. It does so with a seat that waits with the
+  -- same ticket. The call ends when the seat is idle.
   abbrev pub IsBothTurn : BothTurn → Both M C R → Both M C R → Type 0
   IsBothTurn (OnPlaces t) b c = (is_on_places t ≡ true) × IsTurn t b.hall c.hall
       × (b.call (maker t) ≡ None) × (c ≡ record b { hall = c.hall })
@@ -130,7 +131,8 @@ abbrev pub is_made : Option Event → Bool
 is_made None = false
 is_made (Some e) = true
 
--- whether a turn is an event of the crowd: a call, its end, and a load that changes nothing are none
+-- whether a turn is an event of the crowd: a call, its end, and a load that changes nothing are
+-- none
 abbrev pub is_event : BothTurn → Bool
 is_event (OnPlaces t) = true
 is_event (OnLock i u) = is_made (event_of i u)

@@ -37,8 +37,8 @@ fn lesser(alloc: Global, some: &[u64], others: &[u64]) -> Result<Vec<u64>, Alloc
     Ok(least)
 }
 
-// The guarantee of each row: its amount of the plan in which each leaf asks for the most, or the most
-// that it can be given if that is less.
+// The guarantee of each row: its amount of the plan in which each leaf asks for the most, or the
+// most that it can be given if that is less.
 fn guaranteed(alloc: Global, instance: &Instance) -> Result<Vec<u64>, AllocError>
     ensures { IfOk result (λ had. AreHad Guaranteed instance.now had.items) }
 {
