@@ -14,9 +14,6 @@ use Rattle.bw_columns.specs.declared.tally.Tally.{Tally}
 use Rattle.bw_columns.specs.Tallies.{none, plus, repeated, cut_all, tally_in}
 use Rattle.bw_columns.specs.Periods.{Period, IsPeriod, AreSuccessive, tally_at, summed, sums_of}
 
-cut_front : (a x : ℕ) → cut (cut a + x) ≡ cut (a + x)
-cut_front a x = omega arith
-
 cut_full : (a x : ℕ) → 2 ^ 64 - 1 ≤ x → cut (a + x) ≡ 2 ^ 64 - 1
 cut_full a x full = omega (arith, full)
 
@@ -29,7 +26,8 @@ cut_twice a b zero = omega arith
 cut_twice a b (suc t) = elim (cases_lt b (2 ^ 64 - 1)) [
   | inl small ↦
       let e : cut b ≡ b = omega (arith, small) in
-      ap (λ (x : ℕ). cut (cut a + x * suc t)) e ∙ cut_front a (b * suc t)
+      let last : cut (cut a + b * suc t) ≡ cut (a + b * suc t) = omega arith in
+      ap (λ (x : ℕ). cut (cut a + x * suc t)) e ∙ last
   | inr large ↦
       let e : cut b ≡ 2 ^ 64 - 1 = omega (arith, large) in
       let most : 2 ^ 64 - 1 ≤ (2 ^ 64 - 1) * suc t = at_least (2 ^ 64 - 1) t in

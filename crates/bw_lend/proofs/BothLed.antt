@@ -30,6 +30,7 @@ use Rattle.bw_lend.specs.BothTables.{thread_of, is_event, MakesEvent}
 use Rattle.bw_lend.specs.BothTables.{BothLeadInRounds, BothAreEvents, BothServeDrawnTickets}
 use Rattle.bw_lend.proofs.CrowdKept.{put_here, put_else}
 use Rattle.bw_lend.proofs.CrowdRises.{drawn_tickets_are_left}
+use Rattle.bw_lend.proofs.Kept.{all_zero}
 use Rattle.bw_lend.proofs.Turned.{at_start}
 use Rattle.bw_lend.proofs.TurnsLed.{one_turn}
 use Rattle.bw_lend.proofs.BothHeld.{IsEntering, Agrees, HasWords, Joined, Turned}
@@ -212,15 +213,10 @@ makes_later : (i : ℕ) (s : Crowd) (es fs : List Event) → MakesOne i (run s e
 makes_later i s [] fs h = h
 makes_later i s (e ∷ es) fs h = inr (makes_later i (happens s e) es fs h)
 
-zeros : (n x : ℕ) → slice_index (replicate {A = ℕ} n 0) x ≡ 0
-zeros zero x = refl
-zeros (suc n) zero = refl
-zeros (suc n) (suc x) = zeros n x
-
 no_marks : (n w : ℕ) → 2 ≤ w → slice_index (0 ∷ 0 ∷ replicate {A = ℕ} n 0) w ≡ 0
 no_marks n zero le = refl
 no_marks n (suc zero) le = refl
-no_marks n (suc (suc w)) le = zeros n w
+no_marks n (suc (suc w)) le = all_zero n w
 
 module _ {M C R : Type 0} where
   -- the events of a list of turns

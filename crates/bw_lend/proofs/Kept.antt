@@ -46,7 +46,7 @@ pub may_be_home : (n : ℕ) (found : Option ℕ) (ticket : ℕ) → MayTakeBack 
 may_be_home n found ticket may = ⊎_elim (λ (back : 4 ≤ n % 8). omega arith)
     (λ (own : (n % 8 ≡ 3) × IsOwn found ticket). let three = own.0 in omega arith) may
 
-all_zero : (n k : ℕ) → slice_index (replicate {A = ℕ} n 0) k ≡ 0
+pub all_zero : (n k : ℕ) → slice_index (replicate {A = ℕ} n 0) k ≡ 0
 all_zero zero k = refl
 all_zero (suc n) zero = refl
 all_zero (suc n) (suc k) = all_zero n k
