@@ -208,7 +208,7 @@ def test_live(folder, engine, monkeypatch):
     monkeypatch.setattr(task_times, "PROC", str(folder / "proc"))
     found = looked(World(folder))
     assert [each.name for each in found] == ["0 s", "5 s", "10 s", "15 s"]
-    audit = intervals.audited(engine, found, None, set(), lambda: None)
+    audit = intervals.audited(engine, found, None, set())
     cells = audit.intervals[0].cells
     assert (cells["a"].used, cells["a"].demand, cells["a"].planned) == (200, 500, 500)
     assert (cells["b"].used, cells["b"].demand, cells["b"].planned) == (800, 2000, 500)
@@ -225,7 +225,7 @@ def test_a_group_made_again_is_another(folder, engine):
             (world.top / "a").rename(folder / "old")
             world.put(round(world.now / 5))
 
-    audit = intervals.audited(engine, looked(world, sleep=sleep), None, set(), lambda: None)
+    audit = intervals.audited(engine, looked(world, sleep=sleep), None, set())
     assert [each.holes for each in audit.intervals] == [{}, {"a": readings.CAME}, {}]
 
 
@@ -238,7 +238,7 @@ def test_a_clock_that_goes_back(folder, engine):
     found = list(readings.readings_of([str(world.top)] * 2, ONE, readings.Times(Fraction(5))))
     found[1].at = Fraction(0)
     with pytest.raises(HostFault, match="the clock went back"):
-        intervals.audited(engine, found, None, set(), lambda: None)
+        intervals.audited(engine, found, None, set())
 
 
 def test_each_group_has_its_own_time(folder, engine):
@@ -257,7 +257,7 @@ def test_each_group_has_its_own_time(folder, engine):
     calls.clear()
     found.append(tree.look())
     assert before == len(calls) == 4
-    cells = intervals.audited(engine, found, None, set(), lambda: None).intervals[0].cells
+    cells = intervals.audited(engine, found, None, set()).intervals[0].cells
     assert [found[1].counted[path][key].at for path in ".ab"
             for key in found[1].counted[path]] == [11, 12, 13] and found[1].at == 14
     assert (cells["a"].used, cells["b"].used) == (200, 800)
@@ -274,7 +274,7 @@ def test_a_look_that_takes_too_long(folder, engine):
         return world.now
 
     found = looked(world, clock, lambda _: None, 3)
-    audit = intervals.audited(engine, found, None, set(), lambda: None)
+    audit = intervals.audited(engine, found, None, set())
     assert len(found) == 3 and all(each.seconds >= 16 for each in audit.intervals)
 
 
@@ -479,7 +479,7 @@ def test_tasks_of_the_source(engine):
     model.add(Group("a", tasks=1))
     seen = [readings.TreeReading(Fraction(at), model, {"a": {"": readings.Counted(
         CounterReading(usec(0.5 * at), 0, 0, usec(0.9 * at)))}}) for at in (0, 1)]
-    cells = intervals.audited(engine, seen, None, set(), lambda: None).intervals[0].cells
+    cells = intervals.audited(engine, seen, None, set()).intervals[0].cells
     assert (cells["a"].demand, cells["a"].tasks, cells["a"].planned) == (5000, 1, 1000)
 
 
@@ -565,7 +565,7 @@ def kept_audit(engine, name):
     model = firm.host_of(found["hosts"][name])
     model = model.with_host(host_of(engine.library, model.host.processors))
     seen = [kept_look(at, model, runs) for at in range(len(runs) + 1)]
-    return intervals.audited(engine, seen, "psi", set(), lambda: None), [
+    return intervals.audited(engine, seen, "psi", set()), [
         {path: 100 * (had - share) for path, (share, had) in run["groups"].items()}
         for run in runs]
 

@@ -3,13 +3,13 @@ from __future__ import annotations
 
 import math
 from collections import Counter
-from collections.abc import Callable, Iterable, Mapping, Sequence
+from collections.abc import Iterable, Mapping, Sequence
 from dataclasses import dataclass, field, replace
 from fractions import Fraction
 
 from arbiter import Host
 from arbiter_host.audit import unknown
-from arbiter_host.base import demands, units
+from arbiter_host.base import demands, progress, units
 from arbiter_host.base.faults import HostFault
 from arbiter_host.base.model import Group, Model
 from arbiter_host.base.names import shown
@@ -204,8 +204,8 @@ def notes_of(seen: Sequence[TreeReading], intervals: Sequence[Interval]) -> list
     return notes
 
 
-def audited(engine: Engine, seen: Sequence[TreeReading], want: str | None, away: set[int],
-            tick: Callable[[], None]) -> Audit:
+def audited(engine: Engine, seen: Sequence[TreeReading], want: str | None, away: set[int]
+            ) -> Audit:
     """The plan beside what was used, from each look to the next. `away` has the places of readings
     before which nothing was measured."""
     if len(seen) < 2:
@@ -213,13 +213,13 @@ def audited(engine: Engine, seen: Sequence[TreeReading], want: str | None, away:
                         " or a shorter --step")
     intervals: list[Interval] = []
     last: Plan | None = None
-    for place, (one, two) in enumerate(zip(seen, seen[1:]), 1):
+    pairs = progress.each("intervals", zip(seen, seen[1:]), len(seen) - 1)
+    for place, (one, two) in enumerate(pairs, 1):
         if two.at <= one.at:
             raise HostFault(f"the clock went back at {two.name}: ask for a range after that")
         interval, plan_ = interval_of(engine, one, two, want, place in away)
         intervals.append(interval)
         last = plan_ or last
-        tick()
     if last is None or not any(cell.used for each in intervals for cell in each.cells.values()):
         raise HostFault("no usage: no counter of a group rises from one look to the next. Take"
                         " later copies, or a longer range")

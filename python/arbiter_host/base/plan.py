@@ -332,12 +332,8 @@ def plan(engine: Engine, model: Model) -> Plan:
 def guarantees(before: Plan, chosen: Sequence[PlannedGroup]) -> list[int]:
     """The guarantee of each of some groups, whatever those that are not under it ask for, in
     slices."""
-    owed = []
-    with progress.bar("groups", len(chosen)) as step:
-        for group in chosen:
-            owed.append(before.guaranteed(group.row))
-            step()
-    return owed
+    return [before.guaranteed(group.row)
+            for group in progress.each("groups", chosen, len(chosen))]
 
 
 def payers(before: Plan, after: Plan) -> list[tuple[str, int]]:

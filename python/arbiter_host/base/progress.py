@@ -3,7 +3,7 @@ from __future__ import annotations
 
 import sys
 import threading
-from collections.abc import Callable, Iterator
+from collections.abc import Callable, Iterable, Iterator
 from contextlib import contextmanager
 from typing import TypeVar
 
@@ -27,6 +27,14 @@ def bar(what: str, total: int) -> Iterator[Callable[[], None]]:
     with Progress(console=Console(stderr=True), transient=True) as progress:
         task = progress.add_task(what, total=total)
         yield lambda: progress.advance(task)
+
+
+def each(what: str, items: Iterable[T], total: int) -> Iterator[T]:
+    """Some items one after another, with a bar that goes on behind each."""
+    with bar(what, total) as step:
+        for item in items:
+            yield item
+            step()
 
 
 def in_thread(call: Callable[[], T], seconds: float | None = None) -> T:

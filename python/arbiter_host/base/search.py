@@ -28,9 +28,7 @@ def needed(changes: Sequence[T], meets: Callable[[Sequence[T]], bool], what: str
     kept, tried = list(changes), -1
     while len(kept) != tried:
         tried = len(kept)
-        with progress.bar(what, len(kept)) as step:
-            for each in list(kept):
-                rest = [other for other in kept if other != each]
-                kept = rest if meets(rest) else kept
-                step()
+        for each in progress.each(what, list(kept), len(kept)):
+            rest = [other for other in kept if other != each]
+            kept = rest if meets(rest) else kept
     return kept

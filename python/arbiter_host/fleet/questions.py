@@ -76,14 +76,13 @@ def asked(planners: Planners, job: Job, fleet: Fleet,
                 missing[host.name] = fault.message
 
     replies, left = pool.replies(workers, planners.dask, job, files()), pool.GONE
-    with progress.bar("hosts", len(fleet.hosts)) as tick, closing(replies):
+    with closing(replies):
         try:
-            for name, sent in replies:
+            for name, sent in progress.each("hosts", replies, len(fleet.hosts)):
                 try:
                     found[name] = HostAnswer(name, answers.answer_of(job, sent, engine))
                 except HostFault as fault:
                     missing[name] = fault.message
-                tick()
         except pool.SilentWorkers as silent:
             left = str(silent)
     for host in fleet.hosts:

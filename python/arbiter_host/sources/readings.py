@@ -286,10 +286,8 @@ def readings_of(folders: Sequence[str], host: Host, times: Times, has_threads: b
         yield from copies_of(folders, host, times.interval)
         return
     tree = Tree(folders[0], host, clock, has_threads=has_threads)
-    with progress.bar("readings", times.number or 0) as tick:
-        for _ in turns(times, clock, sleep):
-            yield tree.look()
-            tick()
+    for _ in progress.each("readings", turns(times, clock, sleep), times.number or 0):
+        yield tree.look()
 
 
 @dataclass

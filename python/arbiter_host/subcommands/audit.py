@@ -77,7 +77,6 @@ from arbiter import Library
 from arbiter_host import options
 from arbiter_host.audit import answer, intervals, ranges, unknown
 from arbiter_host.audit.answer import Ranked
-from arbiter_host.base import progress
 from arbiter_host.base.faults import HostFault, UsageFault
 from arbiter_host.base.model import Model, bind
 from arbiter_host.base.names import shown
@@ -147,8 +146,7 @@ def audited(asked: argparse.Namespace) -> Ranked:
     else:
         seen = of_trees(asked, by.library)
         notes = [note for each in seen for note in each.model.notes]
-    with progress.bar("intervals", len(seen) - 1) as tick:
-        audit = intervals.audited(by, seen, asked.want, away, tick)
+    audit = intervals.audited(by, seen, asked.want, away)
     if not asked.used and len(asked.source or [""]) == 1:
         audit.why_not = unknown.of_kernel(os.uname().release)
     audit.notes = list(dict.fromkeys([*notes, *audit.notes]))

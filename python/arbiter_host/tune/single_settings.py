@@ -94,9 +94,4 @@ def each_of(goals: Goals) -> list[SingleSetting]:
         row = before.by_path()[meant[0]].row
         finds += [partial(of_owner, goals, Raised(goals, source, {}), row, of)
                   for of in source.ranges(meant[0])]
-    found = []
-    with progress.bar("settings", len(finds)) as step:
-        for find in finds:
-            found.append(find())
-            step()
-    return found
+    return [find() for find in progress.each("settings", finds, len(finds))]
