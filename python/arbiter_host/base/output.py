@@ -97,9 +97,10 @@ def say(words: str) -> None:
             print(line, file=sys.stderr, flush=True)
 
 
-def warn(words: str) -> None:
-    """Prints a warning on standard error."""
-    say(f"warning: {words}")
+def warn(*notes: str) -> None:
+    """Prints warnings on standard error."""
+    for note in notes:
+        say(f"warning: {note}")
 
 
 class Remarks:
@@ -115,8 +116,7 @@ class Remarks:
         if len(self.told) + len(new) > MOST_TOLD:
             self.told.clear()
         self.told.update(new[:MOST_TOLD])
-        for note in new[:MOST_AT_ONCE]:
-            warn(note)
+        warn(*new[:MOST_AT_ONCE])
         if len(new) > MOST_AT_ONCE:
             warn(f"remarks that are not shown: {len(new) - MOST_AT_ONCE}")
 

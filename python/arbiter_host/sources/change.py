@@ -159,6 +159,5 @@ def changed(model: Model, words: Sequence[str]) -> Model:
 
 def warned(before: Model, after: Model) -> Model:
     """The model after a change, whose new notes are printed on standard error."""
-    for note in [each for each in after.notes if each not in before.notes]:
-        output.warn(f"--set: {note}")
+    output.warn(*(f"--set: {note}" for note in after.notes if note not in before.notes))
     return after

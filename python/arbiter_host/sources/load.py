@@ -187,5 +187,4 @@ def warn(model: Model, source: str) -> None:
     """Prints the notes and the refused lines of a model on standard error."""
     for line in model.refused:
         output.say(line)
-    for note in model.notes:
-        output.warn(f"{source}: {note}")
+    output.warn(*(f"{source}: {note}" for note in model.notes))

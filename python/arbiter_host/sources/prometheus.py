@@ -99,8 +99,8 @@ def of_range(url: str, query: str, asked: QueryRange, parsed: Callable[[Any], Pa
     try:
         answer = web.fetched(f"{url.rstrip('/')}/api/v1/query_range?{words}")
         warned = answer.get("warnings")
-        for each in warned[:MOST_WARNINGS] if isinstance(warned, list) else ():
-            output.warn(f"{shown(url)}: {shown(cut(str(each), 200))}")
+        output.warn(*(f"{shown(url)}: {shown(cut(str(each), 200))}" for each in (
+            warned[:MOST_WARNINGS] if isinstance(warned, list) else ())))
         return parsed(answer)
     except (KeyError, TypeError, ValueError, AttributeError, OverflowError) as error:
         raise HostFault(f"{shown(url)}: no answer to a range query") from error

@@ -40,8 +40,7 @@ def fleet_in(options: argparse.Namespace, files: Sequence[Opened], action: Actio
         raise UsageFault("--rank: it has no effect where no pod waits for a host")
     if uses and not fleet.is_cluster:
         raise UsageFault("--used is of the pods of a cluster: other hosts have none")
-    for note in fleet.notes:
-        warn(f"{names.shown(files[0][0])}: {note}")
+    warn(*(f"{names.shown(files[0][0])}: {note}" for note in fleet.notes))
     return fleet
 
 

@@ -5,7 +5,7 @@ import os
 from collections.abc import Iterable, Iterator, Sequence
 from contextlib import contextmanager, suppress
 
-from arbiter_host.base import names, output, safe_files
+from arbiter_host.base import names, safe_files
 from arbiter_host.base.faults import HostFault
 from arbiter_host.base.output import emit
 from arbiter_host.setting import apply, record
@@ -29,12 +29,6 @@ def printing(root: safe_files.Root) -> Iterator[list[apply.Step]]:
                 print_steps(root, done)
         raise
     print_steps(root, done)
-
-
-def warn(notes: Iterable[str]) -> None:
-    """Tells what is left alone."""
-    for words in notes:
-        output.warn(words)
 
 
 def check_no_loop(root: safe_files.Root, folders: Iterable[str]) -> None:

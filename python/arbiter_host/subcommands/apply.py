@@ -61,17 +61,17 @@ from arbiter_host.base.plan import engine_of
 from arbiter_host.records import source_options
 from arbiter_host.setting import apply
 from arbiter_host.sources import change, load
-from arbiter_host.subcommands._steps import check_no_loop, print_steps, printing, warn
+from arbiter_host.subcommands._steps import check_no_loop, print_steps, printing
 
 
 def write_form(to: Output, draft: exports.Draft) -> None:
     documents = exports.documents(to.form, draft)
-    warn(draft.told)
+    output.warn(*draft.told)
     if not documents:
         output.say("no change: nothing is written")
     for path in exports.write(to.path, documents) if documents else ():
         output.say(f"wrote {path}")
-    warn(apply.only_in_one(draft.before, draft.after, draft.moved))
+    output.warn(*apply.only_in_one(draft.before, draft.after, draft.moved))
 
 
 def run(options: argparse.Namespace) -> None:
@@ -105,7 +105,7 @@ def set_host(options: argparse.Namespace, asked: tuple[list[apply.Change], list[
     changes, left = asked
     check_no_loop(root, [each.folder for each in changes] if options.yes else [])
     steps = apply.planned_steps(changes, way)
-    warn([*left, *(apply.passing(steps) if way is apply.By.PERSISTENT else [])])
+    output.warn(*left, *(apply.passing(steps) if way is apply.By.PERSISTENT else []))
     if not options.yes or not changes:
         print_steps(root, steps)
         return

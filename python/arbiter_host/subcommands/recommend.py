@@ -116,8 +116,7 @@ def of_cluster(options: SourceOptions, fleet: Fleet, by: Engine) -> list[Model]:
         raise UsageFault("--used: a tree of cgroups is of one node: give this node's pods alone")
     sources = [each.owned for each in models if isinstance(each.owned, Measurable)]
     with_use, notes = measured(sources, used.entries(options.uses), used.name(options.uses))
-    for note in (*fleet.notes, *notes):
-        output.warn(note)
+    output.warn(*fleet.notes, *notes)
     return [each.model() for each in with_use]
 
 

@@ -29,8 +29,9 @@ from __future__ import annotations
 import argparse
 
 from arbiter_host.base import names, plain_files
+from arbiter_host.base.output import warn
 from arbiter_host.setting import apply
-from arbiter_host.subcommands._steps import check_no_loop, print_steps, printing, warn
+from arbiter_host.subcommands._steps import check_no_loop, print_steps, printing
 
 
 def run(options: argparse.Namespace) -> None:
@@ -46,4 +47,4 @@ def run(options: argparse.Namespace) -> None:
         else:
             print_steps(back.root, apply.planned_steps(back.changes, back.by))
     finally:
-        warn(back.left)
+        warn(*back.left)
