@@ -1,7 +1,7 @@
 """Faults that end a command with one line, and warnings that do not."""
 from __future__ import annotations
 
-from collections.abc import Iterator, Sequence
+from collections.abc import Iterable, Iterator, Sequence
 from contextlib import contextmanager
 
 
@@ -66,6 +66,13 @@ def naming(place: str, kind: type[HostFault] = HostFault) -> Iterator[None]:
         yield
     except HostFault as fault:
         raise kind(f"{place}: {fault.message}") from fault
+
+
+def check_none(wrong: Iterable[str], head: str = "", foot: str = "") -> None:
+    """A fault that has a line for each thing that is wrong; none where nothing is."""
+    lines = list(wrong)
+    if lines:
+        raise HostFault("\n".join(filter(None, [head, *lines, foot])))
 
 
 # Debian's packages of modules that are imported where they are needed.

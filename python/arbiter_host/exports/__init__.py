@@ -14,7 +14,7 @@ from typing import NamedTuple
 
 from arbiter import Library
 from arbiter_host.base.atomic_files import Document, own_folder, put_all
-from arbiter_host.base.faults import HostFault, UsageFault
+from arbiter_host.base.faults import HostFault, UsageFault, check_none
 from arbiter_host.base.model import Group, Model, check_settings
 from arbiter_host.base.names import shown
 from arbiter_host.base.output import emit
@@ -112,9 +112,7 @@ def of_kubelet(draft: Draft) -> list[str]:
 def documents(form: str, draft: Draft) -> list[Document]:
     """The files of a change in a form; a fault names all that the form cannot say."""
     files: list[Document] = importlib.import_module(f"{__name__}.{form}").documents(draft)
-    if draft.refused:
-        raise HostFault("\n".join([f"-o {form} cannot say this, so nothing is written:",
-                                   *draft.refused]))
+    check_none(draft.refused, f"-o {form} cannot say this, so nothing is written:")
     return files
 
 

@@ -21,7 +21,7 @@ from typing import Any, NamedTuple
 from arbiter import Columns, Host, Reading, Refused, Round, Row
 from arbiter_host.base import output, safe_files, units
 from arbiter_host.base.demands import rise
-from arbiter_host.base.faults import HostFault, NoHelp
+from arbiter_host.base.faults import HostFault, NoHelp, check_none
 from arbiter_host.base.model import (MAX_DEPTH, MAX_GROUPS, Group, Model, TooMany, bind, planned,
                                      up_to_64_cpus)
 from arbiter_host.base.names import shown
@@ -635,8 +635,7 @@ class Loop:
         except HostFault as fault:
             wrong.append(fault.message)
         self.tell(back.left)
-        if wrong:
-            raise HostFault("\n".join(wrong))
+        check_none(wrong)
 
     def take_back(self, back: Back, kept: Kept) -> None:
         """Takes the change of a group to what stood in it."""

@@ -19,7 +19,7 @@ from typing import Any
 
 from arbiter_host.base import children, units
 from arbiter_host.base.atomic_files import faults, kept_folder, place_of
-from arbiter_host.base.faults import HostFault, naming
+from arbiter_host.base.faults import HostFault, check_none, naming
 from arbiter_host.base.model import Group, Model, check_settings
 from arbiter_host.base.names import NOWHERE, raw_path, shown
 from arbiter_host.base.safe_files import Gone, Identity, Root, parts_of
@@ -212,16 +212,13 @@ def check_host(root: Root, changes_: Sequence[Change]) -> None:
         except HostFault as fault:
             wrong.append(fault.message)
     wrong = wrong or unlike(root, ((change.folder, change.before) for change in changes_))
-    if wrong:
-        raise HostFault("\n".join(["the host is not what BEFORE says, so nothing is changed:",
-                                   *wrong]))
+    check_none(wrong, "the host is not what BEFORE says, so nothing is changed:")
 
 
 def check_after(root: Root, changes_: Sequence[Change]) -> None:
     """A fault where a file does not hold what was written."""
-    wrong = unlike(root, ((change.folder, change.after) for change in changes_))
-    if wrong:
-        raise HostFault("\n".join(["read back, the host is not what was written:", *wrong]))
+    check_none(unlike(root, ((change.folder, change.after) for change in changes_)),
+               "read back, the host is not what was written:")
 
 
 def in_words(settings: Settings) -> str:
@@ -367,9 +364,7 @@ def make(root: Root, changes_: Sequence[Change], by: By, undo: str, done: list[S
     gets the steps that were made."""
     steps = planned_steps(changes_, by)
     check_host(root, changes_)
-    wrong = false_units(steps)
-    if wrong:
-        raise HostFault("\n".join([*wrong.values(), "so nothing is changed"]))
+    check_none(false_units(steps).values(), foot="so nothing is changed")
     write_synced(undo, undo_text(root, changes_, by))
     try:
         for _, fault in all_done(root, steps, done):
@@ -474,6 +469,5 @@ def undo(back: Back, done: list[Step]) -> None:
             there.append(change)
         else:
             back.left.append(f"{change.folder}: the group is gone, nothing of it is undone")
-    if wrong:
-        raise HostFault("\n".join(wrong))
+    check_none(wrong)
     check_after(back.root, [change for change in there if change.folder not in skipped])
