@@ -37,39 +37,6 @@ SECONDS = 5
 # The key of a request's environment that has the time of its reader.
 TIME = "arbiter.time"
 
-# The names of the metrics of groups, the figures that they are, parts of one, and what they say.
-GROUPS = (
-    ("arbiter_plan_gets_cpus", "plan", 1000, "CPUs that the plan gives a group."),
-    ("arbiter_plan_wants_cpus", "want", 1000, "CPUs that a group wants."),
-    ("arbiter_got_cpus", "got", 1000, "CPUs that a group used."),
-    ("arbiter_off_cpus", "off", 1000, "CPUs that a group used above what the plan gives it."),
-    ("arbiter_throttled_ratio", "throttled", 1,
-     "Part of the periods in which a group was throttled, 0 to 1."),
-    ("arbiter_starved", "is_starved", 1,
-     "1 if a group wants something and the plan gives it nothing."),
-)
-# Keys of a group in the line of a round of a loop, and what the gauge is.
-HELD = {
-    "want": "CPUs that a group asked for in the last round; +Inf for all.",
-    "plan": "CPUs that the plan of the last round gives a group.",
-    "used": "CPUs that a group used in the last round.",
-    "limit": "CPUs of the limit of a group for the next round; +Inf for none.",
-    "unserved": "CPUs of the plan that stood which a hungry group was not given.",
-}
-# Flags of a group there, and what the gauge is.
-FLAGS = {
-    "hungry": "1 if a group would have used more in the last round.",
-    "guess": "1 if it is a guess whether a group would have used more.",
-}
-# Numbers of a round, and what the gauge is.
-ROUND = {
-    "round": ("rounds", "Rounds since the loop began."),
-    "missed": ("missed_rounds", "Rounds missed before the last one."),
-    "written": ("written_groups", "Groups that were written in the last round."),
-    "held": ("held_groups", "Groups that have another limit than their own."),
-    "served": ("served_ratio", "Part of the plan of the last round that was served, 0 to 1."),
-    "at": ("round_timestamp_seconds", "When the last round was."),
-}
 # Counts of the kernel's scheduler, where a round is held by it, and what the counter is.
 SCHEDULER = {
     "picks": ("picks", "Picks of a task for a CPU since the scheduler was loaded."),
@@ -94,40 +61,66 @@ def of_pod(at: int, each: GroupFigures | Alert) -> str:
     return each.pod[at]
 
 
-def figure(key: str, parts: int, each: GroupFigures) -> Any:
-    """A figure of a group; None where it was not measured."""
-    value = getattr(each, key)
-    return None if value is None else value / parts
+def figure(name: str, words: str, key: str, parts: int = 1000) -> Column[GroupFigures]:
+    """A figure of a group, of which so many parts are one; None where it was not measured."""
+    def value(each: GroupFigures) -> Any:
+        number = getattr(each, key)
+        return None if number is None else number / parts
+
+    return metric(f"arbiter_{name}", words, value)
 
 
 PODS = [label(name, partial(of_pod, at)) for at, name in enumerate(POD_LABELS)]
 FIGURES: list[Column[GroupFigures]] = [
     label("group", lambda each: each.path), *PODS,
-    *(metric(name, words, partial(figure, key, parts)) for name, key, parts, words in GROUPS)]
+    figure("plan_gets_cpus", "CPUs that the plan gives a group.", "plan"),
+    figure("plan_wants_cpus", "CPUs that a group wants.", "want"),
+    figure("got_cpus", "CPUs that a group used.", "got"),
+    figure("off_cpus", "CPUs that a group used above what the plan gives it.", "off"),
+    figure("throttled_ratio", "Part of the periods in which a group was throttled, 0 to 1.",
+           "throttled", 1),
+    figure("starved", "1 if a group wants something and the plan gives it nothing.", "is_starved",
+           1)]
 ALERTS: list[Column[Alert]] = [
     label("alert", lambda each: each.condition), label("group", lambda each: each.group), *PODS,
     metric("arbiter_alert", "1 for each alert that holds.", lambda _: 1)]
 TIMES: list[Column[float]] = [metric(
     "arbiter_round_timestamp_seconds", "When the last round was.", lambda each: each)]
-NAMES = [*(name for name, *_ in GROUPS), ALERTS[-1].key, TIMES[0].key]
+TABLES: list[list[Column[Any]]] = [FIGURES, ALERTS, TIMES]
+NAMES = [each.key for columns in TABLES for each in columns if each.metric]
 # The line of a round of a loop, or that of one of its groups.
 Line = dict[str, Any]
 
 
+def held(name: str, words: str, key: str = "") -> Column[Line]:
+    """A value of a line, whose key is its name unless that is said."""
+    return metric(f"arbiter_hold_{name}", words, itemgetter(key or name))
+
+
 def held_columns(one: Fraction) -> list[Column[Line]]:
     """The columns of the groups of a loop, by the CPUs of a slice."""
-    def cpus(key: str, each: Line) -> Any:
-        return float("inf") if each[key] in (None, MAX_DEMAND) else each[key] * one
+    def slices(key: str, words: str) -> Column[Line]:
+        return metric(f"arbiter_hold_{key}_cpus", words, lambda each: (
+            float("inf") if each[key] in (None, MAX_DEMAND) else each[key] * one))
 
-    flags: list[Column[Line]] = [metric(f"arbiter_hold_{key}", words, itemgetter(key))
-                                 for key, words in FLAGS.items()]
-    return [label("group", itemgetter("group")),
-            *(metric(f"arbiter_hold_{key}_cpus", words, partial(cpus, key))
-              for key, words in HELD.items()), *flags]
+    return [
+        label("group", itemgetter("group")),
+        slices("want", "CPUs that a group asked for in the last round; +Inf for all."),
+        slices("plan", "CPUs that the plan of the last round gives a group."),
+        slices("used", "CPUs that a group used in the last round."),
+        slices("limit", "CPUs of the limit of a group for the next round; +Inf for none."),
+        slices("unserved", "CPUs of the plan that stood which a hungry group was not given."),
+        held("hungry", "1 if a group would have used more in the last round."),
+        held("guess", "1 if it is a guess whether a group would have used more.")]
 
 
-HELD_ROUND: list[Column[Line]] = [
-    metric(f"arbiter_hold_{name}", words, itemgetter(key)) for key, (name, words) in ROUND.items()]
+HELD_ROUND = [
+    held("rounds", "Rounds since the loop began.", "round"),
+    held("missed_rounds", "Rounds missed before the last one.", "missed"),
+    held("written_groups", "Groups that were written in the last round.", "written"),
+    held("held_groups", "Groups that have another limit than their own.", "held"),
+    held("served_ratio", "Part of the plan of the last round that was served, 0 to 1.", "served"),
+    held("round_timestamp_seconds", "When the last round was.", "at")]
 
 
 class Figured(Collector):
