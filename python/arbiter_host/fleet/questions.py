@@ -5,22 +5,23 @@ import os
 from collections.abc import Callable, Iterator, Sequence
 from contextlib import closing
 from dataclasses import replace
-from typing import NamedTuple
+from typing import Any, NamedTuple
 
 from arbiter_host.base import names, plain_files, progress
 from arbiter_host.base.faults import HostFault, NothingFound, UsageFault
 from arbiter_host.base.output import Remarks, warn
 from arbiter_host.base.plan import engine_of
-from arbiter_host.fleet import answers, near, pool, report
+from arbiter_host.fleet import answers, pool, report
 from arbiter_host.fleet.answers import HostAnswer
 from arbiter_host.fleet.hosts import Fleet, Pending
 from arbiter_host.fleet.report import Report, Waiting
 from arbiter_host.fleet.work import Action, HostFile, Job
 from arbiter_host.sources import change, used
-from arbiter_host.sources.kubernetes import replicas_in
+from arbiter_host.sources.kubernetes import only_pod, replicas_in
 from arbiter_host.sources.samples import History
 from arbiter_host.sources.selection import Selection, labels_of
 from arbiter_host.sources.source_options import UseOptions
+from arbiter_host.sources.topology import Neighbour, Neighbours, neighbour_of
 from arbiter_host.sources.usage import some
 
 Samples = Callable[[HostFile], History]
@@ -106,9 +107,10 @@ def reported(name: str, planners: Planners, job: Job, fleet: Fleet, rule: str,
     if unmet:
         raise NothingFound(f"--set {names.shown(unmet[0])}: no host has such a group")
     is_placed = job.action is Action.PODS or asks and bool(fleet.pending)
-    among, placing = near.neighbours_in(fleet) if is_placed else None, hosts
+    among = fleet.neighbours() if is_placed and fleet.neighbours else Neighbours({}, [])
+    placing = hosts
     if job.action is Action.PODS:
-        hosts = near.judged(hosts, among, [near.pod_in(*each) for each in job.pods])
+        hosts = judged(hosts, among, [pod_in(*each) for each in job.pods])
     told = report.built(job.action, name, hosts, missing, rule, words)
     title, waiting = "pods that no node has yet", list[Waiting]()
     if asks and is_placed:
@@ -117,7 +119,7 @@ def reported(name: str, planners: Planners, job: Job, fleet: Fleet, rule: str,
         placing, _ = asked(planners, replace(job, action=Action.PODS, pods=pods), fleet)
         places = {shape: place for place, shape in enumerate(shapes)}
         waiting = [Waiting(each.title, places[each.shape], each.shape.asks,
-                           is_chosen(job.selection, each), near.pod_in(each.title, each.data))
+                           is_chosen(job.selection, each), pod_in(each.title, each.data))
                    for each in fleet.pending]
     elif job.action is Action.PODS and hosts:
         title = "pods, one after another"
@@ -125,6 +127,30 @@ def reported(name: str, planners: Planners, job: Job, fleet: Fleet, rule: str,
     if any(each.is_chosen for each in waiting) if asks else len(waiting) > 1:
         told = report.with_placed(told, title, waiting, placing, rule, among)
     return told, lambda: check_answered(fleet, hosts, missing, told)
+
+
+def pod_in(name: str, data: bytes) -> Neighbour | None:
+    """The one pod of a file; None for a file of several, or of another kind."""
+    pod = only_pod(name, data)
+    return None if pod is None else neighbour_of(pod)
+
+
+def judged(hosts: Sequence[HostAnswer], among: Neighbours,
+           pods: Sequence[Neighbour | None]) -> list[HostAnswer]:
+    """The answers of hosts to how they take some pods, where those of all hosts are looked at."""
+    whys = [among.refusals(pod) for pod in pods]
+
+    def answer(host: HostAnswer, place: int) -> dict[str, Any]:
+        told: dict[str, Any] = host.answer["pods"][place]
+        why = whys[place].get(host.name, "")
+        if why and "why" not in told:
+            told = {"pod": told["pod"], "requests": told["requests"], "why": why,
+                    "not_looked_at": told["not_looked_at"]}
+        return {**told, "not_looked_at": among.not_looked_at(pods[place], told["not_looked_at"])}
+
+    return [replace(host, answer={**host.answer, "pods": [answer(host, at)
+                                                         for at in range(len(pods))]})
+            for host in hosts]
 
 
 def is_chosen(by: Selection, pod: Pending) -> bool:
@@ -138,7 +164,7 @@ def replicas(job: Job, host: HostAnswer) -> Iterator[Waiting]:
     """The pods of a question: of each file as many as its object makes."""
     for place, (name, data) in enumerate(job.pods):
         count, requests = replicas_in(name, data), host.answer["pods"][place]["requests"]
-        pod = near.pod_in(name, data)
+        pod = pod_in(name, data)
         for at in range(1, count + 1):
             yield Waiting(name if count == 1 else f"{name} {at} of {count}", place, requests,
                           pod=pod)

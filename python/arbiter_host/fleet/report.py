@@ -12,7 +12,6 @@ from arbiter_host.answers.series import COUNTS
 from arbiter_host.base.html import bar, rendered
 from arbiter_host.base.names import few, short, shown
 from arbiter_host.base.tables import Column, Table, TableAnswer, plain
-from arbiter_host.fleet import near
 from arbiter_host.fleet.answers import HostAnswer
 from arbiter_host.fleet.work import Action
 from arbiter_host.sources.kubernetes import resource_text
@@ -403,7 +402,7 @@ PENDING: list[Column[Row]] = [
 
 
 def placed(waiting: Sequence[Waiting], hosts: Sequence[HostAnswer], rule: str,
-           among: Neighbours | None) -> list[dict[str, Any]]:
+           among: Neighbours) -> list[dict[str, Any]]:
     """Each pod in order goes to the best host that has room for its requests and takes it beside
     the pods of all hosts, or why it does not.
 
@@ -412,7 +411,7 @@ def placed(waiting: Sequence[Waiting], hosts: Sequence[HostAnswer], rule: str,
     """
     room, rows = {host.name: dict(host.answer["room"]) for host in hosts}, []
     for pod in waiting:
-        whys = near.refusals(among, pod.pod)
+        whys = among.refusals(pod.pod)
         order = [host for host in ranked(hosts, pod.place, rule) if host.name not in whys]
         best = next((host for host in order if all(
             amount <= max(room[host.name].get(name, amount), 0)
@@ -420,13 +419,13 @@ def placed(waiting: Sequence[Waiting], hosts: Sequence[HostAnswer], rule: str,
         told = (best or hosts[0]).answer["pods"][pod.place] if hosts else {"not_looked_at": []}
         row: dict[str, Any] = {
             "pod": pod.name, "request_millicpu": pod.requests.get("cpu", 0),
-            "requests": dict(pod.requests), "not_looked_at": near.looked_at(among, pod.pod, told),
+            "requests": dict(pod.requests),
+            "not_looked_at": among.not_looked_at(pod.pod, told["not_looked_at"]),
             "host": best.name if best else None}
         if best is None:
             row["why"] = refusal(pod.place, hosts, order, whys)
         else:
-            if among is not None and pod.pod is not None:
-                among.put(pod.pod, best.name)
+            among.put(pod.pod, best.name)
             left = room[best.name]
             left |= {name: left[name] - amount for name, amount in pod.requests.items()
                      if name in left}
@@ -449,7 +448,7 @@ def refusal(place: int, hosts: Sequence[HostAnswer], order: Sequence[HostAnswer]
 
 
 def with_placed(to: Report, title: str, waiting: Sequence[Waiting], hosts: Sequence[HostAnswer],
-                rule: str, among: Neighbours | None) -> Report:
+                rule: str, among: Neighbours) -> Report:
     """A report with where some pods go, one after another, of those that are chosen."""
     of_all = zip(waiting, placed(waiting, hosts, rule, among))
     pods = [each for of, each in of_all if of.is_chosen]

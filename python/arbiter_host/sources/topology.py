@@ -5,7 +5,7 @@ from __future__ import annotations
 
 import functools
 from collections import Counter
-from collections.abc import Callable, Iterable, Iterator, Mapping, Sequence
+from collections.abc import Callable, Iterator, Mapping, Sequence
 from dataclasses import dataclass
 from typing import Any, NamedTuple
 
@@ -127,7 +127,8 @@ def neighbour_of(pod: dict[str, Any]) -> Neighbour:
 
 @dataclass
 class Neighbours:
-    """All nodes of a cluster by their names, and the pods of each."""
+    """All nodes of a cluster by their names, and the pods of each; other hosts have none. A pod is
+    None where it is none of Kubernetes."""
 
     nodes: Mapping[str, NodeFacts]
     pods: list[tuple[str, Neighbour]]
@@ -136,19 +137,23 @@ class Neighbours:
     def labels(self) -> dict[str, Labels]:
         return {name: dict(node.labels) for name, node in self.nodes.items()}
 
-    def put(self, pod: Neighbour, node: str) -> None:
+    def put(self, pod: Neighbour | None, node: str) -> None:
         """A pod goes to a node."""
-        self.pods.append((node, pod))
+        self.pods += [(node, pod)] if pod and node in self.nodes else []
 
-    def refusals(self, pod: Neighbour) -> dict[str, str]:
+    def refusals(self, pod: Neighbour | None) -> dict[str, str]:
         """The nodes that take no such pod beside these, each with its reason."""
+        if pod is None:
+            return {}
         rules = [self.apart(pod), *([self.near(pod)] if pod.near else []), *self.even(pod)]
         found = {name: next(filter(None, (rule(labels) for rule in rules)), "")
                  for name, labels in self.labels.items()}
         return {name: why for name, why in found.items() if why}
 
-    def not_looked_at(self, pod: Neighbour, of_node: Iterable[str]) -> list[str]:
-        """The conditions that are not looked at, of those that a node alone cannot judge."""
+    def not_looked_at(self, pod: Neighbour | None, of_node: Sequence[str]) -> list[str]:
+        """The conditions that are not looked at, of which a node alone told some."""
+        if pod is None or not self.nodes:
+            return list(of_node)
         others = any(ANTI_AFFINITY in each.unjudged for _, each in self.pods)
         return [*(each for each in of_node if each not in (*BETWEEN, OF_OTHERS)),
                 *(each for each in BETWEEN if each in pod.unjudged), *([OF_OTHERS] * others)]
