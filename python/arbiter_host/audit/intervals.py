@@ -3,7 +3,7 @@ from __future__ import annotations
 
 import math
 from collections import Counter
-from collections.abc import Iterable, Mapping, Sequence
+from collections.abc import Iterable, Iterator, Mapping, Sequence
 from dataclasses import dataclass, field, replace
 from fractions import Fraction
 
@@ -175,33 +175,31 @@ def interval_of(engine: Engine, one: TreeReading, two: TreeReading, want: str | 
                     unplanned_of(one, two, cells)), plan_
 
 
-def told_holes(intervals: Sequence[Interval]) -> list[str]:
+def told_holes(intervals: Sequence[Interval]) -> Iterator[str]:
     """Tells of holes: why, and of which groups."""
     reasons: dict[str, Counter[str]] = {}
     for path, why in (hole for each in intervals for hole in each.holes.items()):
         reasons.setdefault(why, Counter())[path] += 1
-    return [f"{why}, left out there: "
-            + some([f"{shown(path)} ({count})" for path, count in counts.items()])
-            for why, counts in reasons.items()]
+    for why, counts in reasons.items():
+        groups = [f"{shown(path)} ({count})" for path, count in counts.items()]
+        yield f"{why}, left out there: {some(groups)}"
 
 
-def notes_of(seen: Sequence[TreeReading], intervals: Sequence[Interval]) -> list[str]:
+def notes_of(seen: Sequence[TreeReading], intervals: Sequence[Interval]) -> Iterator[str]:
     """Tells of all readings and intervals."""
-    notes = told_holes(intervals)
+    yield from told_holes(intervals)
     if all(each.reading.pressure is None for look in seen for of_path in look.counted.values()
            for each in of_path.values()):
-        notes.append("pressure is not measured: a group that waited is taken to have had what it"
-                     " wanted")
+        yield ("pressure is not measured: a group that waited is taken to have had what it"
+               " wanted")
     waited = {path: None for interval in intervals for path, cell in interval.cells.items()
               if cell.may_be_hungry}
     if waited:
-        notes.append("groups that waited, and may have wanted more than they used (--want psi),"
-                     f" {some([shown(path) for path in waited])}")
+        yield ("groups that waited, and may have wanted more than they used (--want psi),"
+               f" {some([shown(path) for path in waited])}")
     changed = sum(one.model is not two.model for one, two in zip(seen, seen[1:]))
     if changed:
-        notes.append(f"groups or settings changed in intervals: {changed}; those of their ends are"
-                     " taken")
-    return notes
+        yield f"groups or settings changed in intervals: {changed}; those of their ends are taken"
 
 
 def audited(engine: Engine, seen: Sequence[TreeReading], want: str | None, away: set[int]
@@ -223,4 +221,4 @@ def audited(engine: Engine, seen: Sequence[TreeReading], want: str | None, away:
     if last is None or not any(cell.used for each in intervals for cell in each.cells.values()):
         raise HostFault("no usage: no counter of a group rises from one look to the next. Take"
                         " later copies, or a longer range")
-    return Audit(intervals, last, notes_of(seen, intervals), want=want)
+    return Audit(intervals, last, list(notes_of(seen, intervals)), want=want)

@@ -188,16 +188,14 @@ def standing(root: Root, folder: str) -> Settings | None:
         return None
 
 
-def unlike(root: Root, wanted: Iterable[tuple[str, Settings]]) -> list[str]:
+def unlike(root: Root, wanted: Iterable[tuple[str, Settings]]) -> Iterator[str]:
     """The groups that do not hold these settings, in words."""
-    words = []
     for folder, settings in wanted:
         now = standing(root, folder)
         if now is None:
-            words.append(f"{shown(folder)}: is gone")
+            yield f"{shown(folder)}: is gone"
         elif now != settings:
-            words.append(f"{shown(folder)}: holds {in_words(now)}, not {in_words(settings)}")
-    return words
+            yield f"{shown(folder)}: holds {in_words(now)}, not {in_words(settings)}"
 
 
 def check_host(root: Root, changes_: Sequence[Change]) -> None:
@@ -211,8 +209,8 @@ def check_host(root: Root, changes_: Sequence[Change]) -> None:
             wrong.append(f"{shown(change.folder)}: is gone")
         except HostFault as fault:
             wrong.append(fault.message)
-    wrong = wrong or unlike(root, ((change.folder, change.before) for change in changes_))
-    check_none(wrong, "the host is not what BEFORE says, so nothing is changed:")
+    check_none(wrong or unlike(root, ((each.folder, each.before) for each in changes_)),
+               "the host is not what BEFORE says, so nothing is changed:")
 
 
 def check_after(root: Root, changes_: Sequence[Change]) -> None:

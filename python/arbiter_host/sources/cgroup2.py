@@ -4,6 +4,7 @@ from __future__ import annotations
 import os
 import re
 import stat
+from collections.abc import Iterator
 
 from arbiter_host.base import units
 from arbiter_host.base.demands import CounterReading
@@ -17,6 +18,8 @@ COUNTERS = re.compile(rf"^({'|'.join(KEYS)}) ([0-9]{{1,30}})$", re.M)
 # The same as the kernel writes them for a group with the controller, which is found at once.
 AS_WRITTEN = re.compile(r"usage_usec ([0-9]{1,30})\n(?:.*\n)*?nr_periods ([0-9]{1,30})\n"
                         r"nr_throttled ([0-9]{1,30})$", re.M)
+# What cpu.stat of every group has, with or without the controller.
+USED = re.compile(r"^\s*usage_usec\s+[0-9]{1,30}\s*$", re.M)
 WAITED = re.compile(r"^some .*\btotal=([0-9]{1,20})", re.M)
 # The file that a group has if the controller is enabled for it.
 MARK = "cpu.weight"
@@ -39,13 +42,6 @@ def file_text(folder: str | int, name: str) -> str | None:
 def number_in(text: str | None) -> int | None:
     """The whole number of a text, if it is one of at most 30 digits."""
     return units.whole((text or "").strip(), 30)
-
-
-def keyed(text: str | None) -> dict[str, int]:
-    """The numbers of a text with a key and a number in each line."""
-    pairs = (line.split() for line in (text or "").split("\n"))
-    return {words[0]: number for words in pairs
-            if len(words) == 2 and (number := number_in(words[1])) is not None}
 
 
 def counters(stat_text: str | None, pressure_text: str | None) -> CounterReading:
@@ -121,23 +117,20 @@ def has_cpu(folder: str) -> bool:
     return enabled is None or "cpu" in enabled.split()
 
 
-def top_notes(folder: str) -> list[str]:
+def top_notes(folder: str) -> Iterator[str]:
     """Notes of a controller that is not enabled, and of the top's own limit."""
-    notes = []
     if not has_cpu(folder):
-        notes.append(f"{shown(folder)}: the cpu controller is not enabled here"
-                     " (cgroup.subtree_control)")
+        yield f"{shown(folder)}: the cpu controller is not enabled here (cgroup.subtree_control)"
     limit = file_text(folder, "cpu.max")
     if limit is not None and not limit.startswith("max"):
-        notes.append(f"cpu.max of {shown(folder)} itself is {shown(limit.strip())}: the root"
-                     " has no limit but the CPUs")
-    return notes
+        yield (f"cpu.max of {shown(folder)} itself is {shown(limit.strip())}: the root has no"
+               " limit but the CPUs")
 
 
 def is_tree(folder: str) -> bool:
     """Whether a folder is the top of a tree of cgroup v2."""
-    stat_ = keyed(file_text(folder, "cpu.stat"))
-    return "usage_usec" in stat_ or file_text(folder, "cgroup.controllers") is not None
+    return (USED.search(file_text(folder, "cpu.stat") or "") is not None
+            or file_text(folder, "cgroup.controllers") is not None)
 
 
 def check_folder(folder: str) -> None:

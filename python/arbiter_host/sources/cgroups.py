@@ -1,7 +1,7 @@
 """A tree of cgroup v2, as the kernel shows it, or copies of its files that were made in turn."""
 from __future__ import annotations
 
-from collections.abc import Sequence
+from collections.abc import Iterator, Sequence
 from fractions import Fraction
 
 from arbiter import Host, Library
@@ -12,9 +12,9 @@ from arbiter_host.sources.readings import OverTime
 from arbiter_host.sources.times import Times
 
 
-def own_notes(model: Model, series: OverTime) -> list[str]:
+def own_notes(model: Model, series: OverTime) -> Iterator[str]:
     """Notes of what the tasks of inner groups used, from half a slice on."""
-    notes, host = [], model.host
+    host = model.host
     for path, below in model.children().items():
         if not below:
             continue
@@ -22,21 +22,17 @@ def own_notes(model: Model, series: OverTime) -> list[str]:
                          for each in (path, *below))
         use = max(whole - sum(parts, Fraction(0)), Fraction(0))
         if 2 * use * host.period_us >= 1000 * host.slice_us:
-            notes.append(f"{path}: its own tasks used {units.decimal(use, 0)}m of a CPU, which is"
-                         " left out")
-    return notes
+            yield f"{path}: its own tasks used {units.decimal(use, 0)}m of a CPU, which is left out"
 
 
-def slice_notes(model: Model) -> list[str]:
+def slice_notes(model: Model) -> Iterator[str]:
     """Notes of quotas and bursts that are no whole number of slices, and are rounded down."""
-    notes, host = [], model.host
+    host = model.host
     for path, group in model.groups.items():
         for name, usec in (("quota", group.quota), ("burst", group.burst)):
             exact = Fraction((usec or 0) * host.period_us, group.period * host.slice_us)
             if exact.denominator != 1:
-                notes.append(f"{path}: its {name} is {units.decimal(exact)} slices: {int(exact)}"
-                             " are kept")
-    return notes
+                yield f"{path}: its {name} is {units.decimal(exact)} slices: {int(exact)} are kept"
 
 
 def read(folders: Sequence[str], host: Host, times: Times = Times(), want: str = "usage",

@@ -154,7 +154,7 @@ class Tree:
     def look(self) -> TreeReading:
         """A look at all groups. That at a copy is of second 0."""
         cgroup2.check_folder(self.top)
-        look = TreeReading(Fraction(0), Model(self.host, notes=cgroup2.top_notes(self.top),
+        look = TreeReading(Fraction(0), Model(self.host, notes=[*cgroup2.top_notes(self.top)],
                                               weighed="cpu.weight"))
         top = Group(".", place=self.top)
         self.count(look, top, cgroup2.reading(self.top))
