@@ -135,10 +135,8 @@ def limits(numbers: array[int]) -> list[int | None]:
 
 def given(*columns: array[int]) -> list[Any]:
     """Each column as C takes it: its memory, which stays while it is held, and its length."""
-    found: list[Any] = []
-    for each in columns:
-        found += [(c.TYPES[each.typecode] * len(each)).from_buffer(each), len(each)]
-    return found
+    return [word for each in columns
+            for word in ((c.TYPES[each.typecode] * len(each)).from_buffer(each), len(each))]
 
 
 def number_or_none(number: int | None, none: int, what: str) -> int:
@@ -242,11 +240,6 @@ class Certificate(NamedTuple):
     nums: array[int]
     dens: array[int]
     places: array[int]
-
-    @classmethod
-    def zeros(cls, count: int) -> Certificate:
-        """Columns of so many entries, to be written."""
-        return cls(zeros(U8, count), zeros(U64, count), zeros(U64, count), zeros(U32, count))
 
     @classmethod
     def of(cls, flags: Sequence[bool], levels: Sequence[tuple[int, int, int] | None]

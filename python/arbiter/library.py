@@ -106,16 +106,17 @@ class Library:
         """The numbers of a host as C takes them."""
         return host.processors, host.period_us, host.slice_us
 
-    def call(self, name: str, count: int, *read: Any) -> tuple[int, list[Any]]:
+    def call(self, name: str, count: int, *read: Any, **counts: int) -> tuple[int, list[Any]]:
         """One call: what it answers, and what it writes, in its order: columns of so many entries,
         and numbers. A number that it leaves is the greatest. `read` has the words that it reads,
-        also the columns that it changes."""
+        also the columns that it changes. `counts` has the entries of columns that have others."""
         words: list[Any] = []
         written: list[Any] = []
         left = iter(read)
         for word in c.WORDS[name]:
             if word.is_column:
-                numbers = next(left) if word.is_read else zeros(word.kind, count)
+                numbers = (next(left) if word.is_read
+                           else zeros(word.kind, counts.get(word.name, count)))
                 if not isinstance(numbers, array):
                     numbers = column(word.kind, numbers, word.name)
                 words += given(numbers)
@@ -321,21 +322,16 @@ class Library:
         `text` may be any bytes. Comments change nothing.
         """
         lines = text.count(b"\n") + 1
-        groups = min(lines + 1, MOST_GROUPS)
-        tree = [zeros(kind, groups) for kind in (U32, U64, U64, U64)]
-        settings = [zeros(U64, groups) for _ in range(4)]
-        names, at, faults = zeros(U8, len(text) + 1), zeros(U64, lines), zeros(U32, lines)
-        count, length, refused = c.U32(), c.U64(), c.U64()
-        number = self.calls.arbiter_script(
-            *self.host(host), int.from_bytes(os.urandom(8), "big"),
-            *given(array(U8, text), *tree, *settings, names, at, faults),
-            *map(ctypes.byref, (count, length, refused)))
+        number, (*groups, names, at, faults, count, length, refused) = self.call(
+            "script", min(lines + 1, MOST_GROUPS), *self.host(host),
+            int.from_bytes(os.urandom(8), "big"), array(U8, text), names=len(text) + 1,
+            refused_lines=lines, refused_faults=lines)
         if number:
             raise self.refused(number)
-        told = names[:length.value].tobytes().decode().split("\n")[:-1]
-        quotas, periods, bursts, carries = (each[:count.value] for each in settings)
-        return Script(Columns(*(each[:count.value] for each in tree)), told, quotas, periods,
-                      bursts, carries, list(zip(at[:refused.value], faults[:refused.value])))
+        *tree, quotas, periods, bursts, carries = (each[:count] for each in groups)
+        told = names[:length].tobytes().decode().split("\n")[:-1]
+        return Script(Columns(*tree), told, quotas, periods, bursts, carries,
+                      list(zip(at[:refused], faults[:refused])))
 
     def slices(self, host: Host, usec: int, own_period_us: int = 100000) -> int:
         """The whole slices of one period that a quota or burst allows, rounded down.

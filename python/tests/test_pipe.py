@@ -83,7 +83,8 @@ def some_rows(chance):
 def certified(library, host, rows):
     """The plan with its certificate; zeros where it is refused."""
     found_ = answer(library, "certify", (host, rows))
-    return ([0] * len(rows), arbiter.Certificate.zeros(len(rows))) if len(found_) == 4 else found_
+    nothing = arbiter.Certificate.of([False] * len(rows), [None] * len(rows))
+    return ([0] * len(rows), nothing) if len(found_) == 4 else found_
 
 
 def of_periods(host, rows, chance):
