@@ -39,7 +39,9 @@ def parser_of(each: Subcommand) -> Parser:
     parser = Parser(prog=f"arbiterctl {each.name}", formatter_class=helps.Formatter,
                     description="\n\n".join([each.description, *each.details]),
                     epilog=helps.examples(each.examples) + helps.statuses())
-    each.add_words(parser)
+    argument = {**each.argument}
+    parser.add_argument(argument.pop("name"), **argument)
+    table.add(parser, each.name)
     return parser
 
 

@@ -375,10 +375,6 @@ def own(key: str, value: Callable[[Group], Any], none: Any = None) -> Column[Pla
     return fact(key, lambda each: none if each.group is None else value(each.group))
 
 
-def gets_of_wants(group: PlannedGroup) -> str:
-    return text.bar(group.gets, group.want, BAR)
-
-
 def columns(plan: Plan, view: View, outlook: Outlook | None = None) -> list[Column[PlannedGroup]]:
     """The columns of groups. Slices are in the unit for people, and in all units as data."""
     reason, host = plan.reason, plan.model.host
@@ -406,7 +402,8 @@ def columns(plan: Plan, view: View, outlook: Outlook | None = None) -> list[Colu
         own("scaled", lambda each: each.is_scaled, False),
         Column("request", request, forms=PAGES, is_optional=True),
         *starmap(amount, view.amounts.items()),
-        *([Column(BAR_HEAD, gets_of_wants, True, forms=TEXT)] if view.width >= WIDE else []),
+        *([Column[PlannedGroup](BAR_HEAD, lambda each: text.bar(each.gets, each.want, BAR), True,
+                                forms=TEXT)] if view.width >= WIDE else []),
         Column("reason", lambda each: reason(each).name, True, "reason", forms=FILES),
         Column("why", lambda each: why(plan, each, True), True, forms=FILES),
         fact("words", lambda each: reason(each).words),

@@ -391,9 +391,8 @@ def time_labels(series: Series, y: float) -> Iterator[str]:
     each = max(-(-count // max(int(WIDE // widest), 1)), 1)
     for place in range(0, count, each):
         x = LEFT + WIDE * (place + 0.5) / count
-        half = svg.wide(shown(series.names[place]), 10) / 2
-        x = min(max(x, EDGE + half), LEFT + WIDE + EDGE - half)
-        yield svg.words((x, y), series.names[place], svg.FAINT, 10, "middle")
+        yield svg.words_within((x, y), series.names[place], (EDGE, LEFT + WIDE + EDGE), svg.FAINT,
+                               10)
 
 
 def picture(series: Series) -> str:

@@ -193,14 +193,6 @@ def lines_of(row: AuditRow) -> list[tuple[str, str, list[float | None]]]:
             for key, colour, dash in (("planned", PLANNED, "5 3"), ("used", USED, ""))]
 
 
-def begin_label(name: str, x: float) -> str:
-    """The name of an interval below its begin, and within the picture."""
-    name = cut(name, 24)
-    half = svg.wide(shown(name), 12) / 2
-    return svg.words((min(max(x, LEFT + half), WIDTH - RIGHT - half), HEIGHT - 6), name, FAINT, 12,
-                     "middle")
-
-
 def picture(row: AuditRow, intervals: Sequence[Interval], most: float) -> str:
     """Plan and use of a group over time, in CPUs: stairs, with a gap where nothing was measured."""
     most = max(most, 0.001)
@@ -216,7 +208,8 @@ def picture(row: AuditRow, intervals: Sequence[Interval], most: float) -> str:
             yield svg.line((LEFT, y), (WIDTH - RIGHT, y), LINE)
             yield svg.words((LEFT - 6, y + 4), f"{value:g}", FAINT, 12, "end")
         for at in sorted({0, len(intervals) - 1}):
-            yield begin_label(intervals[at].name, LEFT + step * at)
+            yield svg.words_within((LEFT + step * at, HEIGHT - 6), cut(intervals[at].name, 24),
+                                   (LEFT, WIDTH - RIGHT), FAINT, 12)
         for colour, dash, values in lines_of(row):
             for points in gapped(values, lambda at: LEFT + step * at, height):
                 yield svg.shape(points, colour, 1.5, "none", dash)

@@ -36,21 +36,16 @@ class Answer(NamedTuple):
     figures: Figures
 
 
-def fault_of(what: str, error: Refused | OverflowError) -> HostFault:
-    """A refusal, or a number that a call cannot hold, as a fault."""
-    if isinstance(error, OverflowError):
-        return HostFault(f"{what}: {error}")
-    row = "" if error.row is None else f" (row {error.row})"
-    return HostFault(f"{what}: error {error.number} {error.name}{row}")
-
-
 @contextmanager
 def asking(what: str) -> Iterator[None]:
     """Makes a fault of a refusal, and of a number that a call cannot hold."""
     try:
         yield
-    except (Refused, OverflowError) as error:
-        raise fault_of(what, error) from error
+    except OverflowError as error:
+        raise HostFault(f"{what}: {error}") from error
+    except Refused as error:
+        row = "" if error.row is None else f" (row {error.row})"
+        raise HostFault(f"{what}: error {error.number} {error.name}{row}") from error
 
 
 class Engine:

@@ -64,16 +64,12 @@ def identity_of(place: int | str) -> Identity:
 
 
 def identities(top: str) -> Iterator[Identity]:
-    """The identities of a folder and of those below it on its file system."""
-    device, inode = identity_of(top)
-    yield device, inode
-    below = [top]
-    while below:
-        with suppress(OSError), os.scandir(below.pop()) as entries:
-            for each in entries:
-                if each.is_dir(follow_symlinks=False):
-                    below.append(each.path)
-                    yield device, each.inode()
+    """The identities of a folder and of those below it that are not gone meanwhile."""
+    yield identity_of(top)
+    for above, folders, _ in os.walk(top):
+        for name in folders:
+            with suppress(OSError):
+                yield identity_of(os.path.join(above, name))
 
 
 def plain(above: int, file: str, flags: int = os.O_RDONLY) -> int:

@@ -58,6 +58,13 @@ def words(place: Point, text: str, colour: str = INK, size: float = 12, anchor: 
             f"{escaped(text)}{whole}</text>")
 
 
+def words_within(place: Point, text: str, edges: Point, colour: str, size: float) -> str:
+    """A text whose middle is at a place, or as near as it stands between two edges."""
+    half = wide(shown(text), size) / 2
+    x = min(max(place[0], edges[0] + half), edges[1] - half)
+    return words((x, place[1]), text, colour, size, "middle")
+
+
 def wide(text: str, size: float = 12) -> float:
     """Pixels that a text takes, about. Wide letters count twice."""
     return width(text) * LETTER * size / 12

@@ -18,14 +18,14 @@ from collections.abc import Callable, Iterable, Mapping
 from dataclasses import dataclass
 from typing import Any, NamedTuple
 
-from arbiter import Columns, Host, Reading, Refused, Round, Row
+from arbiter import Columns, Host, Reading, Round, Row
 from arbiter_host.base import output, safe_files, units
 from arbiter_host.base.demands import rise
 from arbiter_host.base.faults import HostFault, NoHelp, check_none
 from arbiter_host.base.model import (MAX_DEPTH, MAX_GROUPS, Group, Model, TooMany, bind, planned,
                                      up_to_64_cpus)
 from arbiter_host.base.names import shown
-from arbiter_host.base.plan import Engine, asking, fault_of
+from arbiter_host.base.plan import Engine, asking
 from arbiter_host.base.safe_files import Gone, Identity, Root
 from arbiter_host.hold.harm import Harm, LetGo, Sums, served
 from arbiter_host.setting import apply
@@ -481,12 +481,10 @@ class Loop:
         if rose.usage is None or passed <= 0:
             raise HostFault(f"{shown(kept.folder)}: its reading is older than the last: nothing is"
                             " written")
-        try:
+        with asking(shown(kept.folder)):
             return readings.reading_of(
                 self.engine.library, self.small, rose, passed, before.threads,
                 kept.counted.threads, (limit.quota, limit.period, limit.burst))
-        except (Refused, OverflowError) as error:
-            raise fault_of(shown(kept.folder), error) from error
 
     def rows(self, model: Model) -> list[Row]:
         """The rows of the operator's own settings, which ask for nothing."""

@@ -60,7 +60,7 @@ def check_value(word: str) -> None:
     """A fault where the value of a setting that people own is none on any host."""
     from arbiter_host.sources import containers, kubernetes, systemd
     setting = Setting(*split(word))
-    checks = {"pods": kubernetes.amount_of, "units": systemd.check,
+    checks = {"pods": kubernetes.amount_in, "units": systemd.check,
               "containers": containers.check}
     checks[owned.KEYS[setting.key]](setting)
 

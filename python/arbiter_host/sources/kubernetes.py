@@ -28,8 +28,8 @@ from arbiter_host.sources.conditions import (ANTI_AFFINITY, OF_OTHERS, NodeFacts
                                              node_facts)
 from arbiter_host.sources.data import field, loads, table, tables, text_field
 from arbiter_host.sources.measurable import Measurable
-from arbiter_host.sources.pods import (CLASSES, TOP, Container, Pod, folder_at, folder_of, names_by,
-                                       names_of, number_of, pod_of, scope_of, thousandths)
+from arbiter_host.sources.pods import (CLASSES, CPU, TOP, Container, Pod, amount_of, folder_at,
+                                       folder_of, names_by, names_of, number_of, pod_of, scope_of)
 from arbiter_host.sources.register import is_json
 from arbiter_host.sources.usage import Used, of_metrics
 from arbiter_host.sources.source_options import DRIVERS, File, SourceOptions
@@ -295,7 +295,7 @@ class PodBuilder:
             self.model.groups[path].demand = Fraction(0)
 
 
-def amount_of(setting: Setting) -> int | None:
+def amount_in(setting: Setting) -> int | None:
     """The whole thousandths of a request or limit, rounded up as kubelet does; None for none."""
     amount = setting.cpu()
     return None if amount is None else math.ceil(amount)
@@ -476,7 +476,7 @@ class PodSource(Measurable):
         for setting in settings:
             place, number = self.built[1][setting.path]
             amounts = replace(pods[place].parts[number].amounts,
-                              **{setting.key: amount_of(setting)})
+                              **{setting.key: amount_in(setting)})
             if amounts.request is None:
                 amounts = Amounts(amounts.limit, amounts.limit)
             pods[place] = pods[place].with_amounts(number, amounts)
@@ -692,7 +692,7 @@ def read(files: Sequence[File], library: Library, options: SourceOptions) -> Mod
     items = [item for name, value in values for item in items_of(value, name)]
     node = node_of(items, options)
     notes = [*other_kinds(items), *(note for _, value in values for note in replicas_note(value))]
-    capacity, allocatable = (thousandths(field(node, "status", key, "cpu"), f"node, {key}")
+    capacity, allocatable = (amount_of(field(node, "status", key, CPU), CPU, f"node, {key}")
                              for key in ("capacity", "allocatable"))
     if not capacity and options.cpus is None:
         raise NoHost("number of CPUs unknown: pass the node's JSON or --cpus")

@@ -103,9 +103,9 @@ class Measurable(Owned):
         """The model, which is shared, and the place of each container by the path of its group."""
         raise NotImplementedError
 
-    def places_of(self, entry: Used) -> Sequence[Place]:
-        """The containers that an entry of a measurement names."""
-        raise NotImplementedError
+    def places_of(self, _: Used) -> Sequence[Place]:
+        """The containers that an entry of a measurement names; none of what a tree alone names."""
+        return ()
 
     def folders_by(self, driver: str) -> dict[Place, str]:
         """Where each container is below the top of a tree, by a driver of its groups."""

@@ -21,7 +21,7 @@ from arbiter_host.base.owned import Amounts
 from arbiter_host.sources.conditions import Conditions, conditions_of, pairs_of
 from arbiter_host.sources.data import field, number, table, tables, text_field
 
-TOP = "kubepods"
+TOP, CPU = "kubepods", "cpu"
 KEYS = ("requests", "limits")
 # Kinds that make pods of a template which may be changed.
 TEMPLATED = ("Deployment", "StatefulSet", "DaemonSet", "ReplicaSet", "ReplicationController",
@@ -180,15 +180,19 @@ def quantity(value: Any) -> Fraction:
     return amount
 
 
-def thousandths(value: Any, where: str) -> int | None:
-    """A quantity in whole thousandths, rounded up as kubelet does. A fault names where it is."""
+def amount_of(value: Any, name: str, where: str) -> int | None:
+    """An amount of a resource by its name, CPU in thousandths, rounded up as kubelet does. A fault
+    names where it is."""
     with naming(where):
-        return None if value is None else math.ceil(quantity(value))
+        if value is None:
+            return None
+        return math.ceil(quantity(value) if name == CPU else number_of(value, shown(name)))
 
 
-def amounts_of(resources: dict[str, Any], where: str) -> Amounts:
-    """Request and limit of CPU. A limit without a request is the request too."""
-    limit, request = (thousandths(field(resources, key, "cpu"), where)
+def amounts_of(container: dict[str, Any], name: str, where: str) -> Amounts:
+    """Request and limit of a resource of a container, or of a pod itself. A limit without a request
+    is the request too."""
+    limit, request = (amount_of(field(container, "resources", key, name), name, where)
                       for key in ("limits", "requests"))
     return Amounts(limit if request is None else request, limit)
 
@@ -196,8 +200,7 @@ def amounts_of(resources: dict[str, Any], where: str) -> Amounts:
 def asked_amounts(container: dict[str, Any], status: dict[str, Any], where: str,
                   notes: list[str]) -> Amounts:
     """Request and limit of a container. What its status says is set otherwise is told."""
-    asked, now = (amounts_of(table(each, "resources"), where)
-                  for each in (container, status))
+    asked, now = (amounts_of(each, CPU, where) for each in (container, status))
     if now not in (asked, Amounts()):
         words = ", ".join(f"{key} {value}m" for key, value in (
             ("request", now.request), ("limit", now.limit)) if value is not None)
@@ -260,15 +263,6 @@ def is_limited(containers: Sequence[Container]) -> bool:
     return bool(containers)
 
 
-def other_amounts(container: dict[str, Any], name: str, where: str) -> Amounts:
-    """The request and the limit of a resource other than CPU, such as bytes of memory. A limit
-    without a request is the request too."""
-    with naming(where):
-        request, limit = (None if value is None else math.ceil(number_of(value, shown(name)))
-                          for value in (field(container, "resources", key, name) for key in KEYS))
-    return Amounts(limit if request is None else request, limit)
-
-
 def whole_amounts(own: Amounts, is_requested: bool, library: Library, kinds: Sequence[PartKind],
                   parts: Sequence[Amounts]) -> Amounts:
     """Amounts of a pod itself. A limit without a request is the request too, unless a container
@@ -315,12 +309,12 @@ def other_resources(spec: dict[str, Any], library: Library, kinds: Sequence[Part
     raw = [*tables(spec, "initContainers"), *tables(spec, "containers")]
     found = {}
     for name in sorted({"memory"}.union(table(spec, "overhead"), *(
-            table(each, "resources", key) for each in (spec, *raw) for key in KEYS)) - {"cpu"}):
-        parts = [other_amounts(each, name, where) for each in raw]
-        own = whole_amounts(other_amounts(spec, name, where),
+            table(each, "resources", key) for each in (spec, *raw) for key in KEYS)) - {CPU}):
+        parts = [amounts_of(each, name, where) for each in raw]
+        own = whole_amounts(amounts_of(spec, name, where),
                             name in table(spec, "resources", "requests"), library, kinds, parts)
-        over = other_amounts({"resources": {"requests": table(spec, "overhead")}}, name, where)
-        found[name] = Resource(own, tuple(parts), over.request or 0)
+        over = amount_of(field(spec, "overhead", name), name, where)
+        found[name] = Resource(own, tuple(parts), over or 0)
     return found
 
 
@@ -342,9 +336,9 @@ def pod_of(pod: dict[str, Any], library: Library, notes: list[str]) -> Pod:
         # The mirror of a static pod has an identifier that is not the one of its group.
         uid=text_field(metadata, "annotations", MIRROR) or text_field(metadata, "uid"),
         library=library, parts=parts,
-        overhead=thousandths(field(spec, "overhead", "cpu"), where) or 0,
-        own=whole_amounts(amounts_of(table(spec, "resources"), where), "cpu" in asked, library,
-                          kinds, [each.amounts for each in parts]),
+        overhead=amount_of(field(spec, "overhead", CPU), CPU, where) or 0,
+        own=whole_amounts(amounts_of(spec, CPU, where), CPU in asked, library, kinds,
+                          [each.amounts for each in parts]),
         is_whole=is_whole,
         told=told if told in CLASSES else "",
         asks_memory=any(each.request or each.limit for each in memory),

@@ -194,7 +194,7 @@ def check_use(title: str, amounts: Values, cpus: int, where: str) -> None:
         return
     # (a rate that stays the same differs in its last digits)
     is_counter = len(amounts) > 2 and all(
-        one * (1 + NOISE) < two for one, two in zip(amounts, amounts[1:]))
+        one * (1 + NOISE) < two for one, two in itertools.pairwise(amounts))
     why = (": it only rises, as a counter does: rate(..) is missing?" if is_counter else
            ": it is in another unit, or rate(..) is missing?")
     raise HostFault(f"{where}: {title} used {units.decimal(most, 0)}m, and the node has"

@@ -19,7 +19,6 @@ from arbiter_host.base.names import shown
 from arbiter_host.base.owned import NONE, Owned, Range, Setting
 from arbiter_host.sources.measurable import Measurable
 from arbiter_host.sources.source_options import File, SourceOptions
-from arbiter_host.sources.usage import Used
 
 NOT_SET = ("", "[not set]", "infinity", "18446744073709551615")
 # A quota of systemd is a number of hundredths of a percent of one CPU.
@@ -208,10 +207,6 @@ class UnitSource(Units, Measurable):
         """Where each unit is, whatever names the groups of containers."""
         return {(place, 0): unit.get("ControlGroup", "").strip("/")
                 for place, unit in enumerate(self.properties.values())}
-
-    def places_of(self, _: Used) -> Sequence[Place]:
-        """None: no measurement but a tree names units."""
-        return ()
 
     @functools.cached_property
     def built(self) -> tuple[Model, Mapping[str, Place]]:

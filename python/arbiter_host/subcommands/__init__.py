@@ -31,11 +31,6 @@ class Subcommand(NamedTuple):
     examples: dict[str, str]
     argument: dict[str, Any]
 
-    def add_words(self, parser: argparse.ArgumentParser) -> None:
-        argument = dict(self.argument)
-        parser.add_argument(argument.pop("name"), **argument)
-        table.add(parser, self.name)
-
 
 def listed() -> list[str]:
     """The names of all in the order of the list."""
