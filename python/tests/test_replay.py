@@ -183,6 +183,27 @@ def test_what_was_used_at_one_time_is_one_sample(ctl):
     assert whole["kubepods/prod:db-0/postgres"] == 640
 
 
+def test_containers_that_are_not_here(ctl, folder):
+    """`replay` tells what others measured elsewhere, as `explain` does. Of demands that somebody
+    wrote such a column is a slip."""
+    fixtures = PACKAGE / "tests/fixtures"
+    words = (fixtures / "pods.json", fixtures / "node.json", "--used")
+    note = "top.txt: used by containers that are not here, 1: kube-system/coredns-5d78-4x2/coredns"
+    (_, first), (out, second) = (ctl.run(each, *words, fixtures / "top.txt", "-o", form)
+                                 for each, form in (("explain", "json"), ("replay", "csv")))
+    assert note in first and note in second
+    assert {row["group"]: row["wants"] for row in rows_of(out)}[
+        "kubepods/prod:db-0/postgres"] == "0.64"
+    top = (fixtures / "top.txt").read_text().split("\n")
+    (folder / "top").write_text("\n".join([top[0], *(row for row in top if "coredns" in row)]))
+    for each in ("explain", "replay"):
+        assert "top: used by containers that are not here" in ctl.run(
+            each, *words, folder / "top", status=1)[1]
+    (folder / "d.csv").write_text("time,kube-system/coredns-5d78-4x2/coredns\n1,0.7\n")
+    assert "coredns: no group kube-system" in ctl.run("replay", *words, folder / "d.csv",
+                                                      status=1)[1]
+
+
 def test_a_pod_stands_for_its_one_container(ctl, folder):
     """As with `--set`. Two containers are too many for one column."""
     (folder / "d.csv").write_text("time,prod/api-0\n1,0.7\n")

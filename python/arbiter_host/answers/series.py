@@ -104,18 +104,16 @@ def target(model: Model, children: Mapping[str, list[str]], pattern: str) -> str
     return paths[0]
 
 
-def targets(model: Model, columns: Sequence[str], mapping: Mapping[str, str],
-            missing: list[str] | None = None) -> dict[str, str]:
-    """The path that each column stands for; a fault names a column of no one group.
-
-    With `missing` such a column is put there, since a server may know other hosts too.
-    """
-    children, found = model.children(), dict[str, str]()
-    for name in columns:
+def targets(model: Model, history: History, mapping: Mapping[str, str]
+            ) -> tuple[dict[str, str], list[str]]:
+    """The path that each column stands for, and the columns of no one group that others measured,
+    since they know other hosts too. Of the others a fault names such a column."""
+    children, found, missing = model.children(), dict[str, str](), list[str]()
+    for name in history.columns:
         try:
             path = target(model, children, mapping.get(name, name))
         except HostFault as fault:
-            if missing is None:
+            if name not in history.others:
                 raise HostFault(f"column {shown(name)}: {fault.message}: --map"
                                 f" {shown(name)}=GROUP") from fault
             missing.append(shown(name))
@@ -125,7 +123,7 @@ def targets(model: Model, columns: Sequence[str], mapping: Mapping[str, str],
             raise HostFault(f"columns {shown(other)} and {shown(name)} are both of the group"
                             f" {shown(path)}")
         found[name] = path
-    return found
+    return found, missing
 
 
 def sample_periods(usec: int, period: int) -> int:

@@ -52,8 +52,6 @@ class Job:
     mapping: Mapping[str, str] = field(default_factory=dict)
     # The groups that are chosen.
     selection: Selection = Selection()
-    # Whether a server gave the columns, which may know groups of other hosts too.
-    is_served: bool = False
     # The C library; none stands for the first that a worker finds.
     library: str | None = None
 
@@ -192,9 +190,7 @@ def placed(job: Job, model: Model, engine: Engine) -> SentPlans:
 
 def replayed(job: Job, model: Model, engine: Engine, history: History) -> SentPlans:
     """The groups with their settings, and the demands of all samples."""
-    missing: list[str] = []
-    path_of = series.targets(model, history.columns, job.mapping,
-                             missing if job.is_served else None)
+    path_of, missing = series.targets(model, history, job.mapping)
     if not path_of or not history.samples:
         raise HostFault("no sample of a group of this host")
     wanted = chosen(job, model)

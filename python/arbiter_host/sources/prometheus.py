@@ -260,7 +260,8 @@ def history_of(metrics: Sequence[Metric], url: str, window: float = LOOKBACK) ->
         Sample(time_name(str(int(at))), {name: each[at] for name, each in values.items()
                                          if at in each}, shown(url))
         for at in sorted({at for each in values.values() for at in each})],
-        {name: common([each.labels for each in parts]) for name, parts in columns.items()})
+        {name: common([each.labels for each in parts]) for name, parts in columns.items()},
+        values.keys())
 
 
 def common(labels: Sequence[Mapping[str, str]]) -> dict[str, str]:

@@ -9,7 +9,7 @@ import io
 import itertools
 import re
 from collections import Counter
-from collections.abc import Callable, Iterable, Iterator, Mapping, Sequence
+from collections.abc import Callable, Iterable, Iterator, Mapping, Sequence, Set
 from contextlib import suppress
 from datetime import datetime, timezone
 from decimal import Context, Decimal, InvalidOperation
@@ -65,6 +65,8 @@ class History(NamedTuple):
     samples: list[Sample]
     # The labels of columns that a server has, where it told them.
     labels: Mapping[str, Mapping[str, str]] = {}
+    # The columns that others measured, which may be of groups elsewhere.
+    others: Set[str] = frozenset()
 
     @property
     def columns(self) -> list[str]:
@@ -84,7 +86,8 @@ class History(NamedTuple):
         """The samples of some columns alone."""
         return History([each for each in self.holes if is_meant(each)], [
             each._replace(cells={name: cell for name, cell in each.cells.items()
-                                 if is_meant(name)}) for each in self.samples])
+                                 if is_meant(name)}) for each in self.samples],
+                       others=frozenset(filter(is_meant, self.others)))
 
     def demands(self, unit: str, host: Host) -> Iterator[tuple[str, dict[str, Fraction]]]:
         """The name of each sample, and the demands that it sets, in thousandths of a CPU."""
@@ -98,7 +101,8 @@ def joined(histories: Iterable[History]) -> History:
     every = list(histories)
     return History(list(dict.fromkeys(name for each in every for name in each.holes)),
                    [sample for each in every for sample in each.samples],
-                   {name: labels for each in every for name, labels in each.labels.items()})
+                   {name: labels for each in every for name, labels in each.labels.items()},
+                   frozenset().union(*(each.others for each in every)))
 
 
 def demand_of(text: str, unit: str, host: Host, where: str) -> Fraction:

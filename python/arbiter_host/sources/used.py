@@ -97,7 +97,7 @@ def of_file(uses: UseOptions, word: str, first: int) -> History:
     entries = usage.read(data, where)
     samples.check_names([each.word for each in entries], where)
     cells = {each.word: f"{units.decimal(each.amounts[0], 9)}m" for each in entries}
-    return History([], [Sample(str(first + 1), cells, where, False)])
+    return History([], [Sample(str(first + 1), cells, where, False)], others=cells.keys())
 
 
 def history(uses: UseOptions) -> History:

@@ -74,9 +74,8 @@ def job_of(options: argparse.Namespace, action: Action, fleet: Fleet) -> Job:
         library = os.path.abspath(library)
     pods = [(names.shown(path), plain_files.file_bytes(path)) for path in options.pod]
     sample = time_option(options.step, "--step") if options.step else 0
-    is_served = source.uses is not None and used.is_served(source.uses)
     return Job(action, reading, list(options.set), pods, options.unit, sample,
-               used.mapped(options.map), meant, is_served, library)
+               used.mapped(options.map), meant, library)
 
 
 def answer(options: argparse.Namespace, fleet: Fleet, action: Action) -> None:

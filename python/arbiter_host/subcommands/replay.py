@@ -66,6 +66,7 @@ from arbiter_host.base.tables import Forms
 from arbiter_host.records import source_options, time_option, use_options
 from arbiter_host.sources import load, prometheus, selection, used
 from arbiter_host.sources.load import Opened
+from arbiter_host.sources.measurable import OTHERS
 from arbiter_host.sources.samples import History, values_of
 from arbiter_host.sources.selection import Selection
 from arbiter_host.sources.source_options import UseOptions
@@ -116,15 +117,14 @@ def forms(options: argparse.Namespace, files: Sequence[Opened], uses: UseOptions
     if not history.samples:
         what = ": --query and --range say what is asked" if used.is_served(uses) else ""
         raise HostFault(f"{used.name(uses)}: no sample{what}")
-    missing: list[str] = []
-    path_of = series.targets(model, history.columns, used.mapped(uses.columns),
-                             missing if used.is_served(uses) else None)
-    if history.columns and not path_of:
-        raise HostFault(f"{used.name(uses)}: series of no group here, {some(missing)}")
+    path_of, missing = series.targets(model, history, used.mapped(uses.columns))
+    what = "series of no group here" if used.is_served(uses) else OTHERS
+    lost = [f"{used.name(uses)}: {what}, {some(missing)}"] if missing else []
+    if lost and not path_of:
+        raise HostFault(lost[0])
     if used.is_served(uses):
         check_use(options.unit, model, history, path_of, used.name(uses))
-    if missing:
-        output.warn(f"{used.name(uses)}: series of no group here, {some(missing)}")
+    output.warn(*lost)
     lacking = history.of_columns(path_of.__contains__).lacking
     if lacking:
         output.warn(f"{used.name(uses)}: without a number, which counts as 0, {some(lacking)}")
