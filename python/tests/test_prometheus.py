@@ -259,6 +259,13 @@ def test_series_and_their_columns(labels, cells):
     (({**POD, "instance": "a"}, {**POD, "instance": "b"}), "differ in instance"),
     ((POD, POD), "differ in nothing"), (({},), "a series with no label"),
     (({"job": "x", "thing": "y"},), "a series with job, thing: which of them names a group"),
+    (({**POD, "exported_pod": "a"}, {**POD, "exported_pod": "b"}),
+     "differ in exported_pod, and may be one use twice: the scrape renamed labels of what was"
+     " measured (exported_pod): honor_labels there keeps them, or --query 'label_replace(..,"
+     ' "pod", "$1", "exported_pod", "(.+)")\' brings each back'),
+    (({"exported_container": "c", "exported_pod": "p", "job": "x"},),
+     "a series with exported_container, exported_pod, job: the scrape renamed labels of what was"
+     " measured (exported_container, exported_pod): honor_labels"),
 ])
 def test_series_that_may_be_one_use_twice(labels, told):
     """They are refused by the labels in which they differ, and none is taken."""

@@ -7,7 +7,7 @@ import math
 import re
 import time
 import urllib.parse
-from collections.abc import Callable, Mapping, Sequence, Set
+from collections.abc import Callable, Iterable, Mapping, Sequence, Set
 from datetime import datetime
 from fractions import Fraction
 from typing import Any, NamedTuple, TypeVar
@@ -43,6 +43,8 @@ MOST_SAMPLES = 5000
 MOST_WARNINGS = 5
 # Labels that tell the parts of one container's use apart.
 PARTS = frozenset({"cpu", "image", "name", "uid", "container_id"})
+# What a scrape puts before labels of what was measured, where its own have these names.
+EXPORTED = "exported_"
 # Labels that change where a container is made anew, maybe on another node: then its series ends.
 ANEW = frozenset({"id", "instance", "node", "host"})
 
@@ -118,8 +120,21 @@ def column_of(labels: Mapping[str, str], url: str) -> str:
     if len(rest) == 1:
         return rest[0]
     told = ", ".join(sorted(map(shown, labels))) or "no label"
-    raise HostFault(f"{shown(url)}: a series with {cut(told, 100)}: which of them names a group?"
-                    " --query 'sum by (pod) (..)' leaves one")
+    raise HostFault(f"{shown(url)}: a series with {cut(told, 100)}: " + (
+        renamed(labels) or "which of them names a group? --query 'sum by (pod) (..)' leaves one"))
+
+
+def renamed(labels: Iterable[str]) -> str:
+    """The advice where a scrape has renamed labels of what was measured; empty where it has none.
+    """
+    found = sorted(each for each in labels if each.startswith(EXPORTED))
+    if not found:
+        return ""
+    own = found[-1].removeprefix(EXPORTED)
+    return (f"the scrape renamed labels of what was measured ({shown(', '.join(found))}):"
+            " honor_labels there keeps them, or --query"
+            f" 'label_replace(.., \"{shown(own)}\", \"$1\", \"{shown(found[-1])}\","
+            " \"(.+)\")' brings each back")
 
 
 class Metric(NamedTuple):
@@ -171,6 +186,7 @@ def check_parts(name: str, parts: Sequence[Metric], url: str, window: float,
     selector = f"{{{named}={json.dumps(parts[0].labels[named])}}}" if named else ""
     advice = (f"choose by --query, as '{shown(cut(example.replace('{}', selector), 200))}'"
               if named else "--query 'max by (namespace, pod, container) (..)' takes one of them")
+    advice = renamed(apart) or advice
     raise HostFault(f"{shown(url)}: {len(parts)} series of {shown(cut(name, 100))} differ in"
                     f" {', '.join(map(shown, apart))}, and may be one use twice: {advice}")
 
