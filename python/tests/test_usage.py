@@ -343,4 +343,15 @@ def test_use_that_no_host_has(ctl, folder):
                                 "web-7c9f metrics 4000m 1Mi\n")
     _, err = ctl.run("explain", PODS, NODE, "--used", folder / "top")
     assert "prod:web-7c9f/nginx: 4001m used: more than the host has" in err
-    assert "metrics: 4000m" not in err
+    assert "metrics: 4000m used: more than the host" not in err
+
+
+@pytest.mark.parametrize("used, is_told", [(200, False), (220, False), (221, True), (900, True)])
+def test_use_that_no_limit_allows(ctl, folder, used, is_told):
+    """The container has a limit of 200m. A tenth above that may be a reading within a period."""
+    (folder / "top").write_text("POD NAME CPU(cores) MEMORY(bytes)\nweb-7c9f nginx 300m 1Mi\n"
+                                f"web-7c9f metrics {used}m 1Mi\n")
+    _, err = ctl.run("explain", PODS, NODE, "--used", folder / "top")
+    note = f"prod:web-7c9f/metrics: {used}m used: more than its limit of 200m, to which it is cut"
+    assert (note in err) == is_told
+    assert err.count("more than its limit") == is_told

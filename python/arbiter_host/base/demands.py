@@ -21,6 +21,8 @@ RULES = {"request": "requests", "limit": "limits", "busy": "all CPUs (busy)", "u
          "peak": "greatest", "p95": "95th percentile", "psi": "mean, raised by waiting,"}
 # The greatest part of the time that pressure is taken for: above it the estimate has no meaning.
 MOST_PRESSURE = Fraction(19, 20)
+# The part of a limit above which use is none that this limit has allowed.
+MOST_ABOVE = Fraction(11, 10)
 # The place of a group among what a source has read.
 Place = tuple[int, int]
 # The seconds at which the first and the last sample was.
@@ -244,6 +246,17 @@ def asked_words(want: str, measured: Sequence[Measured], seconds: Fraction) -> s
     return f"{RULES[want]} of use{over} ({most} samples)"
 
 
+def too_much(group: Group, used: Fraction, host: Host) -> list[str]:
+    """A note of use that the plan cannot give: more than the host, or the group's limit allows. A
+    burst, or a reading within a period, may be somewhat above that."""
+    words = f"{group.path}: {units.decimal(used, 0)}m used: more than"
+    if used > 1000 * host.processors:
+        return [f"{words} the host has"]
+    limit = None if group.quota is None else Fraction(1000 * group.quota, group.period)
+    return [f"{words} its limit of {units.decimal(limit)}m, to which it is cut"] if (
+        limit is not None and not group.burst and used > MOST_ABOVE * limit) else []
+
+
 def set_demands(model: Model, measured: dict[str, Measured], want: str, seconds: Fraction) -> None:
     """Sets the demand of each group without children. A group that is known to request nothing, as
     a pause container, is not meant to be busy."""
@@ -267,8 +280,8 @@ def set_demands(model: Model, measured: dict[str, Measured], want: str, seconds:
             periods = sum(rises(counters.readings, "periods"))
             model.notes.append(f"{path}: throttled in {throttled} of {periods} periods: it wanted"
                                " more than it used (--want psi)")
-        if want in OF_USE[:3] and demand > 1000 * model.host.processors:
-            model.notes.append(f"{path}: {units.decimal(demand, 0)}m used: more than the host has")
+        if want in OF_USE[:3]:
+            model.notes += too_much(group, demand, model.host)
         group.demand = demand
         if counters.tasks:
             needed = math.ceil(used(counters, seconds).most / 1000)
