@@ -16,6 +16,8 @@ from places import PACKAGE
 
 ROOT = PACKAGE.parent
 FIXTURES = Path(__file__).parent / "fixtures"
+# A host of four CPUs, with a period of 100 ms and slices of 1 ms, in each unit.
+FOUR = {"cpu": "4.00", "m": "4000", "%": "400", "slices": "400", "us": "400000"}
 HEAD = "# arbiter run --processors 1 --period 100000 --slice 5000\n"
 REASONS = HEAD + """\
 mkdir held
@@ -436,3 +438,17 @@ def test_library_that_is_not_there(ctl, path, words, is_named):
     assert (out, err.count("\n")) == ("", 1) and words in err
     assert err.endswith(": install the package libarbiter1, or run ./build --install DIR;"
                         " ARBITER_LIBRARY or --library names another\n")
+
+
+def test_csv_has_its_unit_by_the_option(ctl):
+    """The heads are the same in each unit: a script finds a column by its name. The pages of both
+    subcommands that write CSV say the unit."""
+    words = ("explain", ROOT / "examples/node.script", "-o", "csv", "--unit")
+    tables = {unit: ctl.run(*words, unit)[0] for unit in FOUR}
+    heads = {each.partition("\n")[0] for each in tables.values()}
+    assert heads == {"group,title,weight,gets,wants,limit,reason,why"}
+    assert {unit: each.split("\n")[1].split(",")[3] for unit, each in tables.items()} == FOUR
+    for each in ("explain", "replay"):
+        page = (ROOT / f"share/man/arbiterctl-{each}.1").read_text(encoding="utf-8")
+        page = " ".join(page.split())
+        assert "are in the unit of" in page and "heads are the same in each unit" in page

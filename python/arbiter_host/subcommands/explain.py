@@ -28,6 +28,9 @@
 # Of many hosts it says what each serves and lacks. Of a cluster it also says where each pod would \
 # go that no node has yet, by the rule of --rank, or why it goes nowhere.""",
 # """\
+# Amounts of -o csv are in the unit of --unit. The heads are the same in each unit: a script finds \
+# a column by its name.""",
+# """\
 # The page of -o html asks for nothing from the network. Its tree folds and can be searched. The \
 # picture of -o svg has the tree, and to one scale what each group wants, may have and gets.""",
 # ]

@@ -18,7 +18,9 @@
 # GROUP NUMBER .., or what was used at one time as `kubectl top pods` prints it. An empty cell of \
 # CSV asks for nothing. For many hosts it is a folder with HOST.csv, or one CSV with the columns \
 # time, host, group and demand.""",
-# "The text has sums, and csv and json each sample. `wanted` and `got` are means.",
+# """\
+# The text has sums, and csv and json each sample. `wanted` and `got` are means. Amounts of csv \
+# are in the unit of --unit, whose heads are the same in each unit; json says it.""",
 # ]
 #
 # [argument]
