@@ -536,21 +536,29 @@ void BPF_PROG(plan_cgroup_move, struct task_struct *p, struct cgroup *from, stru
     task_at(number_of(p))->version = 0;
 }
 
-/* A CPU that goes has no task of another one's choice left. Its own ones the kernel moves. */
+/* A CPU that goes has no task left that another CPU may take. Those that it alone may run the kernel
+ * moves. */
 SEC("struct_ops/plan_cpu_offline")
 void BPF_PROG(plan_cpu_offline, s32 cpu)
 {
-    u32 own = bpf_get_smp_processor_id();
+    u32 own = bpf_get_smp_processor_id(), times;
     struct on_cpu *here = &of_change;
     u64 now = bpf_ktime_get_ns();
 
-    bpf_spin_lock(&lock);
-    begin(here, own, now);
-    put_back(here, cpu);
-    work_alone(here);
-    set_idle(on_cpu(cpu), false);
-    bpf_spin_unlock(&lock);
-    tell(here);
+    bpf_for(times, 0, MOST_TASKS) {
+        bool is_one;
+        bpf_spin_lock(&lock);
+        begin(here, own, now);
+        is_one = go(here, cpu);
+        work_alone(here);
+        if (is_one)
+            came(here, own, false);
+        bpf_spin_unlock(&lock);
+        tell(here);
+        kick_noted(here);
+        if (!is_one)
+            break;
+    }
 }
 
 /* The kernel ends a scheduler that does not say that it goes on. */
@@ -561,10 +569,22 @@ void BPF_PROG(plan_cpu_online, s32 cpu)
 
 /* A real-time task takes a CPU. The slice of its task ends, and those that were handed to it wait
  * again: another CPU may take them, and their leaf pays nothing for the time of that task. Each comes
- * by `plan_enqueue`. */
+ * by `plan_enqueue`, but one that the kernel was not told of. */
 SEC("struct_ops/plan_cpu_release")
 void BPF_PROG(plan_cpu_release, s32 cpu, struct scx_cpu_release_args *args)
 {
+    struct on_cpu *here = on_cpu(cpu);
+    u64 now = bpf_ktime_get_ns();
+
+    bpf_spin_lock(&lock);
+    begin(here, cpu, now);
+    if (put_back(here, cpu)) {
+        work_alone(here);
+        came(here, cpu, false);
+    }
+    bpf_spin_unlock(&lock);
+    tell(here);
+    kick_noted(here);
     scx_bpf_reenqueue_local();
 }
 

@@ -163,6 +163,8 @@ struct on_cpu {
     /* Whether the last one was picked as due, its leaf's deadline then, and how long its slice
      * is. */
     __u32 is_due;
+    /* Whether it has looked for a task since it came. */
+    __u32 is_there;
     __s64 deadline_ns;
     __u64 slice_ns;
     /* A section of the lock: its next stage, and what follows an arrival; the task that it is about

@@ -65,8 +65,10 @@ struct task {
     u32 is_extended;
     /* Whether its slice has ended and the kernel has not handed it over yet. */
     u32 is_passing;
-    /* The tree of its mask when that was looked for last. */
+    /* The tree of its mask when that was looked for last, and whether it waits for the CPUs of its
+     * mask. */
     u32 mask_tree;
+    u32 has_mask;
     u64 since_ns;
     /* How much of its time was charged, and that over its weight. */
     u64 charged_ns;
@@ -574,13 +576,15 @@ static __noinline u32 tree_of_mask(u32 number)
     return found;
 }
 
-/* Of the CPUs of a mask one that idles, else the one for which the fewest tasks wait. */
+/* Of the CPUs of a mask one that idles, else the one for which the fewest tasks wait. One that has
+ * gone looks for no task: it is chosen where there is no other. */
 static __noinline u32 least_of_mask(u32 number)
 {
     u32 found = 0, least = ~0U, cpu;
 
     bpf_for(cpu, 0, cpus_there) {
         u32 waiting = tree_at(CPU_TREES + cpu)->waiting + !on_cpu(cpu)->is_idle;
+        waiting += on_cpu(cpu)->is_there ? 0 : MOST_TASKS;
         if (!has_cpu(number, cpu) || waiting >= least)
             continue;
         least = waiting;
@@ -598,5 +602,20 @@ static __noinline u32 tree_for(u32 number)
     if (task->mask_tree >= MOST_MASKS || !is_tree_of(task->mask_tree, number))
         task->mask_tree = tree_of_mask(number);
     return task->mask_tree < MOST_MASKS ? MASK_TREES + task->mask_tree : least_of_mask(number);
+}
+
+/* The oldest task that waits at a CPU and could do so at another one, since its mask had no tree; 0
+ * if there is none. (One that is on its way comes by itself.) */
+static __noinline u32 first_of_mask(u32 cpu)
+{
+    u32 number = tree_at(CPU_TREES + WITHIN(cpu, MOST_CPUS))->oldest, each;
+
+    bpf_for(each, 0, MOST_TASKS) {
+        struct task *task = task_at(number);
+        if (!number || (task->has_mask && !task->is_passing))
+            break;
+        number = task->newer;
+    }
+    return number;
 }
 #endif

@@ -330,12 +330,40 @@ static __always_inline void withdraw(struct on_cpu *here, u32 number)
     here->stage = WITHDRAW;
 }
 
-/* A task that was picked for a CPU that goes waits again. */
-static __always_inline void put_back(struct on_cpu *here, u32 cpu)
+/* A task that was picked for a CPU that it cannot have now waits again. Returns whether there is one. */
+static __always_inline bool put_back(struct on_cpu *here, u32 cpu)
 {
-    here->about = on_cpu(cpu)->handed;
-    here->tree = task_at(here->about)->tree;
-    here->stage = here->about ? WITHDRAW : DONE;
+    u32 number = on_cpu(cpu)->handed;
+
+    here->about = number;
+    here->tree = task_at(number)->tree;
+    here->stage = number ? WITHDRAW : DONE;
+    return number;
+}
+
+/* A CPU goes. The task that was picked for it waits again, then each that waits there and could do so
+ * at another CPU: one in a section. Returns whether there was one. */
+static __noinline bool go(struct on_cpu *here, u32 cpu)
+{
+    struct on_cpu *on = on_cpu(cpu);
+    u32 number;
+
+    on->is_there = 0;
+    set_idle(on, false);
+    if (put_back(here, cpu))
+        return true;
+    number = first_of_mask(cpu);
+    if (!number)
+        return false;
+    here->about = number;
+    here->tree = tree_for(number);
+    here->stage = WITHDRAW;
+    /* (where all of its CPUs have gone the kernel moves it) */
+    if (here->tree == CPU_TREES + cpu) {
+        task_at(number)->has_mask = 0;
+        here->stage = DONE;
+    }
+    return true;
 }
 
 /* A task comes to wait: it wakes, or its slice ends. It may have been picked already, since its
@@ -345,6 +373,7 @@ static __noinline int come(struct on_cpu *here, u32 number, u32 row, u32 tree, u
     struct task *task = task_at(number);
     bool is_passing = task->is_passing && task->row == row;
 
+    task->has_mask = tree == SOME_CPUS;
     here->tree = tree == SOME_CPUS ? tree_for(number) : tree;
     here->about = number;
     here->about_row = row;
@@ -408,6 +437,7 @@ static __noinline int take_next(struct on_cpu *on, u32 before, bool is_in_leaf, 
     on->about_row = task->row;
     on->runtime = runtime;
     on->tree = tree;
+    task->has_mask = tree == SOME_CPUS;
     /* (one that was moved comes to its new leaf when it is handed over) */
     on->is_ending = is_in_leaf;
     on->cuts = 1;
@@ -417,6 +447,7 @@ static __noinline int take_next(struct on_cpu *on, u32 before, bool is_in_leaf, 
 /* What it took: 0 if there is none. */
 static __always_inline u32 took_next(struct on_cpu *on)
 {
+    on->is_there = 1;
     set_idle(on, !on->chosen && !on->task);
     return on->chosen;
 }

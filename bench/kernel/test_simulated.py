@@ -98,7 +98,8 @@ def test_rule_in_a_model(program, cpus, groups, parts, most, seed):
 class Case:
     """A host, and what has to hold. Numbers are by row, from 1 on: hundredths of a CPU and how far
     they may be off; the most milliseconds that a window lacks of the guarantee, or is over a limit;
-    the most that half of those that wake wait; and the least seconds of a task, by its place."""
+    the most that half of those that wake wait, and 99 of 100; and the least seconds of a task, by its
+    place."""
 
     cpus: int
     groups: tuple[str, ...]
@@ -107,6 +108,7 @@ class Case:
     over: dict[int, float] = field(default_factory=dict)
     inside: dict[int, float] = field(default_factory=dict)
     delay: dict[int, float] = field(default_factory=dict)
+    longest: dict[int, float] = field(default_factory=dict)
     tasks: dict[int, float] = field(default_factory=dict)
     seconds: int = 20
     options: tuple[str, ...] = ("-p", "1000")
@@ -115,6 +117,17 @@ class Case:
 def lights(count: int, guarantee: float) -> Iterable[str]:
     """Groups of weight 1 with a task that always wants."""
     return (f"a,1,0,1,{ALWAYS}:g={guarantee}" for _ in range(count))
+
+
+def masks(count: int, cpus: int) -> list[str]:
+    """As many masks, each of some CPUs, but not of all."""
+    some = [mask for mask in range(1, 2**cpus - 1) if mask.bit_count() > 1]
+    return [f"m{mask:x}" for mask in sorted(random.Random(7).sample(some, count))]
+
+
+def each_bound(cpus: list[str]) -> Iterable[str]:
+    """A group with a task for each mask, which always wants."""
+    return (f"{'+' * (at > 0)}a,800,0,1,0,0,0,{mask}:g=8000" for at, mask in enumerate(cpus))
 
 
 def pod(containers: int) -> Iterable[str]:
@@ -154,7 +167,7 @@ ROWS = {
     "four-web": Case(4, ("w,240,0,4,3000,7000,0,-1:g=2400", f"a,140,0,4,{ALWAYS}:g=800",
                          f"a,140,0,2,{ALWAYS}:g=800"), points(120, 140, 140), delay={1: 0.1}),
     "two-eight": Case(2, (f"a,100,0,1,{ALWAYS}:g=1000", "p,100,0,8,25000,75000,0,-1:g=1000"),
-                      points(100, 100)),
+                      points(100, 100), delay={2: 12}, longest={2: 24}),
     "two-flip": Case(2, ("t,100,0,2,1000000,1000000,0,-1:g=1000", f"a,50,0,2,{ALWAYS}:g=500",
                          f"a,50,0,1,{ALWAYS}:g=500"), points(50, 75, 75)),
     "two-nice": Case(2, (f"a,134,0,1,{ALWAYS}:g=1340:nice=19", f"+a,134,0,1,{ALWAYS}",
@@ -162,7 +175,7 @@ ROWS = {
                      points(133.33, 33.33, 33.33)),
     "two-turns": Case(2, ("t,67,0,2,100000,100000,0,-1:g=670",
                           "t,67,0,2,100000,100000,100000,-1:g=670", f"a,66,0,2,{ALWAYS}:g=660"),
-                      points(50, 50, 100)),
+                      points(50, 50, 100), longest={1: 8.1, 2: 8.1}),
     "eight-mixed": Case(8, tuple(f"a,80,0,{tasks},{ALWAYS}:g=800"
                                  for tasks in (1, 2, 3, 1, 1, 1, 2, 3, 1, 1)), points(*[80] * 10)),
 }
@@ -217,6 +230,25 @@ CASES = {
     "a real-time task holds a CPU up": Case(
         2, ("r,0,300000,700000", f"a,90,0,1,{ALWAYS}:g=500", f"a,50,0,2,{ALWAYS}:g=500"),
         lacks={1: 30, 2: 30}),
+    "two of four CPUs are taken for a moment, again and again": Case(
+        4, ("r,0,1000,4001", "r,1,2500,5003", f"a,100,0,2,{ALWAYS}:g=1000",
+            "w,60,0,2,3000,7000,0,-1:g=600", f"a,120,0,4,{ALWAYS}:g=1200"),
+        lacks={1: 20, 2: 20, 3: 20}, delay={2: 0.1}, longest={2: 4.1}),
+    # (it takes CPU 3 for good just when another CPU has picked a task for that one)
+    "a CPU is taken for which a task was picked": Case(
+        4, ("r,3,999999999,54034", *ROWS["four-web"].groups), tasks=dict.fromkeys(range(4), 5)),
+    # a CPU that goes, and comes back: its tasks wait for others
+    "a CPU goes and comes": Case(
+        4, ("h,3,1000000,1000000", f"a,150,0,2,{ALWAYS}:g=1400", "w,60,0,2,3000,7000,0,-1:g=600",
+            f"a,190,0,4,{ALWAYS}:g=900"), lacks={1: 40, 2: 40, 3: 40}, delay={2: 0.1}),
+    "CPUs go in turn, with tasks that are bound to them": Case(
+        4, ("h,1,300000,400000", "h,2,300000,700000", "h,3,500000,1100000", "a,50,0,2,0,0,0,1:g=300",
+            "w,30,0,1,3000,7000,0,2:g=300", "a,100,0,3,0,0,0,mc:g=400"),
+        {2: (30, 0.5)}, tasks={0: 4, 1: 4}, lacks={1: 40, 3: 60}),
+    # more masks than trees, so tasks wait at one of their CPUs
+    "a CPU goes for which some of a hundred masks wait": Case(
+        8, ("h,7,100000000,500000", *each_bound(masks(100, 8))),
+        tasks=dict.fromkeys(range(100), 0.25), seconds=5),
     # limits of groups above leaves
     "four containers of a pod at its limit wake": Case(
         4, ("l,100000,0", *pod(4), "w,300,0,1,2000,8000,0,-1:g=3000"), {5: (20, 0.5)},
@@ -256,7 +288,8 @@ def broken(case: Case, found: dict[str, list[list[int]]]) -> list[str]:
     says = [f"row {row} has {used[row]:.1f} for {want}"
             for row, (want, most) in case.points.items() if abs(used[row] - want) > most]
     for name, bounds, at in (("lacks", case.lacks, 1), ("over", case.over, 1),
-                             ("inside", case.inside, 2), ("delay", case.delay, 1)):
+                             ("inside", case.inside, 2), ("delay", case.delay, 1),
+                             ("delay", case.longest, 2)):
         ms = {numbers[0]: numbers[at] / 10**6 for numbers in found.get(name, [])}
         says += [f"{name} of {row}: {ms[row]:.1f} ms" for row, most in bounds.items()
                  if ms[row] > most]
@@ -311,13 +344,15 @@ def random_group(rnd: random.Random, cpus: int, left: int, limits: int) -> tuple
 
 
 def random_host(seed: int) -> tuple[list[str], int, list[str]]:
-    """Options, CPUs and groups of a host: with limits of groups, a real-time task, new plans, and
-    ends that are held up."""
-    rnd = random.Random(seed)
+    """Options, CPUs and groups of a host: with limits of groups, a real-time task, a CPU that goes and
+    comes, new plans, and ends that are held up."""
+    rnd, other = random.Random(seed), random.Random(-1 - seed)
     cpus, limits = rnd.choice([1, 2, 2, 3, 4, 4, 8]), rnd.choice([0, 0, 1, 2])
     groups = [f"l,{rnd.choice([20000, 50000, 100000])},{rnd.randint(0, above)}"
               for above in range(limits)]
     groups += [f"r,{rnd.randrange(cpus)},50000,250000"] if rnd.random() < 0.3 else []
+    if cpus > 1 and other.random() < 0.6:
+        groups.append(f"h,{other.randrange(cpus)},200000,{other.randint(50000, 300000)}")
     left = 1000 * cpus
     for at in range(rnd.randint(2, 7)):
         group, share = random_group(rnd, cpus, left, limits)
@@ -354,7 +389,10 @@ def test_no_slice_of_a_due_leaf_is_ended_for_it(program):
     assert not found[outside.WRONG] and found[outside.ALLOWED] > 300
 
 
-@pytest.mark.parametrize("name", ROWS)
+BY_RULE = (*ROWS, "a CPU goes and comes", "two of four CPUs are taken for a moment, again and again")
+
+
+@pytest.mark.parametrize("name", BY_RULE)
 def test_rows_are_by_the_rule(program, name):
     """Each pick and wake of these hosts is the rule's, new plans amid."""
     case = CASES[name]

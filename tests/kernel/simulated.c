@@ -11,7 +11,8 @@
    ms, 0 for none. Words are `g=` the guarantee in thousandths of a CPU, `nice=`, and `in=`: the
    group with a limit that it is in. Such a one is `l,LIMIT_US,IN`, the first of them number 1.
    A GROUP that begins with `+` has more tasks of the row before. `r,CPU,ON_US,OFF_US` is a real-time
-   task: it has a CPU for ON_US, then not for OFF_US, and so on.
+   task: it has a CPU for ON_US, after OFF_US without it, and so on. By `h,CPU,ON_US,OFF_US` the CPU
+   goes for ON_US, and comes back.
 
    -q tells no steps; -p gives a plan each MS, of amounts that are up to -j PERCENT off; -o holds the
    end of each slice up by up to US, as work of the kernel does.
@@ -61,6 +62,8 @@ struct bpf_spin_lock { int is_held; };
 #define MOST_ROWS 1024
 #define MOST_GROUPS 256
 #define MOST_DELAYS 100000
+/* The use of each task is told of as many.  */
+#define MOST_TOLD 128
 #define NONE UINT64_MAX
 
 enum way { ASLEEP, READY, ON_CPU };
@@ -81,8 +84,9 @@ struct core {
     struct job *job;
     s64 slice;
     u64 since, tick, kick;
-    /* Whether a real-time task has it, and when that changes; how long it has it, and has it not.  */
-    bool is_taken;
+    /* Whether a real-time task has it, or it has gone, and when that changes; how long it is so, and
+       is not.  */
+    bool is_taken, goes;
     u64 changes, on, off;
 };
 
@@ -446,7 +450,68 @@ static void ticks(void) {
     }
 }
 
-/* As plan_cpu_release where a real-time task comes: the task of its CPU waits again.  */
+/* A task was put back from a CPU: the end of a section of plan_cpu_offline and plan_cpu_release.  */
+static void end_back(struct on_cpu *here, u32 cpu) {
+    work_alone(here);
+    came(here, cpu, false);
+    tell_steps(here);
+    kick_noted(here);
+}
+
+/* As plan_dequeue: the kernel takes a task back, to change it.  */
+static void dequeue(struct job *job) {
+    struct on_cpu *here = on_cpu(job->cpu);
+
+    begin(here, job->cpu, now);
+    withdraw(here, job->number);
+    work_alone(here);
+    tell_steps(here);
+}
+
+/* Tasks that may run on no CPU any more may run on each: so the kernel does.  */
+static void free_jobs(void) {
+    u64 there = 0;
+
+    for (u32 cpu = 0; cpu < core_count; cpu++)
+        there |= (u64)!(cores[cpu].is_taken && cores[cpu].goes) << cpu;
+    for (u32 at = 0; at < job_count; at++) {
+        struct job *job = &jobs[at];
+        u64 mask = job->mask ? job->mask : job->is_bound ? 1ULL << job->cpu : there;
+        if (mask & there)
+            continue;
+        if (job->way == READY)
+            dequeue(job);
+        job->is_bound = false;
+        job->mask = 0;
+        if (job->way == READY)
+            enqueue(job, job->cpu, false);
+    }
+}
+
+/* As plan_cpu_offline.  */
+static void go_away(u32 cpu) {
+    static struct on_cpu of_change;
+
+    for (;;) {
+        begin(&of_change, cpu, now);
+        if (!go(&of_change, cpu))
+            break;
+        end_back(&of_change, cpu);
+    }
+    free_jobs();
+}
+
+/* As plan_cpu_release, where a real-time task comes.  */
+static void release(u32 cpu) {
+    struct on_cpu *here = on_cpu(cpu);
+
+    begin(here, cpu, now);
+    if (put_back(here, cpu))
+        end_back(here, cpu);
+    set_idle(here, false);
+}
+
+/* CPUs that real-time tasks take, or that go: the task of such a CPU waits again.  */
 static void take_cores(void) {
     for (u32 cpu = 0; cpu < core_count; cpu++) {
         struct core *core = &cores[cpu];
@@ -459,7 +524,10 @@ static void take_cores(void) {
             kick(cpu);
             continue;
         }
-        set_idle(on_cpu(cpu), false);
+        if (core->goes)
+            go_away(cpu);
+        else
+            release(cpu);
         core->job = NULL;
         if (job)
             enqueue(job, cpu, false);
@@ -553,8 +621,9 @@ static bool add_taker(const char *text) {
     unsigned long long on, off;
     u32 cpu;
 
-    if (sscanf(text, "r,%u,%llu,%llu", &cpu, &on, &off) != 3 || cpu >= core_count || !on || !off)
+    if (sscanf(text + 1, ",%u,%llu,%llu", &cpu, &on, &off) != 3 || cpu >= core_count || !on || !off)
         return false;
+    cores[cpu].goes = *text == 'h';
     cores[cpu].on = on * MICRO;
     cores[cpu].changes = cores[cpu].off = off * MICRO;
     return true;
@@ -587,7 +656,7 @@ static bool add_group(char *text) {
 
     if (*text == 'l')
         return add_limited(text);
-    if (*text == 'r')
+    if (*text == 'r' || *text == 'h')
         return add_taker(text);
     if (colon)
         *colon++ = 0;
@@ -639,7 +708,7 @@ static void tell_found(void) {
     for (u32 group = 1; group < group_count; group++)
         printf("inside %u %llu %llu\n", group, (unsigned long long)groups_seen[group].used,
                whole(groups_seen[group].over.most));
-    for (u32 at = 0; at < job_count && job_count <= 64; at++)
+    for (u32 at = 0; at < job_count && job_count <= MOST_TOLD; at++)
         printf("task %u %u %llu\n", jobs[at].row, at, (unsigned long long)jobs[at].runtime);
 }
 
@@ -707,6 +776,7 @@ int main(int count_of_words, char **words) {
     for (u32 cpu = 0; cpu < core_count; cpu++) {
         cores[cpu] = (struct core){ .tick = TICK + cpu * MICRO, .kick = NONE, .changes = NONE };
         set_idle(on_cpu(cpu), true);
+        on_cpu(cpu)->is_there = 1;
     }
     for (int at = first + 3; at < count_of_words; at++)
         if (!add_group(words[at]))
