@@ -182,8 +182,10 @@ struct on_cpu {
     __u32 ended;
     __u32 cuts;
     struct best best;
-    /* The task that was chosen, and whether it is due, or late. */
+    /* The task that was chosen, one of its leaf that waits and that it goes before, though that one
+     * is behind it, and whether the chosen one is due, or late. */
     __u32 chosen;
+    __u32 passed;
     __u32 chosen_due;
     __u32 chosen_late;
     /* The CPU that has to look for a task, `MOST_CPUS` for none, and whether it is interrupted; and

@@ -20,8 +20,11 @@
 #define TURNS_NS 500000ULL
 /* The least slice where a limit leaves less: a timer ends it. */
 #define LEAST_SLICE_NS 250000ULL
-/* Who wakes interrupts a task of its leaf that is ahead by this. */
+/* Who wakes interrupts a task of its leaf that is ahead by this, and is before others by as much. */
 #define AHEAD_NS (SLICE_NS / 3)
+/* A task whose slice ends goes on beside one of its leaf that is behind it by no more, and has run
+ * since it woke: to change them costs a switch, and often a move to another CPU. */
+#define STAY_NS SLICE_NS
 /* A leaf that is behind by as much when it wakes is no sleeper, which gains by a lead. */
 #define LONG_SLEEP_NS 48000000ULL
 #define DEFAULT_WEIGHT 100
@@ -69,6 +72,8 @@ struct task {
      * mask. */
     u32 mask_tree;
     u32 has_mask;
+    /* Whether it has not run since it woke. */
+    u32 has_woken;
     u64 since_ns;
     /* How much of its time was charged, and that over its weight. */
     u64 charged_ns;
@@ -300,6 +305,16 @@ static __always_inline void leave_leaf(struct on_cpu *here, u32 number, u64 runt
     task->is_passing = 0;
 }
 
+/* Who slept is a little before others of its leaf, but no more than before its sleep. One that is new
+ * is not behind them: with more a row of tasks, each new, would keep all others waiting. */
+static __always_inline void begin_clock(struct task *task, struct leaf *leaf)
+{
+    u64 lead = task->clock ? AHEAD_NS : 0;
+
+    if (task->clock + lead < leaf->task_clock)
+        task->clock = leaf->task_clock - lead;
+}
+
 /* A task of its leaf wants to run: it wakes, or its slice ends. */
 static __always_inline void arrive(struct on_cpu *here, u32 number, u64 runtime)
 {
@@ -314,9 +329,8 @@ static __always_inline void arrive(struct on_cpu *here, u32 number, u64 runtime)
     } else if (task->state == AWAY) {
         wake(here, task->row);
         count_waiting(leaf, 1);
-        /* who slept is not behind others of its leaf */
-        if (task->clock < leaf->task_clock)
-            task->clock = leaf->task_clock;
+        task->has_woken = 1;
+        begin_clock(task, leaf);
     }
     task->state = ARRIVING;
 }
@@ -328,7 +342,7 @@ static __always_inline void run(struct on_cpu *here, u32 number, u32 cpu, bool i
     struct task *task = task_at(number);
     struct leaf *leaf = leaf_of(task->row);
     struct on_cpu *on = on_cpu(cpu);
-    u64 slice = left_above(leaf);
+    u64 slice = left_above(leaf), clock = task->clock;
 
     if (task->state == QUEUED)
         take_out(here, number);
@@ -339,13 +353,16 @@ static __always_inline void run(struct on_cpu *here, u32 number, u32 cpu, bool i
     on->is_due = is_due;
     on->slice_ns = is_late ? TURN_NS : (s64)slice < (s64)LEAST_SLICE_NS ? LEAST_SLICE_NS : slice;
     on->deadline_ns = leaf->deadline_ns;
-    if (task->clock > leaf->task_clock)
-        leaf->task_clock = task->clock;
+    /* (who wakes is not behind one that waits) */
+    if (here->passed && task_at(here->passed)->clock < clock)
+        clock = task_at(here->passed)->clock;
+    if (clock > leaf->task_clock)
+        leaf->task_clock = clock;
     leaf->due_picks += is_due;
     task->cpu = cpu;
     task->paid = pay(here, task->row, cpu);
     task->state = RUNS;
-    task->is_extended = 0;
+    task->is_extended = task->has_woken = 0;
 }
 
 /* ---- Choices */
@@ -418,7 +435,7 @@ static __noinline int look(struct on_cpu *here)
 }
 
 /* Whether a task whose slice has ended goes on in the place of the one that was chosen: it waits
- * too, but in no tree yet. Tasks of one leaf go by their own clocks. */
+ * too, but in no tree yet. Tasks of one leaf go by their own clocks, and stay where these are near. */
 static __noinline bool goes_on(struct on_cpu *here, u32 number, u32 other)
 {
     struct task *task = task_at(number), *next = task_at(other);
@@ -431,7 +448,7 @@ static __noinline bool goes_on(struct on_cpu *here, u32 number, u32 other)
     if (here->chosen_late)
         return false;
     if (leaf == its)
-        return task->clock <= next->clock;
+        return task->clock <= next->clock + (next->has_woken ? 0 : STAY_NS);
     if (leaf->is_due != here->chosen_due)
         return leaf->is_due;
     if (leaf->is_due)

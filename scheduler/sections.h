@@ -154,6 +154,7 @@ static __always_inline u32 do_decide(struct on_cpu *here, u32 own)
         return task->row;
     }
     if (goes_on(here, here->about, here->chosen)) {
+        here->passed = task_at(here->chosen)->row == task->row ? here->chosen : 0;
         here->chosen = here->about;
         here->chosen_due = leaf->is_due;
         here->chosen_late = 0;
@@ -309,7 +310,7 @@ static __always_inline void begin(struct on_cpu *here, u32 own, u64 now)
     pass(now);
     here->stage = here->then = DONE;
     here->cpu = own;
-    here->about = here->cuts = here->ended = here->is_ending = here->chosen = 0;
+    here->about = here->cuts = here->ended = here->is_ending = here->chosen = here->passed = 0;
     here->tree = MOST_TREES;
     here->interrupts = 0;
     here->kick = here->picked_for = MOST_CPUS;

@@ -1,6 +1,7 @@
 """The scheduler's rule and queues in a model of CPUs (tests/kernel/simulated.c): each pick is one
 that the proved rule allows, and each group has its part. Then what crowds, masks, limits and rounds
 do to others."""
+import math
 import random
 import shutil
 import subprocess
@@ -16,7 +17,7 @@ TOP = Path(__file__).resolve().parents[2]
 SOURCE = TOP / "tests/kernel/simulated.c"
 SECONDS = 5
 # Lines of what was seen, beside the steps.
-FOUND = ("used ", "lacks ", "over ", "delay ", "inside ", "task ", "stalled ")
+FOUND = ("used ", "lacks ", "over ", "delay ", "inside ", "task ", "moves ", "switches ", "stalled ")
 # CPUs, groups, the hundredths of a CPU that each should have, and how far it may be off. Turns of
 # 100 ms begin as long after a tick as the name says. Without a charge at a waking c is 4 short.
 ALWAYS = "0,0,0,-1"
@@ -98,8 +99,9 @@ def test_rule_in_a_model(program, cpus, groups, parts, most, seed):
 class Case:
     """A host, and what has to hold. Numbers are by row, from 1 on: hundredths of a CPU and how far
     they may be off; the most milliseconds that a window lacks of the guarantee, or is over a limit;
-    the most that half of those that wake wait, and 99 of 100; and the least seconds of a task, by its
-    place."""
+    the most that half of those that wake wait, and 99 of 100; the least seconds of a task, by its
+    place; how often tasks are moved in a second at most. Then how often a CPU changes its task so
+    long."""
 
     cpus: int
     groups: tuple[str, ...]
@@ -110,6 +112,8 @@ class Case:
     delay: dict[int, float] = field(default_factory=dict)
     longest: dict[int, float] = field(default_factory=dict)
     tasks: dict[int, float] = field(default_factory=dict)
+    moves: dict[int, float] = field(default_factory=dict)
+    switches: float = 0
     seconds: int = 20
     options: tuple[str, ...] = ("-p", "1000")
 
@@ -256,7 +260,16 @@ CASES = {
     # inside of a leaf
     "a sleeper among eight of its leaf": Case(
         4, (f"a,200,0,8,{ALWAYS}:g=2000", "+w,200,0,1,1000,9000,0,-1", f"a,200,0,4,{ALWAYS}:g=2000"),
-        delay={1: 4}),
+        delay={1: 2.1}, longest={1: 4}),
+    "three of a leaf on two CPUs": Case(
+        2, (f"a,200,0,3,{ALWAYS}:g=2000",), tasks={0: 13, 1: 13, 2: 13}, moves={1: 150},
+        switches=80),
+    "eight of each of two leaves": Case(
+        2, (f"a,100,0,8,{ALWAYS}:g=1000", f"a,100,0,8,{ALWAYS}:g=1000"), points(100, 100),
+        tasks=dict.fromkeys(range(16), 2.4), switches=150),
+    # (each begins beside the others of its leaf; none of them waits for a row of new ones)
+    "new tasks one after another in a leaf": Case(
+        1, (f"a,100,0,2,{ALWAYS}:g=1000", "+f,100,0,1,1300,1,0,-1"), tasks={0: 4, 1: 4}),
     "two of nice 0 among six of nice 19": Case(
         4, (f"a,200,0,2,{ALWAYS}:g=2000", f"+a,200,0,6,{ALWAYS}:nice=19",
             f"a,200,0,4,{ALWAYS}:g=2000"), tasks={0: 4, 1: 4}, seconds=5),
@@ -295,6 +308,11 @@ def broken(case: Case, found: dict[str, list[list[int]]]) -> list[str]:
                  if ms[row] > most]
     says += [f"task {at} has {ns / 10**9:.2f} s" for _, at, ns in found.get("task", [])
              if ns < case.tasks.get(at, 0) * 10**9]
+    says += [f"{all_of / case.seconds:.0f} moves a second of row {row}"
+             for row, all_of, _ in found.get("moves", [])
+             if all_of > case.moves.get(row, math.inf) * case.seconds]
+    each_second = found["switches"][0][0] / case.seconds / case.cpus
+    says += [f"{each_second:.0f} switches a second"] * (0 < case.switches < each_second)
     return says + [f"the watchdog ends it after {ns / 10**9:.1f} s"
                    for _, ns in found.get("stalled", [])]
 

@@ -21,7 +21,9 @@
    NS`: the most that a window lacked of the guarantee, or of a CPU for each task that wants;
    `over ROW NS`: the most that a window was over the limit; `delay ROW MEDIAN_NS NS`: how long who
    woke waited, and 99 of 100. `inside GROUP NS NS` has the use and the excess of a group with a
-   limit, `task ROW AT NS` the use of a task. `stalled ROW NS` is the end by the kernel's watchdog.
+   limit, `task ROW AT NS` the use of a task. `moves ROW ALL MOST` is how often tasks of a row were
+   moved to another CPU, and the most that one was; `switches COUNT` how often a CPU took another task
+   than it had last. `stalled ROW NS` is the end by the kernel's watchdog.
  */
 #define _GNU_SOURCE
 #include <stdbool.h>
@@ -78,10 +80,12 @@ struct job {
     u64 runtime, left, wakes_at, due;
     /* When it woke, if it has not run since then, and when it came into its queue.  */
     u64 woke, ready;
+    u32 moves;
 };
 
 struct core {
-    struct job *job;
+    /* The job that it has, and the one that it had last.  */
+    struct job *job, *last;
     s64 slice;
     u64 since, tick, kick;
     /* Whether a real-time task has it, or it has gone, and when that changes; how long it is so, and
@@ -110,7 +114,7 @@ static struct job jobs[MOST_JOBS];
 static struct core cores[MOST_CORES];
 static struct seen rows_seen[MOST_ROWS], groups_seen[MOST_GROUPS];
 static u32 job_count, core_count, row_count = 1, group_count = 1, budget_count = 1;
-static u64 now, counted, seed, first_wake = NONE, first_due = NONE;
+static u64 now, counted, seed, first_wake = NONE, first_due = NONE, switches;
 /* The options -p, -j, -o.  */
 static u64 plan_every = NONE, jitter, overrun;
 
@@ -186,7 +190,9 @@ static void set_on(u32 cpu, struct job *job) {
     u64 slice = on_cpu(cpu)->slice_ns;
 
     note_delay(job);
-    core->job = job;
+    job->moves += job->cpu != cpu;
+    switches += core->last != job;
+    core->job = core->last = job;
     job->way = ON_CPU;
     job->cpu = cpu;
     core->slice = slice;
@@ -691,6 +697,18 @@ static unsigned long long whole(double ns) {
     return ns > 0 ? (unsigned long long)ns : 0;
 }
 
+/* How often tasks of a row were moved.  */
+static void tell_moves(u32 row) {
+    u32 all = 0, most = 0;
+
+    for (u32 at = 0; at < job_count; at++) {
+        u32 moves = jobs[at].row == row ? jobs[at].moves : 0;
+        all += moves;
+        most = moves > most ? moves : most;
+    }
+    printf("moves %u %u %u\n", row, all, most);
+}
+
 static void tell_found(void) {
     for (u32 row = 0; row < row_count; row++) {
         struct seen *each = &rows_seen[row];
@@ -710,6 +728,9 @@ static void tell_found(void) {
                whole(groups_seen[group].over.most));
     for (u32 at = 0; at < job_count && job_count <= MOST_TOLD; at++)
         printf("task %u %u %llu\n", jobs[at].row, at, (unsigned long long)jobs[at].runtime);
+    for (u32 row = 1; row < row_count && job_count <= MOST_TOLD; row++)
+        tell_moves(row);
+    printf("switches %llu\n", (unsigned long long)switches);
 }
 
 /* The numbers of groups with a limit, and of leaves: those above first.  */
