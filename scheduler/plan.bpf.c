@@ -45,10 +45,9 @@ volatile u32 rows = 1, budget_count = 1;
 volatile u32 tree = 1;
 /* Whether the next plan is the first one before the scheduler is attached. */
 bool begins = true;
-u64 exit_kind, unplanned;
-/* The queue of tasks without a number, and how often a CPU takes one beside others that wait. */
+u64 exit_kind;
+/* The queue of tasks without a number. */
 #define UNPLANNED 1
-#define UNPLANNED_NS 2000000ULL
 
 struct beat {
     struct bpf_timer timer;
@@ -348,15 +347,6 @@ static __always_inline void set_alarm(u32 cpu, u64 slice)
         bpf_timer_start(&alarm->timer, slice, BPF_F_TIMER_CPU_PIN);
 }
 
-/* Whether a CPU takes a task without a number before others. */
-static __always_inline bool is_unplanned_next(struct on_cpu *on, u64 now)
-{
-    if (!unplanned || now < on->unplanned_ns)
-        return false;
-    on->unplanned_ns = now + UNPLANNED_NS;
-    return scx_bpf_dsq_move_to_local(UNPLANNED);
-}
-
 /* The slice of the task before ends when the kernel hands it over, unless it goes on. */
 SEC("struct_ops/plan_dispatch")
 void BPF_PROG(plan_dispatch, s32 cpu, struct task_struct *prev)
@@ -371,8 +361,10 @@ void BPF_PROG(plan_dispatch, s32 cpu, struct task_struct *prev)
         scx_bpf_task_set_slice(prev, MOMENT_NS);
         return;
     }
-    if (is_unplanned_next(on, now))
+    if (is_unplanned_next(on, now) && scx_bpf_dsq_move_to_local(UNPLANNED)) {
+        set_alarm(cpu, TURN_NS);
         return;
+    }
     if (before) {
         runtime = prev->se.sum_exec_runtime;
         waits_for = tree_of(prev);

@@ -18,6 +18,8 @@
 #define LONGEST_WAIT_NS 10000000000ULL
 #define TURN_NS 50000ULL
 #define TURNS_NS 500000ULL
+/* A CPU takes a task without a number before others once in this time, for as short a turn. */
+#define UNPLANNED_NS 2000000ULL
 /* The least slice where a limit leaves less: a timer ends it. */
 #define LEAST_SLICE_NS 250000ULL
 /* Who wakes interrupts a task of its leaf that is ahead by this, and is before others by as much. */
@@ -93,8 +95,8 @@ OF_TASKS struct task tasks[MOST_TASKS];
 OF_TASKS struct mask masks[MOST_TASKS];
 /* The masks of trees; none is empty. */
 OF_TASKS struct mask tree_masks[MOST_MASKS + 1];
-/* Turns of tasks that waited for long, and picks of one CPU for another. */
-u64 late_turns, handed_over;
+/* Turns of tasks that waited for long, picks of one CPU for another, and tasks without a number. */
+u64 late_turns, handed_over, unplanned;
 
 static __always_inline struct task *task_at(u32 number)
 {
@@ -530,6 +532,15 @@ static __noinline u32 ahead_of(u32 number)
         found = cpu;
     }
     return found;
+}
+
+/* Whether a CPU takes a task without a number before others, if one waits. */
+static __always_inline bool is_unplanned_next(struct on_cpu *on, u64 now)
+{
+    if (!unplanned || now < on->unplanned_ns)
+        return false;
+    on->unplanned_ns = now + UNPLANNED_NS;
+    return true;
 }
 
 /* ---- Masks */

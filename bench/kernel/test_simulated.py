@@ -3,6 +3,7 @@ that the proved rule allows, and each group has its part. Then what crowds, mask
 do to others."""
 import math
 import random
+import re
 import shutil
 import subprocess
 from collections.abc import Iterable
@@ -253,6 +254,14 @@ CASES = {
     "a CPU goes for which some of a hundred masks wait": Case(
         8, ("h,7,100000000,500000", *each_bound(masks(100, 8))),
         tasks=dict.fromkeys(range(100), 0.25), seconds=5),
+    # more tasks than numbers: four that always want have none
+    "tasks without a number": Case(
+        2, (f"a,100,0,2,{ALWAYS}:g=1000", "t,100,10000,65533,1,999999999,999999999,-1:g=100",
+            f"+a,100,10000,4,{ALWAYS}"), {1: (197, 1), 2: (2.5, 0.5)}, {1: 20}, seconds=10),
+    # all leaves that there may be
+    "4095 leaves": Case(
+        2, (f"a,100000,0,2,{ALWAYS}:g=1000", *(f"a,24,0,1,{ALWAYS}:g=0.244" for _ in range(4094))),
+        {1: (100, 0.5)}, {1: 60}, seconds=10, options=("-p", "5000")),
     # limits of groups above leaves
     "four containers of a pod at its limit wake": Case(
         4, ("l,100000,0", *pod(4), "w,300,0,1,2000,8000,0,-1:g=3000"), {5: (20, 0.5)},
@@ -324,6 +333,33 @@ def test_what_others_cannot_do(program, name):
     case = CASES[name]
     lines = lines_of(program, ["-q", *case.options], 1, case.seconds, case.cpus, case.groups)
     assert broken(case, found_in(lines)) == []
+
+
+# Hosts with tasks that sleep, of which these rows are seen.
+SLEEPERS = {"four-web": [1], "four-kube": [2, 4, 5, 6, 7], "four-farm": [1, 2, 3, 4, 5, 6],
+            "two-eight": [2], "two-flip": [1], "two-turns": [1, 2], "a CPU goes and comes": [2],
+            "one wakes beside one that uses its guarantee": [1, 3],
+            "amounts that change by a third": [3], "a sleeper among eight of its leaf": [1],
+            "two of four CPUs are taken for a moment, again and again": [2],
+            "a pool and 400 tasks at a limit": [2], "1000 bound tasks beside idle CPUs": [1]}
+# One tick, in milliseconds.
+TICK = 4
+
+
+def waited(program, case: Case, groups: Iterable[str]) -> dict[int, list[float]]:
+    """Of each row how many milliseconds who wakes waits: in the middle, and 99 of 100."""
+    lines = lines_of(program, ["-q", *case.options], 1, 8, case.cpus, groups)
+    return {row: [ns / 10**6 for ns in times] for row, *times in found_in(lines)["delay"]}
+
+
+@pytest.mark.parametrize("name, rows", SLEEPERS.items(), ids=list(SLEEPERS))
+def test_waits_beside_shares_alone(program, name, rows):
+    """Who wakes waits no more than by weighted clocks alone, without guarantees, or a tick more."""
+    case = CASES[name]
+    here = waited(program, case, case.groups)
+    plain = waited(program, case, [re.sub(":g=[0-9.]*", "", group) for group in case.groups])
+    for row in rows:
+        assert all(had <= than + TICK for had, than in zip(here[row], plain[row], strict=True))
 
 
 @pytest.mark.parametrize("name", HELD_BACK)

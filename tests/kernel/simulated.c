@@ -59,11 +59,11 @@ struct bpf_spin_lock { int is_held; };
 #define SIGNAL (2 * MICRO)
 /* After so long in the queue of a scheduler the kernel ends it.  */
 #define WATCHDOG (TIMEOUT_MS * MILLI)
-#define MOST_JOBS 30000
+#define MOST_JOBS 70000
 #define MOST_CORES 64
-#define MOST_ROWS 1024
+#define MOST_ROWS MOST_LEAVES
 #define MOST_GROUPS 256
-#define MOST_DELAYS 100000
+#define MOST_DELAYS 20000
 /* The use of each task is told of as many.  */
 #define MOST_TOLD 128
 #define NONE UINT64_MAX
@@ -114,6 +114,9 @@ static struct job jobs[MOST_JOBS];
 static struct core cores[MOST_CORES];
 static struct seen rows_seen[MOST_ROWS], groups_seen[MOST_GROUPS];
 static u32 job_count, core_count, row_count = 1, group_count = 1, budget_count = 1;
+/* The kernel's queue of tasks without a number: a ring.  */
+static struct job *unnumbered[MOST_JOBS];
+static u32 first_unnumbered, unnumbered_count;
 static u64 now, counted, seed, first_wake = NONE, first_due = NONE, switches;
 /* The options -p, -j, -o.  */
 static u64 plan_every = NONE, jitter, overrun;
@@ -184,10 +187,9 @@ static void note_delay(struct job *job) {
     job->woke = 0;
 }
 
-/* A task is on a CPU.  */
-static void set_on(u32 cpu, struct job *job) {
+/* A task is on a CPU for a slice.  */
+static void set_on_for(u32 cpu, struct job *job, u64 slice) {
     struct core *core = &cores[cpu];
-    u64 slice = on_cpu(cpu)->slice_ns;
 
     note_delay(job);
     job->moves += job->cpu != cpu;
@@ -201,8 +203,31 @@ static void set_on(u32 cpu, struct job *job) {
         core->kick = now + slice;
 }
 
+static void set_on(u32 cpu, struct job *job) {
+    set_on_for(cpu, job, on_cpu(cpu)->slice_ns);
+}
+
 static u32 tree_of(struct job *job) {
     return job->mask ? SOME_CPUS : job->is_bound ? CPU_TREES + job->cpu : ALL_CPUS;
+}
+
+/* As wait_unplanned.  */
+static void wait_unplanned(struct job *job) {
+    unnumbered[(first_unnumbered + unnumbered_count++) % MOST_JOBS] = job;
+    if (!cores[job->cpu].job)
+        kick(job->cpu);
+}
+
+/* A CPU takes a task of the kernel's queue. Returns whether one waits there.  */
+static bool take_unplanned(u32 cpu) {
+    struct job *job = unnumbered[first_unnumbered];
+
+    if (!unnumbered_count)
+        return false;
+    first_unnumbered = (first_unnumbered + 1) % MOST_JOBS;
+    unnumbered_count--;
+    set_on_for(cpu, job, TURN_NS);
+    return true;
 }
 
 /* As plan_enqueue.  */
@@ -212,6 +237,10 @@ static void enqueue(struct job *job, u32 cpu, bool wakes) {
 
     job->ready = now;
     job->way = READY;
+    if (!job->number) {
+        wait_unplanned(job);
+        return;
+    }
     begin(here, cpu, now);
     come(here, job->number, job->row, tree_of(job), job->runtime);
     work(here, cpu);
@@ -230,6 +259,12 @@ static void dispatch(u32 cpu, bool goes) {
     struct on_cpu *on = on_cpu(cpu);
     u32 before = goes ? last->number : 0, found;
 
+    if (is_unplanned_next(on, now) && unnumbered_count) {
+        take_unplanned(cpu);
+        if (goes)
+            enqueue(last, cpu, false);
+        return;
+    }
     begin(on, cpu, now);
     take_next(on, before, true, goes ? last->runtime : 0, goes ? tree_of(last) : 0);
     work(on, cpu);
@@ -237,10 +272,12 @@ static void dispatch(u32 cpu, bool goes) {
     tell_steps(on);
     kick_noted(on);
     core->job = NULL;
-    if (goes && found != before)
+    if (goes && (found != before || !before))
         enqueue(last, cpu, false);
     if (found && !task_at(found)->is_passing)
         set_on(cpu, &jobs[found - 1]);
+    else if (!found)
+        take_unplanned(cpu);
 }
 
 /* Where a task of turns is in its turn.  */
@@ -325,10 +362,12 @@ static void end_work(u32 cpu) {
         first_wake = job->wakes_at;
     job->way = ASLEEP;
     rows_seen[job->row].wants--;
-    begin(on_cpu(cpu), cpu, now);
-    leave(on_cpu(cpu), job->number, job->runtime);
-    work_alone(on_cpu(cpu));
-    tell_steps(on_cpu(cpu));
+    if (job->number) {
+        begin(on_cpu(cpu), cpu, now);
+        leave(on_cpu(cpu), job->number, job->runtime);
+        work_alone(on_cpu(cpu));
+        tell_steps(on_cpu(cpu));
+    }
     dispatch(cpu, false);
 }
 
@@ -468,6 +507,8 @@ static void end_back(struct on_cpu *here, u32 cpu) {
 static void dequeue(struct job *job) {
     struct on_cpu *here = on_cpu(job->cpu);
 
+    if (!job->number)
+        return;
     begin(here, job->cpu, now);
     withdraw(here, job->number);
     work_alone(here);
@@ -489,7 +530,7 @@ static void free_jobs(void) {
             dequeue(job);
         job->is_bound = false;
         job->mask = 0;
-        if (job->way == READY)
+        if (job->way == READY && job->number)
             enqueue(job, job->cpu, false);
     }
 }
@@ -635,20 +676,29 @@ static bool add_taker(const char *text) {
     return true;
 }
 
+/* As plan_init_task.  */
+static void set_task(struct job *job) {
+    struct task *task = task_at(job->number);
+
+    masks[job->number].words[0] = job->mask;
+    task->row = job->row;
+    task->weight = job->weight;
+    task->mask_tree = MOST_MASKS;
+}
+
 static void add_jobs(struct job model, u64 count_of_jobs) {
     for (; count_of_jobs; count_of_jobs--) {
         struct job *job = &jobs[job_count++];
         *job = model;
-        job->number = job_count;
+        job->number = job_count < MOST_TASKS ? job_count : 0;
+        unplanned += !job->number;
         if (!job->is_bound)
             job->cpu = chance(core_count);
         job->wakes_at = model.kind == 't' || model.phase ? model.phase : chance(200) * MICRO;
         if (job->wakes_at < first_wake)
             first_wake = job->wakes_at;
-        masks[job->number].words[0] = job->mask;
-        task_at(job->number)->row = job->row;
-        task_at(job->number)->weight = job->weight;
-        task_at(job->number)->mask_tree = MOST_MASKS;
+        if (job->number)
+            set_task(job);
     }
 }
 
