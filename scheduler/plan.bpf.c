@@ -347,6 +347,15 @@ static __always_inline void set_alarm(u32 cpu, u64 slice)
         bpf_timer_start(&alarm->timer, slice, BPF_F_TIMER_CPU_PIN);
 }
 
+/* Whether a CPU takes a task without a number before others. Its turn is shorter than a tick. */
+static __always_inline bool takes_unplanned(struct on_cpu *on, u32 cpu, u64 now)
+{
+    if (!is_unplanned_next(on, now) || !scx_bpf_dsq_move_to_local(UNPLANNED))
+        return false;
+    set_alarm(cpu, TURN_NS);
+    return true;
+}
+
 /* The slice of the task before ends when the kernel hands it over, unless it goes on. */
 SEC("struct_ops/plan_dispatch")
 void BPF_PROG(plan_dispatch, s32 cpu, struct task_struct *prev)
@@ -361,10 +370,8 @@ void BPF_PROG(plan_dispatch, s32 cpu, struct task_struct *prev)
         scx_bpf_task_set_slice(prev, MOMENT_NS);
         return;
     }
-    if (is_unplanned_next(on, now) && scx_bpf_dsq_move_to_local(UNPLANNED)) {
-        set_alarm(cpu, TURN_NS);
+    if (takes_unplanned(on, cpu, now))
         return;
-    }
     if (before) {
         runtime = prev->se.sum_exec_runtime;
         waits_for = tree_of(prev);
@@ -528,8 +535,8 @@ void BPF_PROG(plan_cgroup_move, struct task_struct *p, struct cgroup *from, stru
     task_at(number_of(p))->version = 0;
 }
 
-/* A CPU that goes has no task left that another CPU may take. Those that it alone may run the kernel
- * moves. */
+/* A CPU that goes has no task left that another CPU may take. Those that it alone may run the
+ * kernel moves. */
 SEC("struct_ops/plan_cpu_offline")
 void BPF_PROG(plan_cpu_offline, s32 cpu)
 {

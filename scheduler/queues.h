@@ -307,8 +307,8 @@ static __always_inline void leave_leaf(struct on_cpu *here, u32 number, u64 runt
     task->is_passing = 0;
 }
 
-/* Who slept is a little before others of its leaf, but no more than before its sleep. One that is new
- * is not behind them: with more a row of tasks, each new, would keep all others waiting. */
+/* Who slept is a little before others of its leaf, but no more than before its sleep. One that is
+ * new is not behind them: with more a row of tasks, each new, would keep all others waiting. */
 static __always_inline void begin_clock(struct task *task, struct leaf *leaf)
 {
     u64 lead = task->clock ? AHEAD_NS : 0;
@@ -437,7 +437,7 @@ static __noinline int look(struct on_cpu *here)
 }
 
 /* Whether a task whose slice has ended goes on in the place of the one that was chosen: it waits
- * too, but in no tree yet. Tasks of one leaf go by their own clocks, and stay where these are near. */
+ * too, but in no tree yet. Tasks of one leaf go by their clocks, and stay where these are near. */
 static __noinline bool goes_on(struct on_cpu *here, u32 number, u32 other)
 {
     struct task *task = task_at(number), *next = task_at(other);

@@ -331,7 +331,8 @@ static __always_inline void withdraw(struct on_cpu *here, u32 number)
     here->stage = WITHDRAW;
 }
 
-/* A task that was picked for a CPU that it cannot have now waits again. Returns whether there is one. */
+/* A task that was picked for a CPU that it cannot have now waits again. Returns whether there is
+ * one. */
 static __always_inline bool put_back(struct on_cpu *here, u32 cpu)
 {
     u32 number = on_cpu(cpu)->handed;
@@ -342,8 +343,8 @@ static __always_inline bool put_back(struct on_cpu *here, u32 cpu)
     return number;
 }
 
-/* A CPU goes. The task that was picked for it waits again, then each that waits there and could do so
- * at another CPU: one in a section. Returns whether there was one. */
+/* A CPU goes. The task that was picked for it waits again, then each that waits there and could do
+ * so at another CPU: one in a section. Returns whether there was one. */
 static __noinline bool go(struct on_cpu *here, u32 cpu)
 {
     struct on_cpu *on = on_cpu(cpu);
