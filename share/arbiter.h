@@ -36,10 +36,10 @@
  * each. Where a call does not answer 0, all that it may write is as it was, but for `row` of the checks and of
  * arbiter_refused_row.
  *
- * arbiter_refused_row, arbiter_reading, arbiter_leaf_reading, arbiter_written, arbiter_slices, arbiter_period_limit,
- * arbiter_demand, arbiter_planned_host, arbiter_weight_of_shares, arbiter_owned_weight, arbiter_owned_limit,
- * arbiter_least_owned, arbiter_owned_number, arbiter_pod_amount, arbiter_greatest_part, arbiter_allowed, arbiter_lost,
- * arbiter_version and arbiter_name ask for no memory: their answers are exact.
+ * arbiter_refused_row, arbiter_reading, arbiter_leaf_reading, arbiter_round, arbiter_swings, arbiter_judged, arbiter_written,
+ * arbiter_slices, arbiter_period_limit, arbiter_demand, arbiter_planned_host, arbiter_weight_of_shares, arbiter_owned_weight,
+ * arbiter_owned_limit, arbiter_least_owned, arbiter_owned_number, arbiter_pod_amount, arbiter_greatest_part, arbiter_allowed,
+ * arbiter_lost, arbiter_version and arbiter_name ask for no memory: their answers are exact.
  */
 #ifndef ARBITER_H
 #define ARBITER_H
@@ -365,7 +365,7 @@ uint32_t arbiter_serve(uint64_t processors, uint64_t period_us, uint64_t slice_u
  * used, it is hungry where tasks waited for half of the round. That is a guess. The tasks of a stopped group could have used
  * the whole round each. Of another, so could one that is starved or new; each other used all that it wanted. A hungry group
  * asks for everything where that is the whole host, where nothing was used, or where `ran` adds up to less than 19 twentieths
- * of what was used. Of arbiter_hold, `asked` stands in `used`, and `hungry` is 1 where it is 1000000.
+ * of what was used. arbiter_round makes of readings what arbiter_hold reads.
  * Reads:
  *   passed_ns   nanoseconds of the round, above 0
  *   used_us     microseconds that it used
@@ -402,6 +402,59 @@ uint32_t arbiter_reading(uint64_t processors, uint64_t period_us, uint64_t slice
  * Answers 0, or 1 to 3 where the host is refused; 15 where no time passed. */
 uint32_t arbiter_leaf_reading(uint64_t processors, uint64_t period_us, uint64_t slice_us, uint64_t passed_ns, uint64_t used_ns,
                               uint64_t waited_ns, uint64_t some_ns, uint64_t *used, uint64_t *asked);
+
+/* What a round asks for each leaf, from their readings, and what each was not served in the last one. arbiter_hold reads
+ * `demands` and `all`, so a round asks for a leaf what its reading asks for.
+ * Reads:
+ *   planned  slices that the plan of the last round gave the leaf, 0 for none
+ *   used     slices that it used
+ *   asked    slices that it asks for
+ *   hungry   not 0 where it would have used more
+ * Writes:
+ *   demands   what stands in `used` of arbiter_hold: what it used where it asks for 1000000 slices or more, else what it asks
+ *             for
+ *   all       what stands in `hungry` of arbiter_hold: 1 where it asks for 1000000 slices or more, else 0
+ *   unserved  slices of its plan that it did not use; 0 where it would not have used more
+ * Answers 0, or 50 where columns differ in length. */
+uint32_t arbiter_round(const uint64_t *planned, size_t planned_length, const uint64_t *used, size_t used_length,
+                       const uint64_t *asked, size_t asked_length, const uint8_t *hungry, size_t hungry_length,
+                       uint64_t *demands, size_t demands_length, uint8_t *all, size_t all_length,
+                       uint64_t *unserved, size_t unserved_length);
+
+/* For how many rounds in a row numbers of groups go back, and turn: limits, or what is asked for. A number goes back where it
+ * is that of two rounds before to a twentieth of the greater of the two, and a quarter of the greater or more off the last. It
+ * turns where it rose and falls, or fell and rises. One that goes back turns.
+ * Reads:
+ *   now     the number of each group in this round
+ *   last    that of the last round
+ *   before  that of the round before
+ * Changes:
+ *   backs  the rounds in a row in which it went back, up to the last one; then with this one, 0 where it does not now
+ *   turns  those in which it turned; then with this one, 0 where it does not now
+ * Answers 0, or 50 where columns differ in length. */
+uint32_t arbiter_swings(const uint64_t *now, size_t now_length, const uint64_t *last, size_t last_length,
+                        const uint64_t *before, size_t before_length, uint64_t *backs, size_t backs_length,
+                        uint64_t *turns, size_t turns_length);
+
+/* What limits did in the last rounds. The last 60 without limits are judged, and the last 60 under limits; where fewer were
+ * under limits, both numbers are 0. Columns have the slices of all groups in each round, the last round last.
+ * Reads:
+ *   free_used     slices used in rounds without limits
+ *   free_planned  slices planned for these
+ *   held_used     slices used in rounds under limits
+ *   held_planned  slices planned for these
+ *   sure          of those used under limits, slices of groups that were hungry for sure
+ *   guesses       slices of groups of which that was a guess
+ * Writes:
+ *   lost     the slices that limits served too little, as arbiter_lost has them; 0 where they did no harm
+ *   guessed  by how many slices the guesses are more than what was sure, 0 where they are not
+ * Answers 0, or 50 where columns of rounds without limits differ in length, or of those under limits; 9 where a sum of the last
+ *   rounds is above 2^60. */
+uint32_t arbiter_judged(const uint64_t *free_used, size_t free_used_length,
+                        const uint64_t *free_planned, size_t free_planned_length,
+                        const uint64_t *held_used, size_t held_used_length,
+                        const uint64_t *held_planned, size_t held_planned_length, const uint64_t *sure, size_t sure_length,
+                        const uint64_t *guesses, size_t guesses_length, uint64_t *lost, uint64_t *guessed);
 
 /* What is written for a leaf's limit of a round. A quota lies from the limit to a sixty-fourth above it, and not above the own
  * limit. What stands there stays, since the kernel gives a new quota at each writing; else it is a 128th above the limit. A

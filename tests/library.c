@@ -125,6 +125,25 @@ int main(void)
         return 19;
     if (arbiter_lost(90, 100, 84, 100, &host[2]) != 0 || host[2] != 1 || arbiter_lost(90, 100, 85, 100, &host[2]) != 0 || host[2] != 0)
         return 19;
+    /* Two leaves that ask for 9 slices and for everything used 5, and the first was planned 8. Its limit goes back. */
+    const uint64_t given[2] = {8, 5}, spent[2] = {5, 5}, read_asks[2] = {9, 1000000};
+    const uint8_t lacking[2] = {1, 1};
+    uint64_t asks_now[2] = {7, 7}, short_of[2] = {7, 7}, backs[2] = {3, 3}, turns[2] = {3, 3}, judged[2] = {7, 7};
+    uint8_t everything[2] = {7, 7};
+    if (arbiter_round(given, 2, spent, 2, read_asks, 2, lacking, 1, asks_now, 2, everything, 2, short_of, 2) != 50 || asks_now[0] != 7)
+        return 19;
+    if (arbiter_round(given, 2, spent, 2, read_asks, 2, lacking, 2, asks_now, 2, everything, 2, short_of, 2) != 0)
+        return 19;
+    if (asks_now[0] != 9 || asks_now[1] != 5 || everything[0] != 0 || everything[1] != 1 || short_of[0] != 3 || short_of[1] != 0)
+        return 19;
+    if (arbiter_swings(given, 2, spent, 2, given, 1, backs, 2, turns, 2) != 50 || backs[0] != 3)
+        return 19;
+    if (arbiter_swings(given, 2, spent, 2, given, 2, backs, 2, turns, 2) != 0 || backs[0] != 4 || backs[1] != 0 || turns[0] != 4 || turns[1] != 0)
+        return 19;
+    if (arbiter_judged(given, 2, spent, 2, given, 2, spent, 2, spent, 2, spent, 1, &judged[0], &judged[1]) != 50 || judged[0] != 7 || judged[1] != 7)
+        return 19;
+    if (arbiter_judged(given, 2, spent, 2, given, 2, spent, 2, spent, 2, given, 2, &judged[0], &judged[1]) != 0 || judged[0] != 0 || judged[1] != 0)
+        return 19;
     if (arbiter_weight_of_shares(1024, ARBITER_SHARES_LINEAR) != 39 || arbiter_weight_of_shares(1024, ARBITER_SHARES_LOGARITHMIC) != 100
             || arbiter_weight_of_shares(1024, 0) != 0)
         return 19;

@@ -1,5 +1,5 @@
-"""A model of what numbers that owners set make: weights, limits, and amounts of pods. And of what
-limits allow, and when they do harm.
+"""A model of what numbers that owners set make: weights, limits, and amounts of pods. And of a loop
+that holds a plan: what limits allow, what rounds ask for and leave, and when limits do harm.
 
 It goes by fractions, by real numbers and by time, and shares no code with the library.
 """
@@ -97,3 +97,39 @@ def lost(free, held):
 
     short = part(*free) - Fraction(1, 20) - part(*held)
     return math.ceil(short * held[1]) if short > 0 else 0
+
+
+def asks(used, asked):
+    """What a round asks for a leaf, as `hold` reads it: slices, and whether everything."""
+    return {False: (asked, False), True: (used, True)}[asked // 10**6 > 0]
+
+
+def unserved(planned, used, is_hungry):
+    """Slices of the plan that a hungry leaf would have taken too."""
+    return planned - min(used, planned) if is_hungry else 0
+
+
+def went_back(now, last, before):
+    """By fractions of the greater number."""
+    def part(one, other):
+        return Fraction(abs(one - other), max(one, other, 1))
+
+    near, far = part(now, before) <= Fraction(1, 20), part(now, last) >= Fraction(1, 4)
+    return now != last and near and far
+
+
+def has_turned(now, last, before):
+    """The last number lies outside those beside it: it is the greatest, or the least."""
+    return sorted((now, last, before)).index(last) != 1 and last not in (now, before)
+
+
+def judged(free, held):
+    """What limits did in the last rounds: each round in turn, from the last one back."""
+    def together(rounds):
+        backwards = [list(reversed(each)) for each in rounds]
+        return [sum(each[at] for at in range(60) if at < len(each)) for each in backwards]
+
+    if len(held[0]) < 60:
+        return 0, 0
+    used, planned, sure, guesses = together(held)
+    return lost(together(free), (used, planned)), max(guesses, sure) - sure

@@ -1,4 +1,5 @@
-"""Numbers that owners set: the calls beside a model, and what they refuse."""
+"""Numbers that owners set, and rules of a loop that holds a plan: the calls beside a model, and
+what they refuse."""
 import ctypes
 import itertools
 import random
@@ -7,8 +8,8 @@ import pytest
 
 import arbiter
 from arbiter import LimitFormula, PartKind, WeightFormula, c
-from owned_model import (WEIGHTS, allowed, greatest_part, limit_by, lost, number_for,
-                         pod_amount)
+from owned_model import (WEIGHTS, allowed, asks, greatest_part, has_turned, judged, limit_by, lost,
+                         number_for, pod_amount, unserved, went_back)
 from support import same
 from test_library import number_of
 
@@ -174,6 +175,126 @@ def test_refused_times_and_sums(calls):
         words = [1, 1, 1, 1]
         words[place] = 2**60 + 1
         same(number_of(calls.lost, words[:2], words[2:]), (9, None))
+
+
+@pytest.mark.parametrize("planned, used, asked, is_hungry, told", [
+    (0, 0, 0, False, (0, False, 0)), (8, 5, 9, True, (9, False, 3)),
+    (8, 5, 5, False, (5, False, 0)), (4, 5, 9, True, (9, False, 0)),
+    (8, 5, 10**6, True, (5, True, 3)),
+    (8, 5, 10**6 - 1, True, (10**6 - 1, False, 3)), (5, 5, 0, False, (0, False, 0)),
+    (2**64 - 1, 0, 2**64 - 1, True, (0, True, 2**64 - 1))])
+def test_rounds(calls, planned, used, asked, is_hungry, told):
+    """What a round asks for a leaf, and what it lacked, worked by hand."""
+    same([each[0] for each in calls.round([planned], [used], [asked], [is_hungry])], [*told])
+
+
+def test_many_rounds(calls):
+    """Beside the model. What `hold` asks for each leaf by the two columns is what was read."""
+    drawn = random.Random(20261130)
+    for _ in range(300):
+        leaves = [[drawn.randrange(drawn.choice((3, 100, 2 * 10**6, 2**64))) for _ in range(3)]
+                  for _ in range(drawn.randrange(120))]
+        columns = [[each[at] for each in leaves] for at in range(3)]
+        hungry = [drawn.random() < 0.5 for _ in leaves]
+        found = calls.round(*columns, hungry)
+        same([*zip(*found)], [(*asks(used, asked), unserved(planned, used, flag))
+                              for (planned, used, asked), flag in zip(leaves, hungry)], f"{leaves}")
+    host, asked = arbiter.Host(1, 10**6, 1000), [0, 700, 10**6, 1001, 10**6 - 1]
+    demands, everything, _ = calls.round([0] * 5, [0, 500, 999, 1000, 7], asked, [True] * 5)
+    rows = [arbiter.Row(), *(arbiter.Row(parent=0, demand=each) for each in demands[1:])]
+    same(calls.hold(host, rows, everything).demands, asked)
+
+
+@pytest.mark.parametrize("now, last, before, counts", [
+    (200, 50, 200, (4, 8)), (200, 200, 200, (0, 0)), (0, 0, 0, (0, 0)), (0, 1, 0, (4, 8)),
+    (100, 90, 100, (0, 8)), (100, 75, 100, (4, 8)), (100, 76, 100, (0, 8)), (100, 50, 95, (4, 8)),
+    (100, 50, 94, (0, 8)), (95, 50, 100, (4, 8)), (94, 50, 100, (0, 8)), (3, 2, 1, (0, 0)),
+    (1, 1, 2, (0, 0)), (200, 50, 90, (0, 8)), (2**64 - 1, 0, 2**64 - 1, (4, 8))])
+def test_swings(calls, now, last, before, counts):
+    """Whether a number goes back, and whether it turns, worked by hand."""
+    same(calls.swings([now], [last], [before], [3], [7]), ([counts[0]], [counts[1]]))
+
+
+def test_many_swings(calls):
+    """Beside the model, near the bounds too. A count stops at its greatest value."""
+    drawn, seen = random.Random(20261130), {"back": 0, "turned": 0}
+    for _ in range(300):
+        last = [drawn.randrange(drawn.choice((3, 100, 10**6, 2**64))) for _ in range(100)]
+        now = [drawn.choice((each, 3 * each // 4, each // 2, drawn.randrange(2**64)))
+               for each in last]
+        before = [drawn.choice((each, 19 * each // 20, 19 * each // 20 + 1,
+                                drawn.randrange(2**64))) for each in now]
+        counts = [[drawn.choice((0, 1, 59, 2**64 - 2, 2**64 - 1)) for _ in last] for _ in range(2)]
+        found = calls.swings(now, last, before, *counts)
+        for did, told, rounds, name in zip((went_back, has_turned), found, counts, seen):
+            for words in zip(now, last, before, rounds, told):
+                does = did(*words[:3])
+                same(words[4], min(words[3] + 1, 2**64 - 1) if does else 0, f"{name}: {words}")
+                seen[name] += does
+    assert min(seen.values()) >= 3000, seen
+
+
+@pytest.mark.parametrize("free, held, told", [
+    ((70, 90, 100), (60, 84, 100, 40, 44), (60, 240)),
+    ((70, 90, 100), (59, 84, 100, 40, 44), (0, 0)), ((70, 90, 100), (60, 85, 100, 44, 40), (0, 0)),
+    ((0, 0, 0), (60, 94, 100, 0, 0), (60, 0)), ((1, 90, 100), (200, 84, 100, 0, 1), (60, 60))])
+def test_judged_rounds(calls, free, held, told):
+    """What limits did in rounds that are alike, worked by hand."""
+    same(calls.judged([[each] * free[0] for each in free[1:]],
+                      [[each] * held[0] for each in held[1:]]), told)
+
+
+def test_many_judged_rounds(calls):
+    """Beside the model, of fewer rounds than are judged up to more."""
+    drawn, seen = random.Random(20261130), {"few": 0, "lost": 0, "guessed": 0}
+    for _ in range(2000):
+        most = drawn.choice((3, 100, 10**9, 2**54))
+        counts = drawn.choice((0, 3, 60, 61)), drawn.choice((59, 60, 61, 62))
+        free, held = ([[drawn.randrange(most) for _ in range(count)] for _ in range(columns)]
+                      for count, columns in zip(counts, (2, 4)))
+        found = calls.judged(free, held)
+        same(found, judged(free, held), f"{free}, {held}")
+        for name, is_so in zip(seen, (counts[1] < 60, found[0] > 0, found[1] > 0)):
+            seen[name] += is_so
+    assert min(seen.values()) >= 300, seen
+
+
+def test_refused_rounds(calls):
+    """Columns that differ in length, and a sum above 2^60 of the last rounds alone."""
+    for at in range(4):
+        words = [[1, 2], [3, 4], [5, 6], [True, False]]
+        words[at] = words[at][:1]
+        same(number_of(calls.round, *words), (50, None))
+    for at in range(5):
+        words = [[1, 2] for _ in range(5)]
+        words[at] = words[at][:1]
+        same(number_of(calls.swings, *words), (50, None))
+    for at in range(6):
+        columns = [[1] * 60 for _ in range(6)]
+        columns[at] = [2**60, *[0] * 59]
+        same(number_of(calls.judged, columns[:2], columns[2:]), (0, None))
+        columns[at][59] = 1
+        same(number_of(calls.judged, columns[:2], columns[2:]), (9, None))
+        columns[at] = [1] * 59
+        same(number_of(calls.judged, columns[:2], columns[2:]), (50, None))
+    same(calls.judged([[2**60, *[1] * 60]] * 2, [[2**64 - 1, *[1] * 60]] * 4), (0, 0))
+
+
+def test_refused_rounds_write_nothing(calls):
+    written = [(c.U64 * 3)(7, 7, 7), (c.U8 * 3)(7, 7, 7), (c.U64 * 3)(7, 7, 7)]
+    read = [each for column in ((c.U64 * 3)(), (c.U64 * 3)(), (c.U64 * 3)(), (c.U8 * 3)())
+            for each in (column, 3)]
+    for lengths in ((2, 3, 3), (3, 2, 3), (3, 3, 2)):
+        words = [each for column, length in zip(written, lengths) for each in (column, length)]
+        same(calls.calls.arbiter_round(*read, *words), 50)
+    for lengths in ((2, 3), (3, 2)):
+        words = [written[0], lengths[0], written[2], lengths[1]]
+        same(calls.calls.arbiter_swings(*read[:6], *words), 50)
+    same([*map(list, written)], [[7] * 3] * 3)
+    numbers = c.U64(7), c.U64(8)
+    same(calls.calls.arbiter_judged(*read[:6], read[0], 2, *read[:4],
+                                    *map(ctypes.byref, numbers)), 50)
+    same([each.value for each in numbers], [7, 8])
 
 
 @pytest.mark.parametrize("formula", [0, 7, 2**32 - 1])

@@ -34,6 +34,8 @@ PartKind = enum.IntEnum("PartKind", "CONTAINER INIT_CONTAINER SIDECAR", start=0)
 # Bits of a number of each type.
 BITS = {U8: 8, U32: 32, U64: 64}
 MOST_WORD = 2**64 - 1
+# Rounds under limits that judge them.
+JUDGED_ROUNDS = 60
 # The reasons that name no group, by their numbers: rows share them.
 REASONS = tuple(map(Reason, Kind))
 # The numbers of faults that speak of a row of the tree.
@@ -450,3 +452,41 @@ class Library:
         that of the rounds without limits. Refused by 9 DemandTooLarge.
         """
         return int(self.told("lost", *free, *held)[0])
+
+    def round(self, planned: Sequence[int], used: Sequence[int], asked: Sequence[int],
+              hungry: Sequence[bool]) -> tuple[list[int], list[bool], list[int]]:
+        """The slices and flags that `hold` reads of leaves, from their readings, and what each was
+        not served of the slices that the last plan gave it.
+
+        So the round asks for each leaf what its reading asks. A leaf that would not have used more
+        lacks nothing. Refused by 50 WrongLength.
+        """
+        demands, everything, unserved = self.told(
+            "round", planned, used, asked, flag_column(hungry), count=len(used))
+        return list(demands), list(map(bool, everything)), list(unserved)
+
+    def swings(self, now: Sequence[int], last: Sequence[int], before: Sequence[int],
+               backs: Sequence[int], turns: Sequence[int]) -> tuple[list[int], list[int]]:
+        """For how many rounds in a row numbers of groups went back, and turned.
+
+        `now` has the number of each group in this round, `last` that of the last one and `before`
+        that of the one before. A number goes back if it is that of two rounds before to a
+        twentieth, and a quarter off the last. It turns if it rose and falls, or fell and rises.
+        `backs` and `turns` are the counts up to the last round. Refused by 50 WrongLength.
+        """
+        counts = column(U64, backs, "backs"), column(U64, turns, "turns")
+        self.told("swings", now, last, before, *counts)
+        return counts[0].tolist(), counts[1].tolist()
+
+    def judged(self, free: Sequence[Sequence[int]], held: Sequence[Sequence[int]]
+               ) -> tuple[int, int]:
+        """Harm and guesses of the last `JUDGED_ROUNDS` rounds: the slices that limits served too
+        little, as `lost` has them, and by how much guesses are more than what was sure.
+
+        `free` are the slices used and planned in each round without limits. `held` are those of
+        rounds under limits, then those used by groups that were hungry for sure, and those used
+        where that was a guess. Of fewer rounds under limits both are 0. Refused by 50 WrongLength,
+        and by 9 DemandTooLarge.
+        """
+        lost, guessed = self.told("judged", *free, *held)
+        return int(lost), int(guessed)

@@ -31,6 +31,10 @@ WORDS = {
     "reading": f"{HOST} passed_ns:Q used_us:Q waited_us:Q tasks:I throttled:I allowed_us:Q "
                "ran:Q[] waited:Q[] >used:Q >asked:Q >hungry:I >guess:I",
     "leaf_reading": f"{HOST} passed_ns:Q used_ns:Q waited_ns:Q some_ns:Q >used:Q >asked:Q",
+    "round": "planned:Q[] used:Q[] asked:Q[] hungry:B[] >demands:Q[] >all:B[] >unserved:Q[]",
+    "swings": "now:Q[] last:Q[] before:Q[] <>backs:Q[] <>turns:Q[]",
+    "judged": "free_used:Q[] free_planned:Q[] held_used:Q[] held_planned:Q[] sure:Q[] "
+              "guesses:Q[] >lost:Q >guessed:Q",
     "written": f"{HOST} limit:Q own:Q stands_us:Q tasks:I >quota:Q >weight:Q",
     "script": f"{HOST} hash_key:Q text:B[] >parents:I[] >weights:Q[] >limits:Q[] >demands:Q[] "
               ">quotas:Q[] >periods:Q[] >bursts:Q[] >carries:Q[] >names:B[] >refused_lines:Q[] "

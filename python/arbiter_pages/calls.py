@@ -355,8 +355,8 @@ ROUNDS = (
          " for half of the round. That is a guess. The tasks of a stopped group could have used the"
          " whole round each. Of another, so could one that is starved or new; each other used all"
          " that it wanted. A hungry group asks for everything where that is the whole host, where"
-         " nothing was used, or where `ran` adds up to less than 19 twentieths of what was used. Of"
-         " arbiter_hold, `asked` stands in `used`, and `hungry` is 1 where it is 1000000.",
+         " nothing was used, or where `ran` adds up to less than 19 twentieths of what was used."
+         " arbiter_round makes of readings what arbiter_hold reads.",
          (HOST, PASSED, CallWord("used_us", U64, "microseconds that it used"),
           CallWord("waited_us",
                    U64, "microseconds in which some task of it waited for a processor"),
@@ -387,6 +387,51 @@ ROUNDS = (
                  U64, "what it used where it was idle for more than a twentieth of the round: 20"
                       " (used_ns + some_ns) is below 19 passed_ns. Else what it would have used if"
                       " no task had waited")), (OF_HOST, NO_TIME), allocates=False),
+    Call("round", "what a round asks for each leaf, and what was not served",
+         "What a round asks for each leaf, from their readings, and what each was not served in the"
+         " last one. arbiter_hold reads `demands` and `all`, so a round asks for a leaf what its"
+         " reading asks for.",
+         (column("planned", U64, "slices that the plan of the last round gave the leaf, 0 for"
+                 " none"),
+          column("used", U64, "slices that it used"),
+          column("asked", U64, "slices that it asks for"),
+          column("hungry", U8, "not 0 where it would have used more"),
+          room("demands", U64, "what stands in `used` of arbiter_hold: what it used where it asks"
+               " for 1000000 slices or more, else what it asks for"),
+          room("all", U8, "what stands in `hungry` of arbiter_hold: 1 where it asks for 1000000"
+               " slices or more, else 0"),
+          room("unserved", U64, "slices of its plan that it did not use; 0 where it would not have"
+               " used more")), (LENGTHS,), allocates=False),
+    Call("swings", "for how many rounds numbers go back and forth",
+         "For how many rounds in a row numbers of groups go back, and turn: limits, or what is"
+         " asked for. A number goes back where it is that of two rounds before to a twentieth of"
+         " the greater of the two, and a quarter of the greater or more off the last. It turns"
+         " where it rose and falls, or fell and rises. One that goes back turns.",
+         (column("now", U64, "the number of each group in this round"),
+          column("last", U64, "that of the last round"),
+          column("before", U64, "that of the round before"),
+          CallWord("backs", U64, "the rounds in a row in which it went back, up to the last one;"
+                   " then with this one, 0 where it does not now", CHANGED, True),
+          CallWord("turns", U64, "those in which it turned; then with this one, 0 where it does"
+                   " not now", CHANGED, True)), (LENGTHS,), allocates=False),
+    Call("judged", "what limits did in the last rounds",
+         "What limits did in the last rounds. The last 60 without limits are judged, and the last"
+         " 60 under limits; where fewer were under limits, both numbers are 0. Columns have the"
+         " slices of all groups in each round, the last round last.",
+         (column("free_used", U64, "slices used in rounds without limits"),
+          column("free_planned", U64, "slices planned for these"),
+          column("held_used", U64, "slices used in rounds under limits"),
+          column("held_planned", U64, "slices planned for these"),
+          column("sure", U64, "of those used under limits, slices of groups that were hungry for"
+                 " sure"),
+          column("guesses", U64, "slices of groups of which that was a guess"),
+          result("lost", U64, "the slices that limits served too little, as arbiter_lost has them;"
+                 " 0 where they did no harm"),
+          result("guessed", U64, "by how many slices the guesses are more than what was sure, 0"
+                 " where they are not")),
+         (Refusal("50", "columns of rounds without limits differ in length, or of those under"
+                  " limits"), Refusal("9", "a sum of the last rounds is above 2^60")),
+         allocates=False),
     Call("written", "the quota and the weight that are written for a limit",
          "What is written for a leaf's limit of a round. A quota lies from the limit to a"
          " sixty-fourth above it, and not above the own limit. What stands there stays, since the"

@@ -15,13 +15,13 @@ from pathlib import Path
 import killed_loop
 import pytest
 import trees
-from arbiter import Host
+from arbiter import JUDGED_ROUNDS, Host
 from arbiter_host.base import safe_files
 from arbiter_host.base.faults import HostFault, NoHelp
 from arbiter_host.base.model import Group, Model
 from arbiter_host.helps import STATUSES
 from arbiter_host.hold import hold
-from arbiter_host.hold.harm import MOST_ROUNDS, Harm, Shadow, Swings, has_turned, is_back
+from arbiter_host.hold.harm import Harm, Shadow, Swings, long
 from arbiter_host.setting import apply
 from arbiter_host.sources import readings, task_times
 from arbiter_host.subcommands.hold import Notifier, Service
@@ -330,12 +330,13 @@ def test_limits_that_go_back_and_forth(world, engine, folder, capsys):
     lines = world.run(world.loop(engine, folder / "undo"), *[step] * last)
     assert len(lines) == last and not (folder / "undo").exists()
     assert [world.maximum(path) for path in "abc"] == [FREE] * 3
-    told = f"a: held no longer: limits went back and forth for {MOST_ROUNDS} rounds\n"
+    told = f"a: held no longer: limits went back and forth for {JUDGED_ROUNDS} rounds\n"
     assert capsys.readouterr().err == f"arbiterctl: warning: {told}"
     limits = {path: [stood[path] for _, stood in lines] for path in "abc"}
-    assert set(limits["a"][:MOST_ROUNDS]) - {FREE} and set(limits["a"][MOST_ROUNDS + 2:]) == {FREE}
-    assert len(set(limits["b"][MOST_ROUNDS + 4:])) == 1
-    assert {line["groups"]["a"]["want"] for line, _ in lines[MOST_ROUNDS + 2:]} == {0}
+    assert set(limits["a"][:JUDGED_ROUNDS]) - {FREE}
+    assert set(limits["a"][JUDGED_ROUNDS + 2:]) == {FREE}
+    assert len(set(limits["b"][JUDGED_ROUNDS + 4:])) == 1
+    assert {line["groups"]["a"]["want"] for line, _ in lines[JUDGED_ROUNDS + 2:]} == {0}
     # (one that writes nothing lets go of nobody)
     shown = world.run(world.loop(engine), *[step] * last)
     assert len(shown) == last and capsys.readouterr().err == ""
@@ -345,16 +346,15 @@ def test_limits_that_go_back_and_forth(world, engine, folder, capsys):
 @pytest.mark.parametrize("values, wanted", [
     ([100] * 70, 0), ([0] * 70, 0), ([100, 90] * 35, 0), ([*range(50, 120)], 0),
     ([50, 90, 200] * 23, 0), ([200, 50] * 31, 60), ([50, 200] * 31 + [50, 50], 0)])
-def test_what_goes_back_and_forth(values, wanted):
+def test_what_goes_back_and_forth(calls, values, wanted):
     """For how many rounds up to the last: to a twentieth what it was two rounds before, and a
-    quarter off the last one. What stays does not, also where it is nothing."""
-    swings = Swings(is_back)
-    for each in values:
-        swings.take({"a": each})
-    assert swings.rounds["a"] == wanted
-    assert swings.long() == ["a"] * (wanted >= MOST_ROUNDS)
-    assert [has_turned(*each) for each in ((1, 2, 1), (2, 1, 2), (3, 2, 1), (1, 1, 2))] == [
-        True, True, False, False]
+    quarter off the last one. What stays does not, also where it is nothing. A group that comes
+    later is counted from then on."""
+    swings = Swings(calls)
+    for at, each in enumerate(values):
+        swings.take({"a": each, "b": each} if at > 9 else {"a": each})
+    assert swings.backs["a"] == wanted and swings.backs["b"] == max(wanted - 10, 0)
+    assert long(swings.backs) == ["a"] * (wanted >= JUDGED_ROUNDS)
 
 
 def of_round(held, **groups):
@@ -391,18 +391,19 @@ def test_groups_to_which_limits_do_harm(calls, free, last, paths, why):
              for held, used in ((0, 9), (0, 9), (1, free))]
     assert [harm.take(each).paths for each in first] == [[]] * 3
     for _ in range(2 if paths else 1):
-        assert [harm.take(last).paths for _ in range(MOST_ROUNDS - 1)] == [[]] * (MOST_ROUNDS - 1)
+        before = [harm.take(last).paths for _ in range(JUDGED_ROUNDS - 1)]
+        assert before == [[]] * (JUDGED_ROUNDS - 1)
         found = harm.take(last)
         assert sorted(found.paths) == paths and found.why.startswith(why) and len(found.told()) > 9
     few = Harm(calls, 200)
-    assert [each for each in (few.take({**last, "held": 0}) for _ in range(2 * MOST_ROUNDS))
+    assert [each for each in (few.take({**last, "held": 0}) for _ in range(2 * JUDGED_ROUNDS))
             if each.paths] == []
 
 
 def test_groups_that_went_are_in_question_no_more(calls):
     """And no other in their place."""
     harm, there = Harm(calls, 200), {"b": (10, 10, True, True), "c": (50, 50, True, False)}
-    for _ in range(MOST_ROUNDS):
+    for _ in range(JUDGED_ROUNDS):
         assert harm.take(of_round(1, a=(100, 100, True, True), **there)).paths == []
     assert harm.take(of_round(1, **there)).paths == []
 
@@ -410,7 +411,7 @@ def test_groups_that_went_are_in_question_no_more(calls):
 def test_many_groups_are_told_in_one_line(calls):
     harm = Harm(calls, 200)
     groups = {f"g\x1b{number}": (9, 9, True, True) for number in range(8)}
-    found = [harm.take(of_round(1, **groups)) for _ in range(MOST_ROUNDS + 1)][-1]
+    found = [harm.take(of_round(1, **groups)) for _ in range(JUDGED_ROUNDS + 1)][-1]
     assert found.told().startswith("g\\x1b0, g\\x1b1, ") and " and 3 more: held no" in found.told()
 
 
@@ -428,7 +429,7 @@ def test_a_loop_with_nobody_left_ends(world, engine, folder, capsys):
     with pytest.raises(NoHelp, match="no group is left to be held") as fault:
         loop, world.after = world.loop(engine, folder / "undo"), [step] * 70
         hold.run(loop, readings.Times(number=None), world.wait, lines.append)
-    assert len(lines) == MOST_ROUNDS + 1 and fault.value.status == 7
+    assert len(lines) == JUDGED_ROUNDS + 1 and fault.value.status == 7
     assert "c, a, b: held no longer: who is hungry is mostly a guess" in capsys.readouterr().err
     assert [world.maximum(path) for path in "abc"] == [FREE] * 3 and not (folder / "undo").exists()
 

@@ -143,6 +143,11 @@ def of_owned():
                 for passed in (0, 3001, MOST))
     yield from (("lost", ((90, 100), (used, planned))) for used in (84, 85, MOST)
                 for planned in (0, 100))
+    for asked in ([], [0, 9, 10**6, MOST]):
+        yield "round", ([8] * 4, [5] * 4, asked, [True, False, True, False])
+        yield "swings", (asked, [1] * 4, [0, 9, 10**6, 7], [0, 3, MOST, 1], [1] * 4)
+    yield from (("judged", ([[90] * count] * 2, [[84] * count, [100] * 60, [1] * 60, [sure] * 60]))
+                for count in (59, 60) for sure in (1, 4, MOST))
 
 
 def of_no_tree():

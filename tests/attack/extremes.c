@@ -342,6 +342,31 @@ static void many_rows(void)
     IS(7, arbiter_plan(HOST, ALL(66), amounts, 66));
 }
 
+/* Rounds of a loop whose numbers are all one of two. */
+static void rounds(uint64_t one, uint64_t other)
+{
+    uint64_t ones[61], others[61], written[61], counts[61] = {0}, lost = 7, guessed = 7;
+    uint8_t flags[61] = {0}, all[61];
+    for (size_t at = 0; at < 61; at++)
+        ones[at] = one, others[at] = other, written[at] = 7, all[at] = 7;
+    IS(50, arbiter_round(ones, 61, others, 60, ones, 61, flags, 61, written, 61, all, 61, counts, 61));
+    demand(written[60] == 7 && all[60] == 7, __LINE__);
+    flags[60] = (uint8_t)one;
+    IS(0, arbiter_round(ones, 61, others, 61, ones, 61, flags, 61, written, 61, all, 61, counts, 61));
+    demand(written[60] == (one < 1000000 ? one : other) && all[60] == (one >= 1000000), __LINE__);
+    demand(counts[60] == (flags[60] && one > other ? one - other : 0) && counts[0] == 0, __LINE__);
+    for (size_t at = 0; at < 61; at++)
+        counts[at] = UINT64_MAX - at, written[at] = at;
+    IS(0, arbiter_swings(ones, 61, others, 61, ones, 61, counts, 61, written, 61));
+    demand(counts[0] == counts[1] && (counts[0] == 0 || (counts[0] == UINT64_MAX && one != other)), __LINE__);
+    demand(one == other ? written[60] == 0 : written[0] == 1 && written[60] == 61, __LINE__);
+    uint32_t great = one > SUM / 60 || other > SUM / 60 ? 9 : 0;
+    IS(great, arbiter_judged(ones, 61, others, 61, others, 61, ones, 61, ones, 61, others, 61, &lost, &guessed));
+    demand(great ? lost == 7 && guessed == 7 : guessed == (other > one ? 60 * (other - one) : 0), __LINE__);
+    IS(0, arbiter_judged(ones, 0, others, 0, others, 0, ones, 0, ones, 0, others, 0, &lost, &guessed));
+    demand(lost == 0 && guessed == 0, __LINE__);
+}
+
 /* Hosts, groups and amounts at and past the ends of their ranges. */
 static void numbers(void)
 {
@@ -427,6 +452,7 @@ static void numbers(void)
                 uint32_t great = (ends[each] > SUM || ends[other] > SUM) ? 9 : 0;
                 IS(great, arbiter_lost(ends[each], ends[other], ends[other], ends[each], &lost));
                 demand(great ? lost == 7 : lost <= ends[each], __LINE__);
+                rounds(ends[each], ends[other]);
             }
     for (uint64_t number = 0; number < 5000; number++)
         for (size_t room = 0; room <= ARBITER_NAME_ROOM; room++) {

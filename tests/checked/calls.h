@@ -459,6 +459,66 @@ uint32_t arbiter_leaf_reading(uint64_t processors, uint64_t period_us, uint64_t 
     return answer;
 }
 
+uint32_t arbiter_round(const uint64_t *planned, size_t planned_length, const uint64_t *used, size_t used_length,
+                       const uint64_t *asked, size_t asked_length, const uint8_t *hungry, size_t hungry_length,
+                       uint64_t *demands, size_t demands_length, uint8_t *all, size_t all_length,
+                       uint64_t *unserved, size_t unserved_length)
+{
+    begin("round");
+    COLUMN(planned, planned_length);
+    COLUMN(used, used_length);
+    COLUMN(asked, asked_length);
+    COLUMN(hungry, hungry_length);
+    COLUMN(demands, demands_length);
+    COLUMN(all, all_length);
+    COLUMN(unserved, unserved_length);
+    uint32_t answer = (uint32_t)sent_line();
+    TOLD(demands, demands_length);
+    TOLD(all, all_length);
+    TOLD(unserved, unserved_length);
+    pthread_mutex_unlock(&lock);
+    return answer;
+}
+
+uint32_t arbiter_swings(const uint64_t *now, size_t now_length, const uint64_t *last, size_t last_length,
+                        const uint64_t *before, size_t before_length, uint64_t *backs, size_t backs_length,
+                        uint64_t *turns, size_t turns_length)
+{
+    begin("swings");
+    COLUMN(now, now_length);
+    COLUMN(last, last_length);
+    COLUMN(before, before_length);
+    COLUMN(backs, backs_length);
+    COLUMN(turns, turns_length);
+    uint32_t answer = (uint32_t)sent_line();
+    TOLD(backs, backs_length);
+    TOLD(turns, turns_length);
+    pthread_mutex_unlock(&lock);
+    return answer;
+}
+
+uint32_t arbiter_judged(const uint64_t *free_used, size_t free_used_length,
+                        const uint64_t *free_planned, size_t free_planned_length,
+                        const uint64_t *held_used, size_t held_used_length,
+                        const uint64_t *held_planned, size_t held_planned_length, const uint64_t *sure, size_t sure_length,
+                        const uint64_t *guesses, size_t guesses_length, uint64_t *lost, uint64_t *guessed)
+{
+    begin("judged");
+    COLUMN(free_used, free_used_length);
+    COLUMN(free_planned, free_planned_length);
+    COLUMN(held_used, held_used_length);
+    COLUMN(held_planned, held_planned_length);
+    COLUMN(sure, sure_length);
+    COLUMN(guesses, guesses_length);
+    put(' ', *lost);
+    put(' ', *guessed);
+    uint32_t answer = (uint32_t)sent_line();
+    *lost = (uint64_t)get();
+    *guessed = (uint64_t)get();
+    pthread_mutex_unlock(&lock);
+    return answer;
+}
+
 uint32_t arbiter_written(uint64_t processors, uint64_t period_us, uint64_t slice_us, uint64_t limit, uint64_t own,
                          uint64_t stands_us, uint32_t tasks, uint64_t *quota, uint64_t *weight)
 {

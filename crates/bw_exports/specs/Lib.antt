@@ -1,5 +1,6 @@
 -- The files of definitions.
 pub mod Checked
+pub mod Held
 pub mod Limited
 pub mod Names
 pub mod Owned

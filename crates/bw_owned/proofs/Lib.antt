@@ -1,6 +1,7 @@
 -- The files of lemmas.
 mod Closeness
 mod Growth
+mod Judges
 mod Losses
 mod PodGrowth
 mod PodSums
@@ -8,3 +9,4 @@ mod RequestLaws
 mod Squares
 mod Times
 mod WeightLaws
+mod Written

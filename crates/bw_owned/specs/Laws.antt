@@ -1,11 +1,12 @@
 -- Laws of what owners set.
-use Rattle.std.specs.Prelude.{◌≡◌, ℕ, ◌+◌, ◌*◌, ◌<◌, ◌≤◌, IfSome, List, Some, length}
-use Rattle.std.specs.Prelude.{slice_index}
-use Rattle.bw_model.specs.declared.limits.TheConstants.{MIN_WEIGHT, MAX_WEIGHT}
+use Rattle.std.specs.Prelude.{◌≡◌, ◌≢◌, ℕ, ◌+◌, ◌*◌, ◌<◌, ◌≤◌, IfSome, List, Some, length, true}
+use Rattle.std.specs.Prelude.{slice_index, max, sum, if◌then◌else◌}
+use Rattle.bw_model.specs.declared.limits.TheConstants.{MIN_WEIGHT, MAX_WEIGHT, MAX_DEMAND}
 use Rattle.bw_model.specs.declared.limits.TheConstants.{MIN_QUOTA_US, MAX_QUOTA_US}
 use Rattle.bw_model.specs.declared.limits.TheConstants.{MIN_PERIOD_US, MAX_PERIOD_US}
 use Rattle.bw_owned.specs.declared.allowed.TheConstants.{MICRO_NS}
 use Rattle.bw_owned.specs.declared.harm.ServedSlices.{ServedSlices}
+use Rattle.bw_owned.specs.declared.judged.TheConstants.{JUDGED_ROUNDS}
 use Rattle.bw_owned.specs.declared.formula.WeightFormula.{WeightFormula}
 use Rattle.bw_owned.specs.declared.formula.WeightFormula.TheVariants.{SharesLinear}
 use Rattle.bw_owned.specs.declared.formula.WeightFormula.TheVariants.{SharesLogarithmic}
@@ -15,7 +16,10 @@ use Rattle.bw_owned.specs.declared.formula.LimitFormula.{LimitFormula}
 use Rattle.bw_owned.specs.declared.limit.OwnedLimit.{OwnedLimit}
 use Rattle.bw_owned.specs.Allowed.{allowed_time}
 use Rattle.bw_owned.specs.Harm.{IsHarmed}
+use Rattle.bw_owned.specs.Judged.{IsJudged, last_rounds}
 use Rattle.bw_owned.specs.Requests.{number_for_request}
+use Rattle.bw_owned.specs.Round.{asked_column, asks_for_all, unserved}
+use Rattle.bw_owned.specs.Swings.{went_back, has_turned}
 use Rattle.bw_owned.specs.Weights.{IsOwnedWeight}
 use Rattle.bw_owned.specs.Least.{first_number, last_number, IsLeastNumber}
 use Rattle.bw_owned.specs.Limits.{limit_by}
@@ -101,6 +105,44 @@ PeriodsAllowQuotas = (quota period many : ℕ) → 1 ≤ period
 abbrev pub HarmIsHarm : Type 0
 HarmIsHarm = (free held : ServedSlices) → 0 < free.planned → IsHarmed free held
     → held.used * free.planned < free.used * held.planned
+
+-- Where rounds are told of slices that limits served too little, as many were held as judge them.
+-- In these less of the plan was served than in the last ones without limits.
+abbrev pub LostIsHarm : Type 0
+LostIsHarm = (free_used free_planned held_used held_planned sure guesses : List ℕ)
+    (lost guessed : ℕ)
+    → IsJudged free_used free_planned held_used held_planned sure guesses lost guessed → 0 < lost
+    → 0 < sum (last_rounds free_planned)
+    → (JUDGED_ROUNDS ≤ length held_used)
+    × (sum (last_rounds held_used) * sum (last_rounds free_planned)
+    < sum (last_rounds free_used) * sum (last_rounds held_planned))
+
+-- Where rounds are told of guesses, as many were held as judge them. In these more was used on a
+-- guess than for sure.
+abbrev pub GuessesAreMost : Type 0
+GuessesAreMost = (free_used free_planned held_used held_planned sure guesses : List ℕ)
+    (lost guessed : ℕ)
+    → IsJudged free_used free_planned held_used held_planned sure guesses lost guessed
+    → 0 < guessed
+    → (JUDGED_ROUNDS ≤ length held_used)
+    × (sum (last_rounds sure) < sum (last_rounds guesses))
+
+-- A round asks for each leaf what its reading asks for: everything by its flag, else its slices.
+abbrev pub RoundAsksAsRead : Type 0
+RoundAsksAsRead = (used asked : ℕ) → asked ≤ MAX_DEMAND
+    → (if asks_for_all asked then MAX_DEMAND else asked_column used asked) ≡ asked
+
+-- A leaf that would not have used more lacks nothing. Another one used and lacks its plan together,
+-- unless it used more.
+pub record OnlyTheHungryLack : Type 0 where
+  pub others : (planned used : ℕ) → unserved planned used 0 ≡ 0
+  pub hungry : (planned used flag : ℕ) → flag ≢ 0
+      → used + unserved planned used flag ≡ max used planned
+
+-- A number that went back turned: one that only rises, only falls or stays never does.
+abbrev pub BackHasTurned : Type 0
+BackHasTurned = (now last before : ℕ) → went_back now last before ≡ true
+    → has_turned now last before ≡ true
 
 -- Where no part has a lesser amount, the pod has no lesser one.
 abbrev pub PodAmountsGrow : Type 0

@@ -2,11 +2,14 @@
 pub mod Allowed
 pub mod Formulas
 pub mod Harm
+pub mod Judged
 pub mod Laws
 pub mod Least
 pub mod Limits
 pub mod Logarithm
 pub mod Pods
 pub mod Requests
+pub mod Round
 pub mod Shares
+pub mod Swings
 pub mod Weights

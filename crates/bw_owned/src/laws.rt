@@ -5,12 +5,15 @@ ghost use Rattle.bw_owned.specs.Laws.{WeightsAtTheEnds, LeastIsOne, LimitsAreInR
 ghost use Rattle.bw_owned.specs.Laws.{LimitsGrow, PodAmountIsOne, PodAmountsGrow};
 ghost use Rattle.bw_owned.specs.Laws.{RequestsAreWritten, SharesWeighAsRequests, AllowedGrows};
 ghost use Rattle.bw_owned.specs.Laws.{PartsAllowNoMore, PeriodsAllowQuotas, HarmIsHarm};
+ghost use Rattle.bw_owned.specs.Laws.{LostIsHarm, GuessesAreMost, RoundAsksAsRead};
+ghost use Rattle.bw_owned.specs.Laws.{OnlyTheHungryLack, BackHasTurned};
 ghost use Rattle.bw_owned.specs.Shares.{linear_weight};
 ghost use Rattle.bw_owned.specs.Requests.{shares_of_request, weight_of_request};
 ghost use Rattle.bw_owned.specs.Limits.{limit_of_thousandths, limit_of_billionths, limit_of_rate};
 
 use crate::allowed::{MICRO_NS, MOST_NS};
 use crate::harm::{MOST_SLICES, PARTS};
+use crate::judged::JUDGED_ROUNDS;
 use crate::limit::{BILLION, CPU, DEFAULT_PERIOD_US, SECOND_US};
 use crate::logarithm::{SCALE_DIGITS, UNIT};
 use crate::pod::{INIT_CONTAINER, SIDECAR};
@@ -89,6 +92,32 @@ pub fn harm_is_harm()
     ensures harm { HarmIsHarm }
     ensures slices { MOST_SLICES ≡ 2 ^ 60 }
     ensures parts { PARTS ≡ 20 }
+{}
+
+/// Law: a loop that is told of harm was harmed, and one that is told of guesses went by guesses.
+///
+/// Sixty rounds under limits judge them.
+pub fn lost_is_harm()
+    ensures harm { LostIsHarm }
+    ensures guesses { GuessesAreMost }
+    ensures rounds { JUDGED_ROUNDS ≡ 60 }
+{}
+
+/// Law: a round asks for each leaf what its reading asks for.
+pub fn round_asks_as_read()
+    ensures { RoundAsksAsRead }
+{}
+
+/// Law: what is unserved is 0 for a leaf that would not have used more.
+///
+/// Another one would have had its plan with it.
+pub fn only_the_hungry_lack()
+    ensures { OnlyTheHungryLack }
+{}
+
+/// Law: a number that went back rose and falls, or fell and rises.
+pub fn back_has_turned()
+    ensures { BackHasTurned }
 {}
 
 /// Law: `cpu.shares` of 2 to 262144, of which 1024 stand for the weight 100.

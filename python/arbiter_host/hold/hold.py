@@ -92,8 +92,8 @@ class Kept:
     is_left: bool = False
     # Whether it is held no longer, since limits do harm to it.
     is_let_go: bool = False
-    # Slices that the plan of the last round gave it; None before its first round.
-    planned: int | None = None
+    # Slices that the plan of the last round gave it; 0 before its first round.
+    planned: int = 0
 
 
 # The reading of a group that was idle and still is.
@@ -494,20 +494,27 @@ class Loop:
             group.burst, group.saved = 0, 0
         return model.rows(self.engine.library)
 
-    def held(self, rows: Columns, used: Mapping[int, Reading]) -> Round:
-        """The limits of the next round from what the leaf of each row asks for. The proved check
-        accepted their plan."""
+    def held(self, rows: Columns, asked: Mapping[int, tuple[int, bool]]) -> Round:
+        """The limits of the next round, from the slices of each leaf's row and whether it asks for
+        everything. The proved check accepted their plan."""
         library = self.engine.library
         host = planned(library, self.host)
         asks, for_all = rows.demands.tolist(), [False] * len(rows)
-        for row, each in used.items():
-            for_all[row] = each.asked == units.MAX_DEMAND
-            asks[row] = each.used if for_all[row] else each.asked
+        for row, each in asked.items():
+            asks[row], for_all[row] = each
         with asking("no limits"):
             held = self.ask(host, rows.asking(asks), for_all)
         with asking("the check refused the plan"):
             library.check(host, rows.asking(held.demands), held.amounts, held.certificate)
         return held
+
+    def asked(self, read: list[Reading]) -> tuple[dict[int, tuple[int, bool]], list[int]]:
+        """The slices that the round asks for the leaf of each row, or everything, from their
+        readings; and those that each was not served."""
+        slices, for_all, unserved = self.engine.library.round(
+            [self.groups[path].planned for path in self.places], [each.used for each in read],
+            [each.asked for each in read], [each.is_hungry for each in read])
+        return dict(zip(self.places.values(), zip(slices, for_all))), unserved
 
     def ask(self, host: Host, rows: Columns, hungry: list[bool]) -> Round:
         """The limits of the next round."""
@@ -521,18 +528,18 @@ class Loop:
                 for path, each in used.items()}
         self.places = places = {path: row for row, path in enumerate(model.groups, 1)
                                 if path in used}
-        held = self.held(Columns.of(rows), {row: used[path] for path, row in places.items()})
+        asked, unserved = self.asked([used[path] for path in places])
+        held = self.held(Columns.of(rows), asked)
         found = Written({}, {}, {}, sum(
             held.limits[row] != rows[row].limit and not self.groups[path].is_let_go
             for path, row in places.items()))
-        for path, row in places.items():
+        for (path, row), lacks in zip(places.items(), unserved):
             kept, each = self.groups[path], used[path]
             limit = None if kept.is_let_go else held.limits[row]
-            lacks = (kept.planned or 0) - each.used if each.is_hungry else 0
             kept.planned = held.amounts[row]
             found.told[path] = {"want": held.demands[row], "plan": held.amounts[row],
                                 "used": each.used, "limit": limit, "hungry": each.is_hungry,
-                                "guess": each.is_guess, "unserved": max(lacks, 0)}
+                                "guess": each.is_guess, "unserved": lacks}
             found.quotas[path] = None
             if limit is not None:
                 found.quotas[path], weights[path] = self.written(

@@ -469,6 +469,68 @@ pub fn leaf_reading(host: Host, times: LeafTimes) -> Result<Reading, Fault> {
     Ok(Reading { used, asked, is_hungry: used < asked, is_guess: false })
 }
 
+/// What a round asks for each leaf, and what each was not served in the last one.
+#[derive(Clone, Debug, PartialEq, Eq)]
+pub struct RoundAsks {
+    /// What stands in the place of a demand in the rows of [`hold`].
+    pub demands: Vec<u64>,
+    /// The flags of [`hold`].
+    pub hungry: Vec<bool>,
+    /// Slices of its plan that each leaf was not served, 0 where it would not have used more.
+    pub unserved: Vec<u64>,
+}
+
+/// What a round asks for each leaf: what its reading asks for. `planned` has the slices that the plan of the last round gave it.
+///
+/// # Errors
+/// 50 where there is not one number of slices for each reading.
+pub fn round(planned: &[u64], readings: &[Reading]) -> Result<RoundAsks, Fault> {
+    let used: Vec<u64> = readings.iter().map(|reading| reading.used).collect();
+    let asked: Vec<u64> = readings.iter().map(|reading| reading.asked).collect();
+    let hungry: Vec<u8> = readings.iter().map(|reading| u8::from(reading.is_hungry)).collect();
+    let (mut demands, mut all, mut unserved) = (vec![0; used.len()], vec![0; used.len()], vec![0; used.len()]);
+    answered(raw::round(planned, &used, &asked, &hungry, &mut demands, &mut all, &mut unserved), None)?;
+    Ok(RoundAsks {
+        demands,
+        hungry: all.iter().map(|flag| *flag != 0).collect(),
+        unserved,
+    })
+}
+
+/// Counts for how many rounds in a row numbers of groups go back, and turn: each count is raised by one, or is 0.
+///
+/// `now` has the number of each group in this round, `last` that of the last one and `before` that of the one before. A number goes
+/// back where it is that of two rounds before to a twentieth, and a quarter off the last. It turns where it rose and falls, or fell
+/// and rises.
+///
+/// # Errors
+/// 50 where the columns differ in length.
+pub fn swings(now: &[u64], last: &[u64], before: &[u64], backs: &mut [u64], turns: &mut [u64]) -> Result<(), Fault> {
+    answered(raw::swings(now, last, before, backs, turns), None)
+}
+
+/// What limits did in the last 60 rounds of each kind.
+#[derive(Clone, Copy, Debug, PartialEq, Eq)]
+pub struct Judged {
+    /// Slices that they served too little, as [`lost`] has them.
+    pub lost: u64,
+    /// By how many slices guesses are more than what was sure.
+    pub guessed: u64,
+}
+
+/// What limits did in the last rounds: nothing where fewer than 60 were under limits.
+///
+/// `free` has the slices used and planned in each round without limits. `held` has those of rounds under limits, then those used by
+/// groups that were hungry for sure, and those used where that was a guess.
+///
+/// # Errors
+/// 50 where the columns of one kind of rounds differ in length, or a sum of the last rounds is above 2^60 (9).
+pub fn judged(free: [&[u64]; 2], held: [&[u64]; 4]) -> Result<Judged, Fault> {
+    let (mut lost, mut guessed) = (0, 0);
+    answered(raw::judged(free[0], free[1], held[0], held[1], held[2], held[3], &mut lost, &mut guessed), None)?;
+    Ok(Judged { lost, guessed })
+}
+
 /// The quota and the weight that are written for a leaf's limit of a round, as share/arbiter.h has them.
 ///
 /// `own` is its own limit, and `stands_us` the quota that stands in it, of the host's period. No quota: its own limit is written.
@@ -969,6 +1031,19 @@ mod tests {
     }
 
     #[test]
+    fn asks_as_read() {
+        let read = |used, asked, is_hungry| Reading { used, asked, is_hungry, is_guess: false };
+        let readings = [read(5, 9, true), read(5, 1_000_000, true), read(5, 5, false)];
+        let (demands, hungry, unserved) = (vec![9, 5, 5], vec![false, true, false], vec![3, 0, 0]);
+        assert_eq!(round(&[8, 4, 8], &readings), Ok(RoundAsks { demands, hungry, unserved }));
+        assert_eq!(round(&[8, 4], &readings), Err(fault(50, None)));
+        let (mut backs, mut turns) = ([3, 3], [4, 4]);
+        assert_eq!(swings(&[200, 90], &[50, 100], &[200, 90], &mut backs, &mut turns), Ok(()));
+        assert_eq!((backs, turns), ([4, 0], [5, 5]));
+        assert_eq!(swings(&[200], &[50], &[], &mut backs, &mut turns), Err(fault(50, None)));
+    }
+
+    #[test]
     fn leaves_halves() {
         let (host, rows) = (Host::default(), equal());
         assert_eq!(goals(host, &rows, &[0, 14, 0], false), Ok((vec![0, 14, 5], vec![14, 14, 0])));
@@ -1168,6 +1243,11 @@ mod tests {
         assert_eq!(owned_number(6, 1001), Ok(101));
         assert_eq!(allowed(50000, 100000, 7, 3001), Ok(8500));
         assert_eq!(lost(90, 100, 84, 100), Ok(1));
+        let (free, planned, used, few, sure) = ([90; 70], [100; 70], [84; 60], [84; 59], [40; 60]);
+        let found = Ok(Judged { lost: 60, guessed: 240 });
+        assert_eq!(judged([&free, &planned], [&used, &planned[10..], &sure, &[44; 60]]), found);
+        assert_eq!(judged([&free, &planned], [&few, &planned[11..], &few, &few]), Ok(Judged { lost: 0, guessed: 0 }));
+        assert_eq!(judged([&free, &used], [&used, &used, &used, &used]), Err(fault(50, None)));
         assert_eq!(version(), env!("CARGO_PKG_VERSION"));
     }
 }

@@ -84,6 +84,17 @@ extern "C" {
                        guess: *mut u32) -> u32;
     fn arbiter_leaf_reading(processors: u64, period_us: u64, slice_us: u64, passed_ns: u64, used_ns: u64, waited_ns: u64,
                             some_ns: u64, used: *mut u64, asked: *mut u64) -> u32;
+    fn arbiter_round(planned: *const u64, planned_length: usize, used: *const u64, used_length: usize,
+                     asked: *const u64, asked_length: usize, hungry: *const u8, hungry_length: usize,
+                     demands: *mut u64, demands_length: usize, all: *mut u8, all_length: usize,
+                     unserved: *mut u64, unserved_length: usize) -> u32;
+    fn arbiter_swings(now: *const u64, now_length: usize, last: *const u64, last_length: usize,
+                      before: *const u64, before_length: usize, backs: *mut u64, backs_length: usize,
+                      turns: *mut u64, turns_length: usize) -> u32;
+    fn arbiter_judged(free_used: *const u64, free_used_length: usize, free_planned: *const u64, free_planned_length: usize,
+                      held_used: *const u64, held_used_length: usize, held_planned: *const u64, held_planned_length: usize,
+                      sure: *const u64, sure_length: usize, guesses: *const u64, guesses_length: usize, lost: *mut u64,
+                      guessed: *mut u64) -> u32;
     fn arbiter_written(processors: u64, period_us: u64, slice_us: u64, limit: u64, own: u64, stands_us: u64, tasks: u32,
                        quota: *mut u64, weight: *mut u64) -> u32;
     fn arbiter_script(processors: u64, period_us: u64, slice_us: u64, hash_key: u64, text: *const u8, text_length: usize,
@@ -434,6 +445,34 @@ pub(crate) fn leaf_reading(host: Host, passed_ns: u64, used_ns: u64, waited_ns: 
     // SAFETY: as the head of this file says
     unsafe {
         arbiter_leaf_reading(host.processors, host.period_us, host.slice_us, passed_ns, used_ns, waited_ns, some_ns, used, asked)
+    }
+}
+
+pub(crate) fn round(planned: &[u64], used: &[u64], asked: &[u64], hungry: &[u8], demands: &mut [u64], all: &mut [u8],
+                    unserved: &mut [u64]) -> u32 {
+    // SAFETY: as the head of this file says
+    unsafe {
+        arbiter_round(planned.as_ptr(), planned.len(), used.as_ptr(), used.len(), asked.as_ptr(), asked.len(),
+                      hungry.as_ptr(), hungry.len(), demands.as_mut_ptr(), demands.len(), all.as_mut_ptr(), all.len(),
+                      unserved.as_mut_ptr(), unserved.len())
+    }
+}
+
+pub(crate) fn swings(now: &[u64], last: &[u64], before: &[u64], backs: &mut [u64], turns: &mut [u64]) -> u32 {
+    // SAFETY: as the head of this file says
+    unsafe {
+        arbiter_swings(now.as_ptr(), now.len(), last.as_ptr(), last.len(), before.as_ptr(), before.len(),
+                       backs.as_mut_ptr(), backs.len(), turns.as_mut_ptr(), turns.len())
+    }
+}
+
+pub(crate) fn judged(free_used: &[u64], free_planned: &[u64], held_used: &[u64], held_planned: &[u64], sure: &[u64],
+                     guesses: &[u64], lost: &mut u64, guessed: &mut u64) -> u32 {
+    // SAFETY: as the head of this file says
+    unsafe {
+        arbiter_judged(free_used.as_ptr(), free_used.len(), free_planned.as_ptr(), free_planned.len(),
+                       held_used.as_ptr(), held_used.len(), held_planned.as_ptr(), held_planned.len(), sure.as_ptr(), sure.len(),
+                       guesses.as_ptr(), guesses.len(), lost, guessed)
     }
 }
 
