@@ -10,7 +10,8 @@ import reading
 from arbiter import Host
 from arbiter_host.base.faults import HostFault
 from arbiter_host.setting import apply
-from arbiter_host.sources import containers, data as sources_data, hostfile, kubernetes, script
+from arbiter_host.sources import (containers, data as sources_data, hostfile, kubernetes, pods,
+                                  script)
 
 # Seconds of the processor. Each of these took more than half a minute, or had no end.
 SECONDS = 20
@@ -182,7 +183,7 @@ def test_a_file_of_refused_lines(engine, monkeypatch):
     ("+1", 1000), ("1.", 1000), (".5", 500), ("100n", 1), ("1001u", 2), ("2k", 2 * 10**6),
     ("1Ki", 1024000), ("0.0001", 1), ("0", 0)])
 def test_quantities_of_kubernetes(value, thousandths):
-    assert kubernetes.thousandths(value, "w") == thousandths
+    assert pods.amount_of(value, pods.CPU, "w") == thousandths
 
 
 @pytest.mark.parametrize("value", [
@@ -192,4 +193,4 @@ def test_quantities_of_kubernetes(value, thousandths):
 def test_what_is_no_quantity_is_refused(value):
     """As Kubernetes refuses it: none of its objects has one."""
     with pytest.raises(HostFault, match="^w: .* (is no quantity of|is above [0-9]+) CPU"):
-        kubernetes.thousandths(value, "w")
+        pods.amount_of(value, pods.CPU, "w")

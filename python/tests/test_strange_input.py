@@ -150,7 +150,7 @@ def test_a_server_that_answers_in_part_is_told(monkeypatch):
     told = []
     monkeypatch.setattr(web, "fetched", lambda _: {
         "status": "success", "warnings": ["store s1 is down\x1b[2J"] * 9, "data": {"result": []}})
-    monkeypatch.setattr(output, "warn", told.append)
+    monkeypatch.setattr(output, "warn", lambda *notes: told.extend(notes))
     prometheus.of_range("http://h", "q", prometheus.QueryRange("1", "2", 60), prometheus.series_of)
     assert told == ["http://h: store s1 is down\\x1b[2J"] * 5
 
