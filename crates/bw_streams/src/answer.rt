@@ -11,6 +11,7 @@ use itoa::Buffer;
 use std::alloc::AllocError;
 
 /// Appends bytes for which the buffer has space.
+#[inline(always)]
 pub fn put(answer: &mut Vec<u8>, bytes: &[u8])
     requires { vec_len answer.old + length bytes.now ≤ vec_capacity answer.old }
     ensures items { answer.new.items ≡ answer.old.items ++ bytes.now }

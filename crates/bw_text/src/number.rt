@@ -27,6 +27,7 @@ pub enum NumberFault {
 /// The first that applies:
 /// - [`NumberFault::BadForm`] if the word is no such digits.
 /// - [`NumberFault::TooGreat`] if the number is above `u64::MAX`.
+#[inline(always)]
 pub fn read_number(word: &[u8]) -> Result<u64, NumberFault>
     ensures { result ≡ number_read word.now }
 {
