@@ -1,19 +1,20 @@
 -- The conditions of a certificate as tests.
 use Rattle.std.proofs.Common.{◌≡◌, ℕ, zero, suc, ◌-◌, ◌*◌, ◌<◌, List, [], ◌∷◌, Bool, true, false}
 use Rattle.std.proofs.Common.{◌||◌, ◌&&◌, not, length, get_or, eqb, ltb, leb, refl, ap, sym}
-use Rattle.std.proofs.Common.{◌∙◌, arith, inl, inr, lit<, zero-add}
+use Rattle.std.proofs.Common.{◌∙◌, arith, lit<}
 use Rattle.std.specs.Prelude.{is_some}
-use Rattle.std.specs.List.{list_all, range_with_len}
+use Rattle.std.specs.List.{list_all}
 use Rattle.std.specs.Option.{option_map_or}
 use Rattle.std.proofs.lemmas.Bool.{and_parts, and_from, or_cases, or_left, or_right, eqb-true}
 use Rattle.std.proofs.lemmas.Bool.{ltb-true, leb-true, lt-ltb, eq-eqb, not-true, both_ways}
 use Rattle.std.proofs.lemmas.Bool.{not_from_true}
-use Rattle.std.proofs.lemmas.List.FromFn.{get_or-range_with_len, length-range_with_len}
-use Rattle.bw_model.specs.Marks.{MarkValue, price_of, last_mark, next_mark, IsBelow}
+use Rattle.bw_model.specs.Marks.{price_of, last_mark, next_mark}
 use Rattle.bw_model.specs.Groups.{Groups, parent_of, weight_of, sum_of_children, is_leaf, limit_of}
 use Rattle.bw_model.specs.Groups.{demand_of}
 use Rattle.bw_model.specs.Certificate.{Certified, AreBounds, bound_at, is_flagged, level_at}
 use Rattle.bw_model.specs.Certificate.{sibling_place}
+use Rattle.bw_model.proofs.CallerLemmas.{each_below, at_each, is_below, is_below-true}
+use Rattle.bw_model.proofs.CallerLemmas.{is_below-from}
 use Rattle.bw_check.specs.declared.fault.CheckFault.{CheckFault}
 use Rattle.bw_check.specs.declared.fault.CheckFault.TheVariants.{WrongLength, OverLimit, OverDemand}
 use Rattle.bw_check.specs.declared.fault.CheckFault.TheVariants.{SumDiffers, FlagWithoutLimit}
@@ -29,16 +30,6 @@ list_all-get_or t [] k d all h = absurd (omega arith)
 list_all-get_or t (x ∷ xs) zero d all h = (and_parts (t x) (list_all t xs) all).0
 list_all-get_or t (x ∷ xs) (suc k) d all h =
     list_all-get_or t xs k d (and_parts (t x) (list_all t xs) all).1 (omega arith)
-
--- a test of each number below n
-abbrev pub each_below : ℕ → (ℕ → Bool) → Bool
-each_below n t = list_all t (range_with_len 0 n)
-
-each_below-at : (n : ℕ) (t : ℕ → Bool) (k : ℕ) → each_below n t ≡ true → k < n → t k ≡ true
-each_below-at n t k all h =
-    let at : get_or (range_with_len 0 n) k 0 ≡ k = get_or-range_with_len 0 n k 0 h ∙ zero-add k in
-    let in_list : k < length (range_with_len 0 n) = omega (arith, h, length-range_with_len 0 n) in
-    ap t (sym at) ∙ list_all-get_or t (range_with_len 0 n) k 0 all in_list
 
 -- the faults, at their numbers from 50 on
 abbrev faults : List CheckFault
@@ -68,39 +59,6 @@ pub is_fault-true : (fault other : CheckFault) → is_fault fault other ≡ true
 is_fault-true fault other e = sym (numbered other).1 ∙ ap fault_at (eqb-true _ _ e)
     ∙ (numbered fault).1
 
--- the order of marks as a test
-abbrev is_below : MarkValue → MarkValue → Bool
-is_below m n =
-    ltb (m.num * n.den) (n.num * m.den)
-    || (eqb (m.num * n.den) (n.num * m.den)
-    && (ltb m.place n.place || (eqb m.place n.place && ltb m.num n.num)))
-
-is_below-true : (m n : MarkValue) → is_below m n ≡ true → IsBelow m n
-is_below-true m n e = elim (or_cases _ _ e) [
-  | inl h ↦ inl (ltb-true _ _ h)
-  | inr h ↦ let both : (eqb (m.num * n.den) (n.num * m.den) ≡ true)
-      × ((ltb m.place n.place || (eqb m.place n.place && ltb m.num n.num)) ≡ true) =
-      and_parts _ _ h in
-      inr (
-        eqb-true _ _ both.0,
-        elim (or_cases _ _ both.1) [
-          | inl p ↦ inl (ltb-true _ _ p)
-          | inr p ↦ let last : (eqb m.place n.place ≡ true)
-              × (ltb m.num n.num ≡ true) = and_parts _ _ p in
-              inr (eqb-true _ _ last.0, ltb-true _ _ last.1)
-        ],
-      )
-]
-
-is_below-from : (m n : MarkValue) → IsBelow m n → is_below m n ≡ true
-is_below-from m n h = elim h [
-  | inl lt ↦ or_left _ _ (lt-ltb _ _ lt)
-  | inr tie ↦ or_right _ _ (and_from _ _ (eq-eqb _ _ tie.0) (elim tie.1 [
-    | inl p ↦ or_left _ _ (lt-ltb _ _ p)
-    | inr p ↦ or_right _ _ (and_from _ _ (eq-eqb _ _ p.0) (lt-ltb _ _ p.1))
-  ]))
-]
-
 otherwise : (b c : Bool) → (b || c) ≡ true → b ≡ false → c ≡ true
 otherwise true c e h = absurd (both_ways true h refl)
 otherwise false c e h = e
@@ -118,7 +76,7 @@ are_bounds-true groups certificate bounds e =
     let both = and_parts _ _ e in
     record {
       one_each = eqb-true _ _ both.0;
-      each = λ g below. eqb-true _ _ (each_below-at (length groups.rows)
+      each = λ g below. eqb-true _ _ (at_each (length groups.rows)
           (λ g. eqb (get_or bounds g 0) (bound_at groups certificate bounds g)) g both.1 below);
     }
 
@@ -185,5 +143,5 @@ module _ (groups : Groups) (amounts : List ℕ) (certificate : Certified) (bound
       λ f. is_left_out f || each_below (length groups.rows) (is_free f) in
       let at : t fault ≡ true = ap t (sym (numbered fault).1)
       ∙ list_all-get_or t faults (check_fault_number fault - 50) WrongLength e (numbered fault).0 in
-      is_free-true fault g (each_below-at (length groups.rows) (is_free fault) g
+      is_free-true fault g (at_each (length groups.rows) (is_free fault) g
       (otherwise _ _ at kept) below)

@@ -4,6 +4,7 @@ use Rattle.std.proofs.Common.{Bool, true, false, List, [], ◌∷◌, Some, None
 use Rattle.std.proofs.Common.{if◌then◌else◌, is_some, refl, sym, ap, ◌∙◌, subst, arith, inl, inr}
 use Rattle.std.proofs.Common.{⊎_elim, eq-eqb, ne_eqb, nat_lt, slice_get, slice_set, slice_index}
 use Rattle.std.proofs.lemmas.Bool.{lt-ltb}
+use Rattle.bw_machine.proofs.CallerLemmas.{first_is}
 use Rattle.bw_wake.proofs.CallerLemmas.{same_words, index_here, index_else}
 use Rattle.bw_ticket.specs.declared.board.SeatView.{SeatView}
 use Rattle.bw_ticket.specs.declared.board.Phase.{Phase as ViewPhase}
@@ -154,15 +155,6 @@ length_set : (ws : List ℕ) (w v : ℕ) → length (slice_set ws w v) ≡ lengt
 length_set [] w v = refl
 length_set (x ∷ ws) zero v = refl
 length_set (x ∷ ws) (suc w) v = ap suc (length_set ws w v)
-
-abbrev head_or : {X : Type 0} → X → List X → X
-head_or a [] = a
-head_or a (x ∷ xs) = x
-
--- the one view of a seat
-first_is : {X Y : Type 0} (q r : X) (d c : Y) → ◌≡◌ {A = List X × Y} (q ∷ [], d) (r ∷ [], c)
-    → q ≡ r
-first_is q r d c e = ap (λ x. head_or q x.0) e
 
 module _ {M C R : Type 0} where
   -- the phase in the lock of a seat that looks, stores a mark, owes a wake

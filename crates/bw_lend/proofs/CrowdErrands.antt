@@ -14,7 +14,7 @@ use Rattle.bw_lend.proofs.CrowdInvariant.{NotEarly, Hinted, Stands}
 use Rattle.bw_lend.proofs.CrowdInvariant.{OkErrand, Ok, Sound}
 use Rattle.bw_lend.proofs.CrowdKept.{put_here, put_else}
 use Rattle.bw_lend.proofs.CrowdKept.{quiet_sound, quiet_hinted}
-use Rattle.bw_wake.proofs.CallerLemmas.{differ}
+use Rattle.std.proofs.lemmas.Bool.{eqb-false}
 use Rattle.bw_lend.proofs.CrowdWalks.{by_test}
 
 -- the phase is of a seat that has no ticket
@@ -159,7 +159,7 @@ module _ (s : Crowd) (a : ℕ) (y : Sound s) where
       ))
       (λ is. goes_sound s a (Leaves x js (Peeking n)) (Wakes js) y was tt tt
       (λ t i k. k)
-      (λ t i q (st : Stands s t i) m. absurd (differ h.ticket x is (of_ticket t i m st)))
+      (λ t i q (st : Stands s t i) m. absurd (eqb-false h.ticket x is (of_ticket t i m st)))
       (λ t i z k. k) (λ t i z k. absurd k) (at_errand x js (Peeking n) was).0)
     where
       both : (t i : ℕ) → x ≡ t → Stands s t i

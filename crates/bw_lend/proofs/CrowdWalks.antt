@@ -11,7 +11,7 @@ use Rattle.bw_lend.proofs.CrowdInvariant.{NotEarly}
 use Rattle.bw_lend.proofs.CrowdInvariant.{OkPlace, Ok, Sound}
 use Rattle.bw_lend.proofs.CrowdKept.{put_here, put_else, Quiet, Aside, ok_kept, quiet_steps}
 use Rattle.bw_lend.proofs.CrowdKept.{quiet_sound}
-use Rattle.bw_wake.proofs.CallerLemmas.{differ}
+use Rattle.std.proofs.lemmas.Bool.{eqb-false}
 
 module _ (s : Crowd) (a t : ℕ) (w v : Stage) where
   walk_quiet : (E : ℕ → Phase → Place → Type 0) → s.phase a ≡ Has t w
@@ -123,7 +123,7 @@ module _ (s : Crowd) (a t : ℕ) (y : Sound s) where
       (λ e. walk_sound s a t Looking Retracting y was (λ x h. tt)
       (to_retracting s a t (s.place a) (eqb-true t s.serving e)))
       (λ e. walk_sound s a t Looking Parking y was (λ x h. tt)
-      (to_parking s a t (s.place a) (differ t s.serving e)))
+      (to_parking s a t (s.place a) (eqb-false t s.serving e)))
 
   pub wake_up : s.phase a ≡ Has t Asleep → Sound (moved s a (Has t Reading))
   wake_up was = walk_sound s a t Asleep Reading y was (λ x h. tt) (to_awake s a t (s.place a))

@@ -101,3 +101,12 @@ map_snoc f (z ∷ xs) x = ap (λ ys. f z ∷ ys) (map_snoc f xs x)
 pub length_snoc : {X : Type 0} (xs : List X) (x : X) → length (xs ++ x ∷ []) ≡ suc (length xs)
 length_snoc [] x = refl
 length_snoc (z ∷ xs) x = ap suc (length_snoc xs x)
+
+abbrev head_or : {X : Type 0} → X → List X → X
+head_or a [] = a
+head_or a (x ∷ xs) = x
+
+-- the first of two lists of one element that are the same
+pub first_is : {X Y : Type 0} (q r : X) (d c : Y) → ◌≡◌ {A = List X × Y} (q ∷ [], d) (r ∷ [], c)
+    → q ≡ r
+first_is q r d c e = ap (λ m. head_or q m.0) e

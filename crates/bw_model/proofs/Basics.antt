@@ -1,7 +1,7 @@
 -- Sums, lists, options and tests of numbers: what the other proofs use, and what stands on none of
 -- them.
 use Rattle.std.proofs.Common.{◌≡◌, ℕ, zero, suc, ◌+◌, ◌*◌, ◌<◌, ◌≤◌, List, [], ◌∷◌, Bool, cond}
-use Rattle.std.proofs.Common.{refl, arith, sym, ap, ◌∙◌, inl, inr, ◌-◌, length}
+use Rattle.std.proofs.Common.{refl, arith, sym, ap, ◌∙◌, inl, inr, ◌-◌, length, add-one}
 use Rattle.std.proofs.Common.{get_or, true, false, Option, None, Some, ◌||◌, eqb, ◌++◌, ◌&&◌}
 use Rattle.std.proofs.Common.{true≢false, replicate, bytes_eq}
 use Rattle.std.proofs.lemmas.Bool.{cases_eq, cond_both, eq-eqb, eqb-true, or_cases, or_right}
@@ -20,6 +20,10 @@ sum_below (suc n) f = sum_below n f + f n
 
 pub sum-cons : (x : ℕ) (xs : List ℕ) → sum (x ∷ xs) ≡ x + sum xs
 sum-cons x xs = sum_by-cons (λ y. y) x xs
+
+-- the last term apart
+pub sum_below-more : (n : ℕ) (f : ℕ → ℕ) → sum_below (n + 1) f ≡ sum_below n f + f n
+sum_below-more n f = rw add-one refl
 
 -- the first term apart
 pub sum_below-front : (n : ℕ) (f : ℕ → ℕ) → sum_below (suc n) f ≡ f 0 + sum_below n (λ k. f (suc k))

@@ -1,7 +1,7 @@
 -- What other crates may cite of this one's proofs, each passed on from the module that proves it.
 pub use Rattle.bw_model.proofs.Basics.{sum_below, sum-cons, sum-is, sum_below-front, sum_below-ap}
-pub use Rattle.bw_model.proofs.Basics.{sum_below-le, sum_below-zero, sum_below-add, sum_by-range}
-pub use Rattle.bw_model.proofs.Basics.{sum_by-filter_range}
+pub use Rattle.bw_model.proofs.Basics.{sum_below-more, sum_below-le, sum_below-zero, sum_below-add}
+pub use Rattle.bw_model.proofs.Basics.{sum_by-range, sum_by-filter_range}
 pub use Rattle.bw_model.proofs.Basics.{sum_below-change, sum_below-term, and_no, passed, goes_on}
 pub use Rattle.bw_model.proofs.Basics.{no_parent, cancel_le, strong, from_the_last, list_any-range}
 pub use Rattle.bw_model.proofs.Basics.{some_in_range, any-filter, same_map, range_more, listed}
@@ -47,4 +47,6 @@ pub use Rattle.bw_model.proofs.allocation.ChildSums.{sum_of_children-left, child
 pub use Rattle.bw_model.proofs.allocation.ChildSums.{sum_of_children-zero}
 pub use Rattle.bw_model.proofs.allocation.Mosts.{IsMost-unique, mosts, mosts-capped}
 pub use Rattle.bw_model.proofs.allocation.Mosts.{AreMaxTotals-capped}
+pub use Rattle.bw_model.proofs.plan.Tested.{each_below, at_each, is_below, is_below-true}
+pub use Rattle.bw_model.proofs.plan.Tested.{is_below-from}
 pub use Rattle.bw_model.specs.MarkLaws.{cmp_equal, cmp_greater}

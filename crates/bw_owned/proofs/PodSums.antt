@@ -7,10 +7,6 @@ use Rattle.bw_model.proofs.CallerLemmas.{sum_below, sum_by-range}
 use Rattle.bw_owned.specs.Pods.{of_part, of_sidecar, of_init, of_lasting}
 use Rattle.bw_owned.specs.Pods.{sidecars_before, while_starting, once_started, IsPodAmount}
 
--- the sum of one part more
-pub more_below : (k : ℕ) (f : ℕ → ℕ) → sum_below (k + 1) f ≡ sum_below k f + f k
-more_below k f = rw add-one refl
-
 -- the amount while a part starts, by the sum of the sidecars before it
 starting_is : (kinds amounts : List ℕ) (k sidecars own : ℕ)
     → sidecars ≡ sum_below k (of_part of_sidecar kinds amounts)

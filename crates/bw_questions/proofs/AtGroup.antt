@@ -25,17 +25,6 @@ use Rattle.bw_questions.specs.Passes.{IsLeastAt, IsLeastThat, IsNeed, IsShared, 
 use Rattle.bw_questions.specs.Passes.{AreAllNeeds, IsPassed}
 use Rattle.bw_questions.proofs.Levels.{part_le_sum}
 
--- images written out
-pub map_is : (f : ℕ → ℕ) (xs ys : List ℕ) → length ys ≡ length xs
-    → ((k : ℕ) → k < length xs → f (get_or xs k 0) ≡ get_or ys k 0) → map f xs ≡ ys
-map_is f [] [] e h = refl
-map_is f [] (y ∷ ys) e h = absurd (omega arith)
-map_is f (x ∷ xs) [] e h = absurd (omega arith)
-map_is f (x ∷ xs) (y ∷ ys) e h =
-    let head : f x ≡ y = h 0 (omega arith) in
-    let rest : map f xs ≡ ys = map_is f xs ys (omega arith) (λ k below. h (suc k) (omega arith)) in
-    cc
-
 -- the children of a group as a list of places
 module _ (rows : List Row) (g : ℕ) (children : List ℕ) (are : children ≡ children_of rows g) where
   pub children_in : (k : ℕ) → k < length children → get_or children k 0 < length rows

@@ -9,10 +9,10 @@ use Rattle.std.proofs.lemmas.List.{get_or-set_same, get_or-set_other}
 use Rattle.std.proofs.Math.ListN.{length-set}
 use Rattle.bw_model.specs.Split.{IsBestSplit}
 use Rattle.bw_model.proofs.CallerLemmas.{IsPairwise, pairwise-IsBestSplit, cross_lt_right}
-use Rattle.bw_model.proofs.CallerLemmas.{sum_below, sum_below-ap, sum-is}
+use Rattle.bw_model.proofs.CallerLemmas.{sum_below, sum_below-ap, sum_below-more, sum-is}
 use Rattle.bw_split.specs.Levels.{taken, taken_by_all}
 use Rattle.bw_split.proofs.Takes.{IsTaken, taken-is, taken-mono, taken-step, each_takes, same_cost}
-use Rattle.bw_split.proofs.Takes.{by_all-is, sum_below-more}
+use Rattle.bw_split.proofs.Takes.{by_all-is}
 use Rattle.bw_model.specs.declared.limits.TheConstants.{MIN_WEIGHT, MAX_WEIGHT}
 use Rattle.bw_split.specs.declared.limits.TheConstants.{STEPS}
 

@@ -106,9 +106,6 @@ by_all-one weights most light = by_all-is 1 weights most ∙
     sum_below-zero (length weights) (each_takes 1 weights most)
     (λ k below. taken-one (get_or weights k 0) (get_or most k 0) (light k below))
 
-pub sum_below-more : (n : ℕ) (f : ℕ → ℕ) → sum_below (n + 1) f ≡ sum_below n f + f n
-sum_below-more n f = rw add-one refl
-
 capped : (amount n : ℕ) (f g : ℕ → ℕ) → ((k : ℕ) → k < n → min amount (g k) ≤ f k)
     → min amount (sum_below n g) ≤ sum_below n f
 capped amount zero f g h = omega arith

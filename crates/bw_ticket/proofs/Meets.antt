@@ -19,15 +19,6 @@ use Rattle.bw_ticket.specs.Follows.{words_of, IsLike, in_protocol, IsEvent}
 use Rattle.bw_ticket.specs.Turns.{Doing, Sitter, Hall, seated, where_is}
 use Rattle.bw_ticket.specs.Turns.Doing.{IsUp}
 
-abbrev head_or : {X : Type 0} → X → List X → X
-head_or a [] = a
-head_or a (x ∷ xs) = x
-
--- the one view of a seat
-pub first_is : {X Y : Type 0} (q r : X) (d c : Y) → ◌≡◌ {A = List X × Y} (q ∷ [], d) (r ∷ [], c)
-    → q ≡ r
-first_is q r d c e = ap (λ m. head_or q m.0) e
-
 -- each number of the list stays below the bound
 below_set : (ws : List ℕ) (b i v : ℕ) → ((x : ℕ) → slice_index ws x < b) → v < b → (x : ℕ)
     → slice_index (slice_set ws i v) x < b

@@ -7,7 +7,7 @@ use Rattle.std.specs.List.{list_any}
 use mathlib.Core.Logic.{dite}
 use native.Mathlib.Decide.{ℕ_discrete}
 use prog.Atomic.{either}
-use Rattle.bw_machine.proofs.CallerLemmas.{get_other, set_map}
+use Rattle.bw_machine.proofs.CallerLemmas.{first_is, get_other, set_map}
 use Rattle.bw_wake.specs.declared.seats.Phase.TheVariants.{Waiting as PWaiting, Looked as PLooked}
 use Rattle.bw_wake.specs.declared.seats.Phase.TheVariants.{Asleep as PAsleep, Wakes as PWakes}
 use Rattle.bw_wake.specs.declared.seats.Event.{Event}
@@ -37,7 +37,7 @@ use Rattle.bw_ticket.specs.Turns.Turn.{TakesMark, Fronts, Sleeps, Returns, Rings
 use Rattle.bw_ticket.specs.Turns.Turn.{NotesWake, LooksAgain, MarksAgain, SleepsInVain}
 use Rattle.bw_ticket.specs.Turns.Doing.{IsUp, Sleeping, HasSlept, HasRung}
 use Rattle.bw_ticket.proofs.Followed.{steps_are_events, index_past, small}
-use Rattle.bw_ticket.proofs.Meets.{first_is, either_below, left_in, left_set, left_at, Follows}
+use Rattle.bw_ticket.proofs.Meets.{either_below, left_in, left_set, left_at, Follows}
 use Rattle.bw_ticket.proofs.Meets.{Goes, next_is, at_place, by_event_of, by_event, no_event}
 use Rattle.bw_ticket.proofs.Meets.{by_sleep, Meets}
 

@@ -1,7 +1,7 @@
 -- What other crates may cite of this one's proofs, each passed on from the module that proves it.
 pub use Rattle.bw_wake.proofs.Invariant.{waits, holds, may_sleep, Stands, Sound}
 pub use Rattle.bw_wake.proofs.NotStuck.{wake_under_way, goes_on, not_stuck}
-pub use Rattle.bw_wake.proofs.RunSound.{happens_sound, run_sound, differ}
+pub use Rattle.bw_wake.proofs.RunSound.{happens_sound, run_sound}
 pub use Rattle.bw_wake.proofs.WakeSound.{start_sound}
 pub use Rattle.bw_wake.proofs.WordsApart.{to_next}
 pub use Rattle.bw_wake.proofs.OneTurn.{one_turn}

@@ -24,7 +24,7 @@ use Rattle.bw_wake.specs.Progress.{seat_of, one_if, count}
 use Rattle.bw_machine.proofs.CallerLemmas.{get_same, get_other}
 use Rattle.bw_wake.proofs.Invariant.{waits, Sound}
 use Rattle.bw_wake.proofs.Counts.{count_set, count_at}
-use Rattle.bw_wake.proofs.RunSound.{differ}
+use Rattle.std.proofs.lemmas.Bool.{eqb-false}
 use Rattle.bw_wake.proofs.WakeSound.{waits_once}
 use Rattle.bw_wake.proofs.WakeWords.{index_here, index_else}
 use Rattle.bw_wake.proofs.WordsApart.{words_apart}
@@ -397,4 +397,4 @@ taken_is_gone s x ps some_words = by_mark (mark_at s x == x + 1) refl
         } x ≢ x + 1
     by_mark true h = λ stands.
         let z : 0 ≡ x + 1 = sym (written_here s x 0 some_words) ∙ stands in absurd (omega arith)
-    by_mark false h = differ (mark_at s x) (x + 1) h
+    by_mark false h = eqb-false (mark_at s x) (x + 1) h

@@ -27,7 +27,7 @@ use Rattle.bw_machine.proofs.CallerLemmas.{equal_or_not, get_other}
 use Rattle.bw_wake.proofs.Counts.{count_set, count-le, count_at, count_le_at}
 use Rattle.bw_wake.proofs.Invariant.{waits, may_sleep, Stands, Sound}
 use Rattle.bw_wake.proofs.WakeWords.{index_here, index_else}
-use Rattle.bw_wake.proofs.RunSound.{differ}
+use Rattle.std.proofs.lemmas.Bool.{eqb-false}
 use Rattle.bw_wake.proofs.WordsApart.{may_sleep-waits, to_next, words_apart}
 
 -- 1 of a seat that looks for the mark of x first of all, or has seen it and has yet to take it
@@ -112,7 +112,7 @@ look_first s i (Some (Waiting t)) at f =
 look_first s i (Some (Marked t)) at f =
     if_moved s i Inside (Looked t) (t == s.serving)
     (λ e. plain s i (Marked t) Inside at (omega arith) (omega arith) f)
-    (λ e. let z = none_there t s.serving (differ t s.serving e) in
+    (λ e. let z = none_there t s.serving (eqb-false t s.serving e) in
     plain s i (Marked t) (Looked t) at (omega arith) (omega arith) f)
 look_first s i (Some (Looked t)) at f =
     ifs (moved s i Inside) s (t == s.serving)
@@ -205,7 +205,7 @@ peek_word_first s i (Some (Owes k n)) at f =
     (λ e. plain s i (Owes k n) (Found k n) at (omega arith) (omega arith) f)
     (λ e. let z = less_sleeps s.serving k n in
     kept s (moved s i (one_less k n)) i (Owes k n) (one_less k n) at refl refl (omega arith)
-    (λ some st. let gone = differ (mark_at s k) (k + 1) e in
+    (λ some st. let gone = eqb-false (mark_at s k) (k + 1) e in
     let y = none_there k s.serving (λ same. gone (subst (Stands s) (sym same) st)) in
     (st, omega arith)) f)
 peek_word_first s i _ at f = f
@@ -243,7 +243,7 @@ take_mark_first s i (Some (Found k n)) at r f =
     if_words s (slice_set s.words (word_of s k) 0) s.words (slice_set s.phases i (Wakes k n))
     (mark_at s k == k + 1) (λ e. taken_first s i k n at r f)
     (λ e. kept s (moved s i (Wakes k n)) i (Found k n) (Wakes k n) at refl refl (omega arith)
-    (λ some st. let gone = differ (mark_at s k) (k + 1) e in
+    (λ some st. let gone = eqb-false (mark_at s k) (k + 1) e in
     let y = none_there k s.serving (λ same. gone (subst (Stands s) (sym same) st)) in
     (st, omega arith)) f)
 take_mark_first s i _ at r f = f

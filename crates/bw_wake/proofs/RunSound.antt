@@ -27,7 +27,7 @@ use Rattle.bw_wake.proofs.OneSeatSound.{none_next_sound, found_sound, not_found_
 use Rattle.bw_wake.proofs.OneSeatSound.{untaken_sound, vain_park_sound}
 use Rattle.bw_wake.proofs.WakeSound.{spurious_wake_sound, take_sound, enter_sound, wake_sound}
 use Rattle.bw_wake.proofs.WakeSound.{wake_none_sound, start_sound}
-use Rattle.std.proofs.lemmas.Bool.{ltb-false}
+use Rattle.std.proofs.lemmas.Bool.{eqb-false, ltb-false}
 
 ifs : {x y : WaitState} (b : Bool) → (b ≡ true → Sound x) → (b ≡ false → Sound y)
     → Sound (if b then x else y)
@@ -46,12 +46,6 @@ if_words : (s : WaitState) (vs ws : List ℕ) (ps : List Phase) (b : Bool)
     → Sound record s { words = if b then vs else ws; phases = ps }
 if_words s vs ws ps true f g = f refl
 if_words s vs ws ps false f g = g refl
-
-true-false : true ≡ false → ⊥
-true-false e = cc e
-
-pub differ : (a b : ℕ) → (a == b) ≡ false → a ≢ b
-differ a b e same = true-false (sym (eq-eqb a b same) ∙ e)
 
 entered : (s : WaitState) (i t : ℕ) (p : Phase) → slice_get s.phases i ≡ Some p
     → ((x : ℕ) → waits x p ≡ one_if (t == x)) → busy p ≡ 0 → holds p ≡ 1
@@ -75,7 +69,7 @@ look_keeps s i (Some (Marked t)) at r =
     if_moved s i Inside (Looked t) (t == s.serving)
     (λ e. entered s i t (Marked t) at (λ x. refl) refl refl
     (λ x. refl) (λ x. refl) (λ x. refl) (eqb-true t s.serving e) r)
-    (λ e. miss_sound s i t at (differ t s.serving e) r)
+    (λ e. miss_sound s i t at (eqb-false t s.serving e) r)
 look_keeps s i (Some (Looked t)) at r =
     ifs (t == s.serving)
     (λ e. entered s i t (Looked t) at (λ x. refl) refl refl (λ x. refl) (λ x. refl)
@@ -123,7 +117,7 @@ peek_word_keeps : (s : WaitState) (i : ℕ) (o : Option Phase) → slice_get s.p
     → Sound (or_same s (peek_word_by s i o))
 peek_word_keeps s i (Some (Owes k n)) at r =
     if_moved s i (Found k n) (one_less k n) (mark_at s k == k + 1) (λ e. found_sound s i k n at r)
-    (λ e. not_found_sound s i k n at (differ (mark_at s k) (k + 1) e) r)
+    (λ e. not_found_sound s i k n at (eqb-false (mark_at s k) (k + 1) e) r)
 peek_word_keeps s i _ at r = r
 
 take_mark_keeps : (s : WaitState) (i : ℕ) (o : Option Phase) → slice_get s.phases i ≡ o → Sound s
@@ -133,7 +127,7 @@ take_mark_keeps s i (Some (Found k n)) at r =
     if_words s (slice_set s.words (word_of s k) 0) s.words (slice_set s.phases i (Wakes k n))
     (mark_at s k == k + 1)
     (λ e. taken_sound s i k n at (eqb-true (mark_at s k) (k + 1) e) (omega (arith, few, r.words)) r)
-    (λ e. untaken_sound s i k n at (differ (mark_at s k) (k + 1) e) r)
+    (λ e. untaken_sound s i k n at (eqb-false (mark_at s k) (k + 1) e) r)
 take_mark_keeps s i _ at r = r
 
 if_possible : (s : WaitState) {x : WaitState} (b : Bool) → (b ≡ true → Sound x) → Sound s

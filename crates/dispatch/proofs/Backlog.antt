@@ -9,7 +9,7 @@ use Rattle.std.proofs.Math.Nat.{mul-le-mul_right}
 use Rattle.std.proofs.lemmas.List.{get_or-set_same, get_or-set_other}
 use Rattle.std.proofs.lemmas.List.Sums.{sum_by-cons}
 use Rattle.std.proofs.lemmas.Option.{slice_get-get_or}
-use Rattle.std.proofs.lemmas.Bool.{eq-eqb, eqb-true, ltb-true, ltb-false}
+use Rattle.std.proofs.lemmas.Bool.{eqb-false, eqb-true, ltb-true, ltb-false}
 use Rattle.dispatch.specs.declared.reservation.Account.{Account}
 use Rattle.dispatch.specs.declared.reservation.Run.{Run}
 use Rattle.dispatch.specs.Reservation.{Reservations, WHOLE, account_at, no_account, quantum_of}
@@ -56,12 +56,6 @@ by_order P a b less more = by_test (nat_lt a b) refl where
   by_test true is = less (ltb-true a b is)
   by_test false is = more (ltb-false a b is)
 
-apart : (k x : ℕ) → (k == x) ≡ false → k ≢ x
-apart k x is e =
-    let f : (x == x) ≡ false = subst (λ (y : ℕ). (y == x) ≡ false) e is in
-    let t : (x == x) ≡ true = eq-eqb x x refl in
-    absurd (let clash : true ≡ false = sym t ∙ f in cc clash)
-
 -- the leaf at k after one at i was set
 pub account_set : (xs : List Account) (i k : ℕ) (a : Account) → i < length xs
     → ((k ≡ i) × (get_or (slice_set xs i a) k no_account ≡ a))
@@ -78,7 +72,7 @@ account_set xs i k a known = by_test (k == i) refl where
             (get_or-set_same xs i a no_account known),
       )
   by_test false is =
-      let ne : k ≢ i = apart k i is in
+      let ne : k ≢ i = eqb-false k i is in
       inr (ne, get_or-set_other xs i k a no_account ne)
 
 -- ---- processors

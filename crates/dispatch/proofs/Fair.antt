@@ -4,7 +4,7 @@ use Rattle.std.proofs.Common.{◌⊎◌, inl, inr, not, nat_lt, Bool, true, fals
 use Rattle.std.proofs.Common.{get_or, Option, None, Some, slice_get, refl, ap, ◌∙◌, arith}
 use Rattle.std.proofs.Common.{if◌then◌else◌}
 use Rattle.std.specs.List.{list_all, sum_by}
-use Rattle.std.proofs.lemmas.Bool.{ltb-true, ltb-false, lt-ltb, le-ltb, eqb-true, eq-eqb}
+use Rattle.std.proofs.lemmas.Bool.{ltb-true, ltb-false, lt-ltb, le-ltb, eqb-true, eq-eqb, not-true}
 use Rattle.std.proofs.lemmas.List.Sums.{sum_by-cons}
 use Rattle.dispatch.specs.declared.reservation.Account.{Account}
 use Rattle.dispatch.specs.declared.reservation.Run.{Run}
@@ -39,10 +39,6 @@ follows false b is one = absurd (cc one)
 implied : (a b : Bool) → (a ≡ true → b ≡ true) → (not a || b) ≡ true
 implied true b h = h refl
 implied false b h = refl
-
-not_true : (a : Bool) → not a ≡ true → a ≡ false
-not_true true is = absurd (cc is)
-not_true false is = refl
 
 true_not : (a : Bool) → a ≡ false → not a ≡ true
 true_not true is = absurd (cc is)
@@ -94,7 +90,7 @@ tasks : (s : Reservations) → list_all has_tasks_for s.accounts ≡ true → Ha
 tasks s all k waits =
     let test = each_passes has_tasks_for s.accounts refl all k in
     ltb-false (tasks_of (account_at s k) * WHOLE) (account_at s k).guarantee
-    (not_true (nat_lt (tasks_of (account_at s k) * WHOLE) (account_at s k).guarantee)
+    (not-true (nat_lt (tasks_of (account_at s k) * WHOLE) (account_at s k).guarantee)
     (follows (nat_lt 0 (account_at s k).share.waiting)
     (not (nat_lt (tasks_of (account_at s k) * WHOLE) (account_at s k).guarantee)) test
     (lt-ltb 0 (account_at s k).share.waiting waits)))
@@ -112,7 +108,7 @@ still : (s : Reservations) → list_all is_still s.accounts ≡ true → NoneWai
 still s all k =
     let test = each_passes is_still s.accounts refl all k in
     let none = ltb-false 0 (account_at s k).share.waiting
-    (not_true (nat_lt 0 (account_at s k).share.waiting) test) in
+    (not-true (nat_lt 0 (account_at s k).share.waiting) test) in
     omega (arith, none)
 
 -- ---- of each processor
@@ -125,7 +121,7 @@ within_sound : (quantum ns : ℕ) (q : Option Run) → is_within quantum ns q �
     → RunsWithin quantum ns q
 within_sound quantum ns None is = tt
 within_sound quantum ns (Some run) is =
-    ltb-false quantum (run.age + ns) (not_true (nat_lt quantum (run.age + ns)) is)
+    ltb-false quantum (run.age + ns) (not-true (nat_lt quantum (run.age + ns)) is)
 
 within_complete : (quantum ns : ℕ) (q : Option Run) → RunsWithin quantum ns q
     → is_within quantum ns q ≡ true
@@ -138,7 +134,7 @@ within_complete quantum ns (Some run) is =
 whole_of : (t : Terms) (xs : List Account) (i : ℕ) → is_whole t (slice_get xs i) ≡ true
     → (get_or xs i no_account).owed ≤ most_in t (get_or xs i no_account)
 whole_of t [] i is = omega arith
-whole_of t (x ∷ xs) zero is = ltb-false (most_in t x) x.owed (not_true (nat_lt (most_in t x) x.owed) is)
+whole_of t (x ∷ xs) zero is = ltb-false (most_in t x) x.owed (not-true (nat_lt (most_in t x) x.owed) is)
 whole_of t (x ∷ xs) (suc i) is = whole_of t xs i is
 
 is_whole_of : (t : Terms) (xs : List Account) (i : ℕ)
@@ -290,7 +286,7 @@ host_sound s is =
     record {
       some = ltb-true 0 (length s.processors) one.0;
       guarantees = fits (WHOLE * length s.processors) s.accounts two.0;
-      slack = ltb-false s.credit s.slack (not_true (nat_lt s.credit s.slack) two.1);
+      slack = ltb-false s.credit s.slack (not-true (nat_lt s.credit s.slack) two.1);
     }
 
 host_told : (s : Reservations) → FitsHost s → fits_host s ≡ true

@@ -5,7 +5,7 @@ use Rattle.std.proofs.Common.{slice_get, slice_set, get_or, refl, ap, sym, subst
 use Rattle.std.proofs.Common.{if◌then◌else◌}
 use Rattle.std.proofs.Math.Nat.{mul-le-mul_right}
 use Rattle.std.proofs.lemmas.List.{get_or-set_same, get_or-set_other}
-use Rattle.std.proofs.lemmas.Bool.{eq-eqb, eqb-true}
+use Rattle.std.proofs.lemmas.Bool.{eqb-false, eqb-true}
 use Rattle.dispatch.specs.declared.leaves.Leaf.{Leaf}
 use Rattle.dispatch.specs.declared.events.Event.{Event}
 use Rattle.dispatch.specs.declared.events.Event.TheVariants.{Wake, Pick, End}
@@ -16,18 +16,12 @@ use Rattle.dispatch.specs.Runs.{IsStart, after_all, IsRun, UsesAtMost, WaitsAt, 
 use Rattle.dispatch.specs.Runs.{most_ahead, LeadIsBounded, one_run, runs_of}
 use Rattle.dispatch.proofs.Counts.{one_run_same, one_run_other, runs_set, two_runs, length_set}
 
-apart : (k x : ℕ) → (k == x) ≡ false → k ≡ x → ⊥
-apart k x is e =
-    let f : (x == x) ≡ false = subst (λ (y : ℕ). (y == x) ≡ false) e is in
-    let t : (x == x) ≡ true = eq-eqb x x refl in
-    absurd (let clash : true ≡ false = sym t ∙ f in cc clash)
-
 -- by whether two indexes are one
 pub by_index : (P : ℕ → Type 0) (i j : ℕ) → P j → (i ≢ j → P i) → P i
 by_index P i j same other = by_test (i == j) refl where
   by_test : (b : Bool) → (i == j) ≡ b → P i
   by_test true is = subst P (sym (eqb-true i j is)) same
-  by_test false is = other (apart i j is)
+  by_test false is = other (eqb-false i j is)
 
 -- a leaf after one at an index was set
 pub leaf_set : (ls : List Leaf) (k x : ℕ) (l d : Leaf) → k < length ls
@@ -45,7 +39,7 @@ leaf_set ls k x l d known = by_test (k == x) refl where
             (get_or-set_same ls k l d known),
       )
   by_test false is =
-      let ne : k ≢ x = apart k x is in
+      let ne : k ≢ x = eqb-false k x is in
       inr (ne, get_or-set_other ls k x l d (λ e. ne (sym e)))
 
 -- ---- numbers

@@ -3,7 +3,8 @@ use Rattle.std.proofs.Common.{◌≡◌, length, arith, rules, sym, ap, ◌∙�
 use Rattle.std.specs.Prelude.{slice_index, slice_set}
 use Rattle.std.proofs.lemmas.List.{length-set}
 use Rattle.bw_owned.specs.Pods.{of_part, of_init, of_sidecar, of_lasting}
-use Rattle.bw_owned.proofs.PodSums.{more_below, starting_more, reached_more, amount_is}
+use Rattle.bw_model.proofs.CallerLemmas.{sum_below-more}
+use Rattle.bw_owned.proofs.PodSums.{starting_more, reached_more, amount_is}
 use Rattle.bw_owned.proofs.pod.amount_with.Goals as goal
 
 pub loop-k-preserved : goal.loop-k-preserved
@@ -19,8 +20,8 @@ loop-k-preserved c =
     c.of_sidecar.ensures ∙ ap (of_sidecar (slice_index kinds k)) own in
     let last : c.of_lasting.result ≡ of_part of_lasting kinds amounts k =
     c.of_lasting.ensures ∙ ap (of_lasting (slice_index kinds k)) own in
-    let sidecars = more_below k (of_part of_sidecar kinds amounts) in
-    let lasting = more_below k (of_part of_lasting kinds amounts) in
+    let sidecars = sum_below-more k (of_part of_sidecar kinds amounts) in
+    let lasting = sum_below-more k (of_part of_lasting kinds amounts) in
     let one = c.from-sidecars.ensures in
     let other = c.from-lasting.ensures in
     record {

@@ -4,7 +4,8 @@ use Rattle.std.specs.Prelude.{map, slice_index}
 use Rattle.std.proofs.lemmas.List.{length-map, get_or_read}
 use Rattle.bw_model.specs.Groups.{children_of, weight_of}
 use Rattle.bw_questions.specs.Passes.{of_children}
-use Rattle.bw_questions.proofs.AtGroup.{map_is, children_in, children_differ, not_listed}
+use Rattle.bw_plan.proofs.CallerLemmas.{map_is}
+use Rattle.bw_questions.proofs.AtGroup.{children_in, children_differ, not_listed}
 use Rattle.bw_questions.proofs.from_root.pass.share.Goals as goal
 
 pub write_at-requires-clause-within : goal.write_at-requires-clause-within
