@@ -181,9 +181,10 @@ DEFINITION = re.compile(
 IMPORT = re.compile(r"^(?:ghost )?use Rattle\.(\w+)\.specs\.([\w.]+)\.\{([^}]*)\}", re.M)
 # Crates whose functions are there beside their predicates and records.
 WHOLE = ("bw_model", "bw_machine")
-# Programs and the C library, whose definitions put those of the crates below into other forms, and
-# the laws, which `--laws` has in words.
-LEFT_OUT_CRATES = ("arbiter", "bw_exports", "bw_change_laws")
+# Programs and the C library, whose definitions put those of the crates below into other forms.
+LEFT_OUT_CRATES = ("arbiter", "bw_exports")
+# The laws of a change, which `--laws` has in words.
+LEFT_OUT_FOLDER = "changes"
 # Functions of a refusal that say no more than their names.
 PLAIN = re.compile(r"_fault_(?:number|name)$")
 DEFINITIONS_HEAD = """# Definitions
@@ -240,6 +241,8 @@ def definitions_page() -> str:
         top, rows = ROOT / "crates" / crate / "specs", ""
         for path in sorted(top.rglob("*.antt")):
             file = str(path.relative_to(top).with_suffix(""))
+            if file.startswith(LEFT_OUT_FOLDER + "/"):
+                continue
             for name, comment in definitions(path):
                 if is_listed(crate, file, name, known):
                     rows += f"| `{file}.{name}` | {comment} |\n"

@@ -16,10 +16,12 @@ use Rattle.bw_model.specs.Plan.{IsPlan}
 use Rattle.bw_model.proofs.CallerLemmas.{capped, capped-IsMost, from_the_last, is_under-self}
 use Rattle.bw_model.proofs.CallerLemmas.{mosts, mosts-capped, parent_lt}
 use Rattle.bw_plan.specs.Laws.{HasOnePlan, ThereIsOnePlan}
-use Rattle.bw_change_laws.specs.Asked.{DemandsInsideOnlyCut, IsBusierInside}
-use Rattle.bw_change_laws.specs.Tree.{IsSameTree}
-use Rattle.bw_change_laws.proofs.CallerLemmas.{leaf_same, limits_same, same_tree, under_same}
-use Rattle.bw_change_laws.proofs.CallerLemmas.{want_same, weights_same}
+use Rattle.bw_questions.specs.changes.Asked.{DemandsInsideOnlyCut, IsBusierInside}
+use Rattle.bw_questions.specs.changes.Tree.{IsSameTree}
+use Rattle.bw_questions.proofs.changes.OtherDemands.{limits_same, same_tree}
+use Rattle.bw_questions.proofs.changes.Trees.{leaf_same, under_same}
+use Rattle.bw_questions.proofs.changes.OtherDemands.{weights_same}
+use Rattle.bw_questions.proofs.changes.Trees.{want_same}
 use Rattle.bw_questions.specs.Busy.{busy_rows}
 use Rattle.bw_questions.specs.FromRoot.{IsKept}
 use Rattle.bw_questions.specs.Guarantee.{IsGuaranteed}

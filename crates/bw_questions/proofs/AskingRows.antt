@@ -13,8 +13,9 @@ use Rattle.bw_model.specs.Groups.{Groups, IsInstance, no_row, parent_of, row_of}
 use Rattle.bw_model.specs.Groups.{weight_of, demand_of, limit_of, is_leaf}
 use Rattle.bw_model.specs.Plan.{IsPlan}
 use Rattle.bw_model.proofs.CallerLemmas.{get_or_within}
-use Rattle.bw_change_laws.proofs.CallerLemmas.{planned, AreAlike, limits_same}
-use Rattle.bw_change_laws.proofs.CallerLemmas.{other_demands-IsInstance}
+use Rattle.bw_questions.proofs.changes.OtherDemands.{AreAlike, limits_same}
+use Rattle.bw_questions.proofs.changes.Trees.{planned}
+use Rattle.bw_questions.proofs.changes.OtherDemands.{other_demands-IsInstance}
 use Rattle.bw_questions.specs.HeldRule.{asking, row_asking, demand_where, own_limit, is_hungry, round_of}
 use Rattle.bw_questions.specs.HeldRule.{everyone, leaf_limit, round_limit}
 

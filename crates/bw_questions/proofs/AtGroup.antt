@@ -17,7 +17,7 @@ use Rattle.bw_model.proofs.CallerLemmas.{parent_lt, listed_child, parent_not_lea
 use Rattle.bw_model.proofs.CallerLemmas.{is_child_from_parent, parent_from_is_child, is_child_no}
 use Rattle.bw_split.specs.Conditions.{CanSplit}
 use Rattle.bw_plan.proofs.CallerLemmas.{weights_in_range, few_children}
-use Rattle.bw_change_laws.proofs.CallerLemmas.{at_children}
+use Rattle.bw_questions.proofs.changes.Trees.{at_children}
 use Rattle.bw_questions.specs.Needs.{AreWithin, IsLeastAmount, IsLeastMeeting}
 use Rattle.bw_questions.specs.declared.from_root.meeting.Meeting.{Meeting}
 use Rattle.bw_questions.specs.Passes.{AreColumns, AreNeedsBelow, CanShareAt, IsFirst}

@@ -14,7 +14,7 @@ use Rattle.bw_model.proofs.CallerLemmas.{parent_not_leaf, listed_child, get_or-m
 use Rattle.bw_demand.specs.Demands.{Demands, IsGathered}
 use Rattle.bw_plan.specs.Shared.{IsPlanning}
 use Rattle.bw_plan.proofs.CallerLemmas.{plan-IsPlanning, at_most}
-use Rattle.bw_change_laws.proofs.CallerLemmas.{find_greater}
+use Rattle.bw_questions.proofs.changes.Lists.{find_greater}
 use Rattle.bw_questions.specs.Reasons.{IsBlamed}
 use Rattle.bw_questions.specs.Laws.{BlamedHasItsLimit}
 use Rattle.bw_questions.proofs.Paths.{above_cases, above_le, above_parent, one_line, child_above}

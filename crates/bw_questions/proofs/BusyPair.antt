@@ -5,9 +5,10 @@ use Rattle.std.proofs.lemmas.Bool.{cases_lt}
 use Rattle.bw_model.specs.Groups.{Groups, IsInstance, demand_of, is_under, limit_of, weight_of}
 use Rattle.bw_model.specs.Plan.{IsPlan}
 use Rattle.bw_plan.specs.Laws.{HasOnePlan, ThereIsOnePlan}
-use Rattle.bw_change_laws.specs.Tree.{IsSameTree}
-use Rattle.bw_change_laws.proofs.CallerLemmas.{leaf_same, limits_same, same_tree, under_same}
-use Rattle.bw_change_laws.proofs.CallerLemmas.{weights_same}
+use Rattle.bw_questions.specs.changes.Tree.{IsSameTree}
+use Rattle.bw_questions.proofs.changes.OtherDemands.{limits_same, same_tree}
+use Rattle.bw_questions.proofs.changes.Trees.{leaf_same, under_same}
+use Rattle.bw_questions.proofs.changes.OtherDemands.{weights_same}
 use Rattle.bw_questions.specs.Busy.{busy_rows}
 use Rattle.bw_questions.specs.FromRoot.{IsKept}
 use Rattle.bw_questions.specs.Guarantee.{IsGuaranteed}

@@ -13,7 +13,7 @@ use Rattle.bw_model.specs.declared.limits.TheConstants.{MAX_DEMAND}
 use Rattle.bw_model.specs.Groups.{Groups, IsInstance, AreTreeRows, no_row, parent_of, row_of}
 use Rattle.bw_model.specs.Groups.{demand_of, is_leaf, is_under}
 use Rattle.bw_model.proofs.CallerLemmas.{parent_lt, is_under-step, is_under-top}
-use Rattle.bw_change_laws.proofs.CallerLemmas.{AreAlike, other_demands-IsInstance}
+use Rattle.bw_questions.proofs.changes.OtherDemands.{AreAlike, other_demands-IsInstance}
 use Rattle.bw_questions.specs.Busy.{flag_of, busy_row, busy_rows}
 
 -- The next row's flag, by those before it.

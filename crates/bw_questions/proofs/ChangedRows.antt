@@ -10,8 +10,8 @@ use Rattle.bw_model.specs.declared.limits.TheConstants.{MIN_WEIGHT, MAX_WEIGHT}
 use Rattle.bw_model.specs.declared.row.Row.{Row}
 use Rattle.bw_model.specs.Groups.{Groups, IsInstance, AreTreeRows, no_row, parent_of, row_of}
 use Rattle.bw_model.specs.Groups.{demand_of}
-use Rattle.bw_change_laws.specs.Tree.{IsSameTree}
-use Rattle.bw_change_laws.proofs.CallerLemmas.{depth_same, leaf_same}
+use Rattle.bw_questions.specs.changes.Tree.{IsSameTree}
+use Rattle.bw_questions.proofs.changes.Trees.{depth_same, leaf_same}
 
 -- the groups with these rows, one in place of each
 abbrev pub changed : Groups → (ℕ → Row) → Groups

@@ -10,8 +10,8 @@ use Rattle.bw_model.specs.declared.row.Row.{Row}
 use Rattle.bw_model.specs.Groups.{Groups, IsInstance, no_row}
 use Rattle.bw_model.specs.Groups.{demand_of, weight_of, limit_of}
 use Rattle.bw_model.specs.Host.{capacity_of}
-use Rattle.bw_change_laws.specs.Host.{IsRoomier}
-use Rattle.bw_change_laws.specs.Tree.{IsSameTree}
+use Rattle.bw_questions.specs.changes.Host.{IsRoomier}
+use Rattle.bw_questions.specs.changes.Tree.{IsSameTree}
 use Rattle.bw_questions.specs.HeldRule.{own_limit}
 use Rattle.bw_questions.specs.OtherLimits.{cut_row, cut_to, full_limit}
 use Rattle.bw_questions.proofs.ChangedRows as changed

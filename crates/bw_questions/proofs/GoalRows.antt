@@ -6,8 +6,8 @@ use Rattle.bw_model.specs.declared.row.Row.{Row}
 use Rattle.bw_model.specs.Groups.{AreTreeRows, children_of, is_under}
 use Rattle.bw_model.proofs.CallerLemmas.{child_at, is_under-self, listed_child, list_any-range}
 use Rattle.bw_model.proofs.CallerLemmas.{parent_lt, some_in_range}
-use Rattle.bw_change_laws.specs.Tree.{IsSameTree}
-use Rattle.bw_change_laws.proofs.CallerLemmas.{under_same}
+use Rattle.bw_questions.specs.changes.Tree.{IsSameTree}
+use Rattle.bw_questions.proofs.changes.Trees.{under_same}
 use Rattle.bw_questions.specs.Lowered.{has_goal, has_goal_under}
 use Rattle.bw_questions.proofs.LeastLaw.{parent_above}
 use Rattle.bw_questions.proofs.Paths.{child_above}

@@ -13,7 +13,7 @@ use Rattle.bw_model.specs.Groups.{parent_of, sum_of_children}
 use Rattle.bw_model.specs.Plan.{IsPlan}
 use Rattle.bw_model.proofs.CallerLemmas.{IsPlan-unique, from_the_last, is_under-self, no_children}
 use Rattle.bw_model.proofs.CallerLemmas.{parent_lt}
-use Rattle.bw_change_laws.proofs.CallerLemmas.{at_children, planned}
+use Rattle.bw_questions.proofs.changes.Trees.{at_children, planned}
 use Rattle.bw_questions.specs.Beside.{GoalsComeTo, HalvesAreHad}
 use Rattle.bw_questions.proofs.Paths.{above_parent}
 

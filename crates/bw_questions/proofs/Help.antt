@@ -6,7 +6,7 @@ use Rattle.bw_model.specs.Groups.{Groups, IsInstance, limit_of}
 use Rattle.bw_model.specs.Plan.{IsPlan}
 use Rattle.bw_model.proofs.CallerLemmas.{mosts, mosts-capped, most_le_limit}
 use Rattle.bw_plan.proofs.CallerLemmas.{plan-IsPlanning, at_most}
-use Rattle.bw_change_laws.specs.Cut.{NoMoreBelow, LimitGivesOrLetsGo}
+use Rattle.bw_questions.specs.changes.Cut.{NoMoreBelow, LimitGivesOrLetsGo}
 use Rattle.bw_questions.specs.Laws.{OnlyTheBlamedLimitHelps, BlamedGainsOrIsClear}
 use Rattle.bw_questions.proofs.Blame.{at_its_limit}
 use Rattle.bw_questions.proofs.Paths.{above_le}

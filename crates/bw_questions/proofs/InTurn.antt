@@ -5,7 +5,7 @@ use Rattle.std.proofs.lemmas.Bool.{cases_eq, cases_lt, eq-eqb, ne_eqb}
 use Rattle.bw_model.specs.Groups.{Groups, IsInstance}
 use Rattle.bw_model.proofs.CallerLemmas.{strong}
 use Rattle.bw_plan.specs.Laws.{ThereIsOnePlan}
-use Rattle.bw_change_laws.specs.Room.{OthersRoomGivesNothing}
+use Rattle.bw_questions.specs.changes.Room.{OthersRoomGivesNothing}
 use Rattle.bw_questions.specs.OtherLimits.{AreCuts, AreLimitsFrom, CanBeMet}
 use Rattle.bw_questions.specs.OtherLimits.{IsGreatestLevel, IsGreatestRaise, IsRaisedInTurn}
 use Rattle.bw_questions.specs.OtherLimits.{LimitsAreOne, at_level, full_limit, limit_at}

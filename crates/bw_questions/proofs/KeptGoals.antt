@@ -10,9 +10,9 @@ use Rattle.bw_model.specs.Demand.{AreMaxTotals, want_of}
 use Rattle.bw_model.specs.Plan.{IsPlan}
 use Rattle.bw_model.proofs.CallerLemmas.{AreMaxTotals-capped, capped, is_under-self}
 use Rattle.bw_plan.specs.Laws.{HasOnePlan, ThereIsOnePlan}
-use Rattle.bw_change_laws.specs.Asked.{DemandsInsideOnlyCut}
-use Rattle.bw_change_laws.specs.Tree.{IsSameTree}
-use Rattle.bw_change_laws.proofs.CallerLemmas.{leaf_same, under_same}
+use Rattle.bw_questions.specs.changes.Asked.{DemandsInsideOnlyCut}
+use Rattle.bw_questions.specs.changes.Tree.{IsSameTree}
+use Rattle.bw_questions.proofs.changes.Trees.{leaf_same, under_same}
 use Rattle.bw_questions.specs.declared.from_root.least.Tuned.TheVariants.{Met}
 use Rattle.bw_questions.specs.declared.from_root.measure.Measure.TheVariants.{Planned, Guaranteed}
 use Rattle.bw_questions.specs.FromRoot.{AgreesAbove, AreMet, AreMetUnder, AreNeverMet, AreReached}

@@ -6,11 +6,13 @@ use Rattle.std.proofs.lemmas.List.{get_or_past}
 use Rattle.bw_model.specs.declared.row.Row.{Row}
 use Rattle.bw_model.specs.Groups.{Groups, IsInstance, no_row, demand_of, is_leaf, is_under}
 use Rattle.bw_model.specs.Plan.{IsPlan}
-use Rattle.bw_change_laws.specs.Room.{IsBusierAround}
-use Rattle.bw_change_laws.proofs.CallerLemmas.{leaf_same, others_demands_give}
+use Rattle.bw_questions.specs.changes.Room.{IsBusierAround}
+use Rattle.bw_questions.proofs.changes.BusyLaw.{others_demands_give}
+use Rattle.bw_questions.proofs.changes.Trees.{leaf_same}
 use Rattle.bw_questions.specs.Guarantee.{IsAskedOtherwise, IsGuaranteed}
-use Rattle.bw_change_laws.proofs.CallerLemmas.{planned, under_same, same_tree, weights_same}
-use Rattle.bw_change_laws.proofs.CallerLemmas.{limits_same}
+use Rattle.bw_questions.proofs.changes.OtherDemands.{same_tree, weights_same}
+use Rattle.bw_questions.proofs.changes.Trees.{planned, under_same}
+use Rattle.bw_questions.proofs.changes.OtherDemands.{limits_same}
 use Rattle.bw_questions.proofs.BusyRows.{AreBusy, demand_leaf, busy-IsInstance, demands_under}
 
 module _ (groups : Groups) (valid : IsInstance groups) (group : ℕ) (busy : List Row)

@@ -15,9 +15,9 @@ use Rattle.bw_model.proofs.CallerLemmas.{parent_lt, listed_child, parent_not_lea
 use Rattle.bw_model.proofs.CallerLemmas.{is_under-self, most_le_want, planned-IsPlan, strong}
 use Rattle.bw_plan.specs.Shared.{IsPlanning}
 use Rattle.bw_plan.proofs.CallerLemmas.{at_most, plan-IsPlanning}
-use Rattle.bw_change_laws.specs.Tree.{IsSameTree}
-use Rattle.bw_change_laws.proofs.CallerLemmas.{at_children, children_same, from_the_root}
-use Rattle.bw_change_laws.proofs.CallerLemmas.{leaf_same, step_same, under_same, want_same}
+use Rattle.bw_questions.specs.changes.Tree.{IsSameTree}
+use Rattle.bw_questions.proofs.changes.Trees.{at_children, children_same, from_the_root}
+use Rattle.bw_questions.proofs.changes.Trees.{leaf_same, step_same, under_same, want_same}
 use Rattle.bw_questions.specs.Passes.{AreAllNeeds, AreColumns, IsBeyond, IsLeastAt, IsNeed, IsPassed}
 use Rattle.bw_questions.specs.Passes.{MeetsAt, Suffices, of_children}
 use Rattle.bw_questions.specs.FromRoot.{AgreesAbove, AreReached, AreRowWeights, AreTops}

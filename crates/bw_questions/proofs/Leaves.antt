@@ -14,7 +14,7 @@ use Rattle.bw_model.proofs.CallerLemmas.{sum_below-zero, total-sum, leaf_no_chil
 use Rattle.bw_model.proofs.CallerLemmas.{is_child_from_parent, is_under-top, is_under-step}
 use Rattle.bw_model.proofs.CallerLemmas.{is_under-self, and_no, mosts, mosts-capped, parent_lt}
 use Rattle.bw_model.proofs.CallerLemmas.{most_le_limit, most_le_want}
-use Rattle.bw_change_laws.proofs.CallerLemmas.{within_most}
+use Rattle.bw_questions.proofs.changes.Lacking.{within_most}
 
 module _ (rows : List Row) (tree : AreTreeRows rows) where
   parent_within : (k p : ℕ) → parent_of rows k ≡ Some p → k < length rows

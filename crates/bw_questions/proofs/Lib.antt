@@ -43,3 +43,4 @@ mod ServedRounds
 mod StillInstance
 mod TimeSlices
 mod Weighed
+mod changes

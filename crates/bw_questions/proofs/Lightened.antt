@@ -7,7 +7,7 @@ use Rattle.std.proofs.lemmas.List.{get_or_past}
 use Rattle.bw_model.specs.declared.row.Row.{Row}
 use Rattle.bw_model.specs.declared.limits.TheConstants.{MIN_WEIGHT}
 use Rattle.bw_model.specs.Groups.{Groups, IsInstance, no_row, weight_of}
-use Rattle.bw_change_laws.proofs.CallerLemmas.{leaf_same, under_same}
+use Rattle.bw_questions.proofs.changes.Trees.{leaf_same, under_same}
 use Rattle.bw_questions.specs.declared.from_root.measure.Measure.TheVariants.{Planned}
 use Rattle.bw_questions.specs.FromRoot.{AreFloors}
 use Rattle.bw_questions.specs.FromRoot.{AreRowWeights, IsFromRoot}

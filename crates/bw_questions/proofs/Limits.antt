@@ -7,10 +7,10 @@ use Rattle.bw_model.specs.declared.row.Row.{Row}
 use Rattle.bw_model.specs.Groups.{Groups, IsInstance, row_of, limit_of}
 use Rattle.bw_model.specs.Plan.{IsPlan}
 use Rattle.bw_plan.specs.Laws.{HasOnePlan, ThereIsOnePlan}
-use Rattle.bw_change_laws.specs.Cut.{IsLimitedAt, LimitOnlyCuts}
-use Rattle.bw_change_laws.specs.Host.{IsRoomier}
-use Rattle.bw_change_laws.specs.Tree.{IsSameTree}
-use Rattle.bw_change_laws.proofs.CallerLemmas.{limit_below}
+use Rattle.bw_questions.specs.changes.Cut.{IsLimitedAt, LimitOnlyCuts}
+use Rattle.bw_questions.specs.changes.Host.{IsRoomier}
+use Rattle.bw_questions.specs.changes.Tree.{IsSameTree}
+use Rattle.bw_questions.proofs.changes.Trees.{limit_below}
 use Rattle.bw_questions.specs.Change.{with_limit}
 use Rattle.bw_questions.specs.Least.{Reaches, IsLeastLimit}
 use Rattle.bw_questions.proofs.StillInstance.{field_same, row_here, row_other, as_many}

@@ -6,9 +6,9 @@ use Rattle.std.proofs.lemmas.Bool.{cases_lt, lt-ltb}
 use Rattle.bw_model.specs.Groups.{Groups, IsInstance, demand_of, limit_of, is_under}
 use Rattle.bw_model.specs.Host.{Shape, capacity_of}
 use Rattle.bw_plan.specs.Laws.{HasOnePlan, ThereIsOnePlan}
-use Rattle.bw_change_laws.specs.Room.{IsRoomierAround, OthersRoomGivesNothing}
-use Rattle.bw_change_laws.specs.Tree.{IsSameTree}
-use Rattle.bw_change_laws.proofs.CallerLemmas.{under_same}
+use Rattle.bw_questions.specs.changes.Room.{IsRoomierAround, OthersRoomGivesNothing}
+use Rattle.bw_questions.specs.changes.Tree.{IsSameTree}
+use Rattle.bw_questions.proofs.changes.Trees.{under_same}
 use Rattle.bw_questions.specs.Busy.{busy_rows}
 use Rattle.bw_questions.specs.FromRoot.{AreMet, IsKept, IsReweightedAt}
 use Rattle.bw_questions.specs.HeldRule.{own_limit}

@@ -10,9 +10,9 @@ use Rattle.bw_model.specs.declared.row.Row.{Row}
 use Rattle.bw_model.specs.Groups.{Groups, IsInstance, demand_of, limit_of, no_row}
 use Rattle.bw_model.specs.Groups.{weight_of}
 use Rattle.bw_plan.specs.Laws.{HasOnePlan, ThereIsOnePlan}
-use Rattle.bw_change_laws.specs.Tree.{IsSameTree}
-use Rattle.bw_change_laws.specs.Weight.{IsHeavierAround, OthersWeightsGiveNothing}
-use Rattle.bw_change_laws.proofs.CallerLemmas.{under_same}
+use Rattle.bw_questions.specs.changes.Tree.{IsSameTree}
+use Rattle.bw_questions.specs.changes.Weight.{IsHeavierAround, OthersWeightsGiveNothing}
+use Rattle.bw_questions.proofs.changes.Trees.{under_same}
 use Rattle.bw_questions.specs.FromRoot.{AreMet, AreRowWeights, IsKept, IsReweightedAt}
 use Rattle.bw_questions.specs.Lowered.{CanBeMetAt, has_goal, is_own, level_weight, level_weights}
 use Rattle.bw_questions.specs.Lowered.{lowered, own_rows}

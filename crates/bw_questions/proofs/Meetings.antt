@@ -7,8 +7,8 @@ use Rattle.bw_model.specs.declared.limits.TheConstants.{MAX_WEIGHT}
 use Rattle.bw_model.specs.Split.{IsBestSplit}
 use Rattle.bw_model.proofs.CallerLemmas.{sum-cons}
 use Rattle.bw_split.specs.Conditions.{CanSplit}
-use Rattle.bw_change_laws.specs.OneSplit.{AreWeighted, LighterHasNoMore}
-use Rattle.bw_change_laws.proofs.CallerLemmas.{outside}
+use Rattle.bw_questions.specs.changes.OneSplit.{AreWeighted, LighterHasNoMore}
+use Rattle.bw_questions.proofs.changes.Lists.{outside}
 use Rattle.bw_questions.specs.Needs.{AreRaised, AreWithin, AreBetween, CanMeet, IsHeavyEnough}
 use Rattle.bw_questions.specs.Needs.{IsLevelOfNeeds, MeetsNeeds}
 use Rattle.bw_questions.proofs.Levels.{cheap_at}

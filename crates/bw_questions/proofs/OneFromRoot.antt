@@ -6,8 +6,8 @@ use Rattle.std.proofs.lemmas.List.{get_or_past}
 use Rattle.std.proofs.lemmas.Option.{same_Some}
 use Rattle.bw_model.specs.declared.row.Row.{Row}
 use Rattle.bw_model.specs.Groups.{Groups, AreTreeRows, no_row, parent_of, weight_of, is_under}
-use Rattle.bw_change_laws.specs.Tree.{IsSameTree}
-use Rattle.bw_change_laws.proofs.CallerLemmas.{from_the_root, under_same}
+use Rattle.bw_questions.specs.changes.Tree.{IsSameTree}
+use Rattle.bw_questions.proofs.changes.Trees.{from_the_root, under_same}
 use Rattle.bw_questions.specs.FromRoot.{AgreesAbove}
 use Rattle.bw_questions.specs.FromRoot.{IsReweightedAt, ThereIsOneFromRoot}
 use Rattle.bw_questions.proofs.LeastLaw.{none_some}

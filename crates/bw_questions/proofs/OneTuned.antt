@@ -4,7 +4,7 @@ use Rattle.std.proofs.lemmas.Bool.{cases_lt}
 use Rattle.bw_model.specs.declared.limits.TheConstants.{MIN_WEIGHT, MAX_WEIGHT}
 use Rattle.bw_model.specs.Groups.{Groups, IsInstance}
 use Rattle.bw_plan.specs.Laws.{ThereIsOnePlan}
-use Rattle.bw_change_laws.specs.Weight.{OthersWeightsGiveNothing}
+use Rattle.bw_questions.specs.changes.Weight.{OthersWeightsGiveNothing}
 use Rattle.bw_questions.specs.FromRoot.{AreMet, AreMetUnder, AreNeverMet, IsReweightedAt}
 use Rattle.bw_questions.specs.FromRoot.{IsTunedFromRoot}
 use Rattle.bw_questions.specs.Lowered.{CanBeMetAt, IsGreatestLevel, IsTuned, ThereIsOneTuned}

@@ -6,7 +6,7 @@ use Rattle.std.proofs.lemmas.List.FromFn.{get_or-map-range_with_len, length-map-
 use Rattle.bw_model.specs.Groups.{Groups, IsInstance}
 use Rattle.bw_model.specs.Host.{capacity_of}
 use Rattle.bw_plan.specs.Laws.{ThereIsOnePlan}
-use Rattle.bw_change_laws.specs.Room.{OthersRoomGivesNothing}
+use Rattle.bw_questions.specs.changes.Room.{OthersRoomGivesNothing}
 use Rattle.bw_questions.specs.OtherLimits.{AreCuts, AreLimitsFrom, CanBeMet, IsGreatestLevel}
 use Rattle.bw_questions.specs.OtherLimits.{IsGreatestRaise, at_level, full_limit, is_free, is_raised}
 use Rattle.bw_questions.specs.OtherLimits.{limit_at, raised_limit, raised_limits}

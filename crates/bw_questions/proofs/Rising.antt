@@ -8,9 +8,10 @@ use Rattle.bw_model.specs.Host.{slices_per_processor}
 use Rattle.bw_model.specs.declared.row.Row.{Row}
 use Rattle.bw_model.specs.Groups.{Groups, IsInstance, row_of, parent_of, limit_of}
 use Rattle.bw_plan.specs.Laws.{HasOnePlan, ThereIsOnePlan}
-use Rattle.bw_change_laws.specs.Tree.{IsSameTree}
-use Rattle.bw_change_laws.specs.Host.{CapacityTakesNothing, IsRoomier, RaisedLimitsServeNoLess}
-use Rattle.bw_change_laws.specs.Weight.{IsHeavier, RaisedWeightAloneGains}
+use Rattle.bw_questions.specs.changes.Tree.{IsSameTree}
+use Rattle.bw_questions.specs.changes.Host.{CapacityTakesNothing, IsRoomier}
+use Rattle.bw_questions.specs.changes.Host.{RaisedLimitsServeNoLess}
+use Rattle.bw_questions.specs.changes.Weight.{IsHeavier, RaisedWeightAloneGains}
 use Rattle.bw_questions.specs.declared.least.setting.Setting.TheVariants.{Weight, Processors}
 use Rattle.bw_questions.specs.Change.{with_weight, with_processors}
 use Rattle.bw_questions.specs.Least.{Rises}

@@ -11,8 +11,9 @@ use Rattle.bw_model.specs.declared.limits.TheConstants.{MAX_DEMAND}
 use Rattle.bw_model.specs.Groups.{Groups, IsInstance, no_row, row_of, demand_of, is_leaf}
 use Rattle.bw_model.specs.Plan.{IsPlan}
 use Rattle.bw_plan.specs.Laws.{HasOnePlan, ThereIsOnePlan}
-use Rattle.bw_change_laws.specs.Asked.{IsBusierAt}
-use Rattle.bw_change_laws.proofs.CallerLemmas.{leaf_same, only_cuts}
+use Rattle.bw_questions.specs.changes.Asked.{IsBusierAt}
+use Rattle.bw_questions.proofs.changes.AskedLaw.{only_cuts}
+use Rattle.bw_questions.proofs.changes.Trees.{leaf_same}
 use Rattle.bw_questions.specs.Guarantee.{IsAskedOtherwise, IsGuaranteed}
 use Rattle.bw_questions.specs.HeldRule.{asking, demand_where, everyone}
 use Rattle.bw_questions.specs.HeldRule.{is_hungry, leaf_limit}

@@ -11,8 +11,9 @@ use Rattle.bw_model.specs.declared.limits.TheConstants.{MAX_CAPACITY, MAX_DEMAND
 use Rattle.bw_model.specs.Allocation.{total}
 use Rattle.bw_model.specs.Groups.{Groups, IsInstance, no_row, row_of, demand_of, limit_of, is_leaf}
 use Rattle.bw_model.specs.Plan.{IsPlan}
-use Rattle.bw_change_laws.specs.Asked.{IsBusier}
-use Rattle.bw_change_laws.proofs.CallerLemmas.{leaf_same, serve_no_more, unused_changes}
+use Rattle.bw_questions.specs.changes.Asked.{IsBusier}
+use Rattle.bw_questions.proofs.changes.AskedLaw.{serve_no_more, unused_changes}
+use Rattle.bw_questions.proofs.changes.Trees.{leaf_same}
 use Rattle.bw_questions.specs.HeldRule.{IsRound, asked_within, asking, demand_where, everyone}
 use Rattle.bw_questions.specs.HeldRule.{headroom}
 use Rattle.bw_questions.specs.HeldRule.{is_hungry, leaf_limit, own_limit, round_limit, round_of}
@@ -23,7 +24,7 @@ use Rattle.bw_questions.specs.HeldLaws.{CalmHoldsNobody}
 use Rattle.bw_questions.specs.HeldLaws.{NoneAboveItsLimit}
 use Rattle.bw_questions.specs.HeldLaws.{IsWithinPlan, LimitsAdmitThePlan}
 use Rattle.bw_questions.specs.HeldLaws.{AskedIsAdmittedAsPlanned}
-use Rattle.bw_change_laws.proofs.CallerLemmas.{same_tree, weights_same}
+use Rattle.bw_questions.proofs.changes.OtherDemands.{same_tree, weights_same}
 use Rattle.bw_questions.proofs.AskingRows.{amount_small, as_many, demand_at, asking_alike}
 use Rattle.bw_questions.proofs.AskingRows.{asking_limits}
 use Rattle.bw_questions.proofs.AskingRows.{round-IsInstance, everyone-IsInstance}

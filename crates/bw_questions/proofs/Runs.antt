@@ -8,8 +8,9 @@ use Rattle.bw_model.specs.declared.limits.TheConstants.{MAX_DEMAND}
 use Rattle.bw_model.specs.Groups.{Groups, IsInstance, demand_of, is_leaf}
 use Rattle.bw_model.specs.Plan.{IsPlan}
 use Rattle.bw_plan.specs.Laws.{ThereIsOnePlan}
-use Rattle.bw_change_laws.specs.Asked.{IsBusier}
-use Rattle.bw_change_laws.proofs.CallerLemmas.{leaf_same, serve_no_more, unused_changes}
+use Rattle.bw_questions.specs.changes.Asked.{IsBusier}
+use Rattle.bw_questions.proofs.changes.AskedLaw.{serve_no_more, unused_changes}
+use Rattle.bw_questions.proofs.changes.Trees.{leaf_same}
 use Rattle.bw_questions.specs.HeldRule.{asking, demand_where, is_hungry, round_of}
 use Rattle.bw_questions.specs.Reading.{IsSameButDemands, IsTrueReading, IsServed, ReadsNoLess}
 use Rattle.bw_questions.specs.Reading.{admitted_at}

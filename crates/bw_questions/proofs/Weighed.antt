@@ -2,7 +2,7 @@
 use Rattle.std.proofs.Common.{◌≡◌, ℕ, zero, suc, ◌<◌, ◌≤◌, List, length, get_or, refl, ap}
 use Rattle.bw_model.specs.declared.row.Row.{Row}
 use Rattle.bw_model.specs.Groups.{Groups, IsInstance, demand_of, weight_of, limit_of}
-use Rattle.bw_change_laws.specs.Tree.{IsSameTree}
+use Rattle.bw_questions.specs.changes.Tree.{IsSameTree}
 use Rattle.bw_questions.specs.FromRoot.{AreRowWeights, weighed, weighed_row}
 use Rattle.bw_questions.proofs.ChangedRows as changed
 

@@ -7,7 +7,7 @@ use Rattle.bw_model.specs.declared.row.Row.{Row}
 use Rattle.bw_model.specs.Groups.{Groups, IsInstance, parent_of, row_of, weight_of, demand_of}
 use Rattle.bw_model.specs.Groups.{limit_of, is_leaf, is_under}
 use Rattle.bw_model.specs.Plan.{IsPlan}
-use Rattle.bw_change_laws.specs.Tree.{IsSameTree}
+use Rattle.bw_questions.specs.changes.Tree.{IsSameTree}
 use Rattle.bw_questions.specs.Guarantee.{IsGuaranteed}
 use Rattle.bw_questions.specs.declared.from_root.measure.Measure.{Measure}
 use Rattle.bw_questions.specs.declared.from_root.measure.Measure.TheVariants.{Planned, Guaranteed}

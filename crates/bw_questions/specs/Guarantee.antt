@@ -2,7 +2,7 @@
 use Rattle.std.specs.Prelude.{◌≡◌, ℕ, ◌<◌, ◌≤◌, List, true, length, slice_index}
 use Rattle.bw_model.specs.Groups.{Groups, IsInstance, weight_of, demand_of, limit_of, is_under}
 use Rattle.bw_model.specs.Plan.{IsPlan}
-use Rattle.bw_change_laws.specs.Tree.{IsSameTree}
+use Rattle.bw_questions.specs.changes.Tree.{IsSameTree}
 
 -- An instance that differs from another in demands alone, and in none of a group and below it.
 pub record IsAskedOtherwise (groups others : Groups) (group : ℕ) : Type 0 where

@@ -3,8 +3,8 @@ use Rattle.std.specs.Prelude.{◌≡◌, ℕ, ◌+◌, ◌<◌, ◌≤◌, ◌�
 use Rattle.bw_model.specs.Groups.{Groups, IsInstance, weight_of, limit_of}
 use Rattle.bw_model.specs.Plan.{IsPlan}
 use Rattle.bw_demand.specs.Demands.{Demands, IsGathered}
-use Rattle.bw_change_laws.specs.Host.{IsRoomier}
-use Rattle.bw_change_laws.specs.Room.{IsRoomierAt}
+use Rattle.bw_questions.specs.changes.Host.{IsRoomier}
+use Rattle.bw_questions.specs.changes.Room.{IsRoomierAt}
 use Rattle.bw_questions.specs.declared.why.reason.Reason.{Reason}
 use Rattle.bw_questions.specs.Reasons.{IsBlamed, HasReason}
 

@@ -22,3 +22,4 @@ pub mod Reasons
 pub mod Rounds
 pub mod Served
 pub mod Written
+pub mod changes

@@ -5,7 +5,7 @@ use Rattle.std.specs.List.{range_with_len}
 use Rattle.std.specs.Option.{option_map_or}
 use Rattle.bw_model.specs.Allocation.{IsWithin}
 use Rattle.bw_model.specs.Groups.{Groups, IsInstance, weight_of, demand_of, limit_of, is_leaf}
-use Rattle.bw_change_laws.specs.Tree.{IsSameTree}
+use Rattle.bw_questions.specs.changes.Tree.{IsSameTree}
 use Rattle.bw_questions.specs.HeldRule.{is_hungry}
 
 -- Two instances that may differ in their demands alone.

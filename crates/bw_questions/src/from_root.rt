@@ -21,8 +21,8 @@ mod sums;
 mod tops;
 mod weighed;
 
+use crate::laws::others_weights_give_nothing;
 pub use beside::halves_kept;
-use bw_change_laws::others_weights_give_nothing;
 use bw_model::Instance;
 use bw_model::limits::MAX_WEIGHT;
 use bw_plan::there_is_one_plan;

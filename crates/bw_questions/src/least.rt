@@ -8,7 +8,7 @@ ghost use Rattle.bw_questions.specs.Plans.{ArePlans, halvings_of};
 mod changed;
 mod setting;
 
-use bw_change_laws::{
+use crate::laws::{
     capacity_takes_nothing, limit_only_cuts, raised_limits_serve_no_less, raised_weight_alone_gains,
 };
 use bw_machine::Count;

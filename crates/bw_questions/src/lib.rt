@@ -1,12 +1,13 @@
 //! Questions about the plan of an instance: the least that a group gets whatever the others ask
 //! for, the least value of a setting that gives a group so much, weights that meet several goals at
 //! once, limits of others with which such weights exist, why each group gets what it gets, and
-//! which limits hold the plan on a host.
+//! which limits hold the plan on a host. The answers stand on laws of what a change does to a plan.
 #![tactic(auto)]
 
 mod from_root;
 mod guaranteed;
 mod held;
+pub mod laws;
 mod least;
 mod other_limits;
 mod why;

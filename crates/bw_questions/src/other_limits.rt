@@ -9,7 +9,7 @@ mod limited;
 mod raise;
 
 use crate::from_root::Measure;
-use bw_change_laws::others_room_gives_nothing;
+use crate::laws::others_room_gives_nothing;
 use bw_model::Instance;
 use bw_plan::there_is_one_plan;
 use cut::full_limit;

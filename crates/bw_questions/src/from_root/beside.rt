@@ -8,7 +8,7 @@ ghost use Rattle.bw_questions.specs.declared.from_root.measure.Measure.TheVarian
 
 use super::measure::Measure;
 use crate::held::everyone;
-use bw_change_laws::demands_inside_only_cut;
+use crate::laws::demands_inside_only_cut;
 use bw_demand::gather_rows;
 use bw_model::Instance;
 use bw_plan::{plan, there_is_one_plan};

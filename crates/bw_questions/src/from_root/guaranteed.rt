@@ -9,7 +9,7 @@ use super::pass::weights_of;
 use super::planned::tuned_by_plan;
 use super::weighed::weighed;
 use crate::held::everyone;
-use bw_change_laws::demands_inside_only_cut;
+use crate::laws::demands_inside_only_cut;
 use bw_demand::gather_rows;
 use bw_model::Instance;
 use bw_plan::there_is_one_plan;

@@ -10,7 +10,7 @@ use super::least::Tuned;
 use super::measure::Measure;
 use super::own::goal_flags;
 use super::weighed::weighed;
-use bw_change_laws::others_weights_give_nothing;
+use crate::laws::others_weights_give_nothing;
 use bw_model::Instance;
 use bw_model::limits::{MAX_WEIGHT, MIN_WEIGHT};
 use bw_plan::there_is_one_plan;

@@ -5,7 +5,7 @@ ghost use Rattle.bw_split.specs.Conditions.{CanSplit};
 ghost use Rattle.bw_questions.specs.Needs.{AreWithin, CanMeet, IsLeastAmount, IsLeastMeeting};
 
 use super::level::{bound_of_amounts, level_of_needs, raised};
-use bw_change_laws::lighter_has_no_more;
+use crate::laws::lighter_has_no_more;
 use bw_split::{fits_in, split};
 use std::alloc::{AllocError, Global};
 

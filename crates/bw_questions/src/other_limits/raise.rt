@@ -6,7 +6,7 @@ ghost use Rattle.bw_questions.specs.OtherLimits.{raised_limit, raised_limits};
 
 use super::cut::{cut_to, full_limit};
 use crate::from_root::{Measure, Tuned, tuned_from_root};
-use bw_change_laws::others_room_gives_nothing;
+use crate::laws::others_room_gives_nothing;
 use bw_model::Instance;
 use bw_plan::there_is_one_plan;
 use std::alloc::{AllocError, Global};

@@ -2,7 +2,7 @@
 ghost use Rattle.bw_questions.specs.Laws.{BlamedHasItsLimit, ThereIsOneReason};
 ghost use Rattle.bw_questions.specs.Laws.{OnlyTheBlamedLimitHelps, BlamedGainsOrIsClear};
 
-use bw_change_laws::{limit_gives_or_lets_go, no_more_below};
+use crate::laws::{limit_gives_or_lets_go, no_more_below};
 
 /// Law: of the reasons, exactly one holds of a group.
 pub fn there_is_one_reason()

@@ -1,6 +1,0 @@
--- The goal of `greater_demands_serve_no_more`, answered by its lemma.
-use Rattle.bw_change_laws.proofs.AskedLaw.{serve_no_more}
-use Rattle.bw_change_laws.proofs.asked.greater_demands_serve_no_more.Goals as goal
-
-pub returns : goal.returns
-returns c = serve_no_more

@@ -1,6 +1,0 @@
--- The goal of `unused_demand_changes_nothing`, answered by its lemma.
-use Rattle.bw_change_laws.proofs.AskedLaw.{unused_changes}
-use Rattle.bw_change_laws.proofs.asked.unused_demand_changes_nothing.Goals as goal
-
-pub returns : goal.returns
-returns c = unused_changes

@@ -1,6 +1,0 @@
--- The goal of `fair_within_half_a_slice`, answered by its lemma.
-use Rattle.bw_change_laws.proofs.Shares.{fair}
-use Rattle.bw_change_laws.proofs.fairness.fair_within_half_a_slice.Goals as goal
-
-pub returns : goal.returns
-returns c = fair

@@ -1,6 +1,0 @@
--- The goal of `capacity_takes_nothing`, answered by its lemma.
-use Rattle.bw_change_laws.proofs.HostLaws.{capacity_takes_nothing}
-use Rattle.bw_change_laws.proofs.host.capacity_takes_nothing.Goals as goal
-
-pub returns : goal.returns
-returns c = capacity_takes_nothing

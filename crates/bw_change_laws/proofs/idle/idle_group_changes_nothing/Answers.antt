@@ -1,6 +1,0 @@
--- The goal of `idle_group_changes_nothing`, answered by its lemma.
-use Rattle.bw_change_laws.proofs.IdleLaw.{idle_changes_nothing}
-use Rattle.bw_change_laws.proofs.idle.idle_group_changes_nothing.Goals as goal
-
-pub returns : goal.returns
-returns c = idle_changes_nothing

@@ -1,6 +1,0 @@
--- The goal of `rest_stays_split`, answered by its lemma.
-use Rattle.bw_change_laws.proofs.Removed.{rest_stays}
-use Rattle.bw_change_laws.proofs.one_split.rest_stays_split.Goals as goal
-
-pub returns : goal.returns
-returns c = rest_stays

@@ -1,6 +1,0 @@
--- The goal of `more_room_takes_nothing`, answered by its lemma.
-use Rattle.bw_change_laws.proofs.RoomLaw.{more_room_takes}
-use Rattle.bw_change_laws.proofs.room.more_room_takes_nothing.Goals as goal
-
-pub returns : goal.returns
-returns c = more_room_takes
