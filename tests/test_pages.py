@@ -602,7 +602,7 @@ ROWS = {
                   "| `counted.rt:add` | rounds picks | Adds the rounds and picks of another count, "
                   "as of a piece of work in another thread. |"),
     "--laws": ("| `laws.rt:there_is_one_plan` | Each instance has exactly one plan. |",
-               "| `host.rt:capacity_takes_nothing` | A host with a greater capacity gives no group "
+               "| `laws/host.rt:capacity_takes_nothing` | A host with a greater capacity gives no group "
                "less. |"),
     "--lemmas": ("| `allocation/Limiting.antt` | The limiting groups give the greatest total. |",),
 }
