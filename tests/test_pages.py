@@ -321,7 +321,8 @@ CALLS_OF_LENT_SEATS = {
     r"\bChance::of\(": [("sleeping.rt", "read"), ("visits.rt", "chance")],
     r"\n +Found \{": [("looking.rt", "look")],
     # each call that is made has its visit
-    r"\.finish\w*\(": [("helping.rt", "make"), ("helping.rt", "leave_with"), ("seat.rt", "call")],
+    r"\.finish\w*\(": [("helping.rt", "make"), ("helping.rt", "leave_with"), ("seat.rt", "call"),
+                        ("visitor.rt", "finish_and_look")],
     r"\bTableVisit::of\(": [("seat.rt", "finish")],
     # what is lent, hinted at and taken back is noted, as what is claimed and given back
     r"::<Post>": [("steps.rt", "post")],

@@ -1,6 +1,6 @@
 -- The visit of a seat to the lock, from where it has drawn a ticket until it owes no wake.
-use Rattle.std.specs.Prelude.{◌≡◌, ◌≢◌, ℕ, zero, suc, ◌+◌, ◌-◌, ◌/◌, ◌==◌, ◌<◌, List, [], ◌∷◌}
-use Rattle.std.specs.Prelude.{Option, None, Some, if◌then◌else◌}
+use Rattle.std.specs.Prelude.{◌≡◌, ◌≢◌, ℕ, zero, suc, ◌+◌, ◌-◌, ◌/◌, ◌==◌, ◌<◌, ◌⊎◌, List, []}
+use Rattle.std.specs.Prelude.{◌∷◌, Option, None, Some, if◌then◌else◌}
 use Rattle.std.specs.Int.{bit_at}
 use Rattle.atomic_table.specs.Seated.{TableId}
 use Rattle.bw_lend.specs.declared.task.Task.{Task}
@@ -60,6 +60,10 @@ phase_of n t owed (ToGiveLast j) = Leaves t (places_from 64 0 owed) (GivingLast 
 phase_of n t owed (ToReturn j) = Leaves t (places_from 64 0 owed) (Returning j)
 phase_of n t owed (ToWakeFirst j) = Wakes (j ∷ places_from 64 0 owed)
 phase_of n t owed (ToWakeFrom k) = Wakes (places_from (64 - k) k owed)
+
+-- the seat may enter the lock, for itself or for the seat in a place
+abbrev pub MayEnter : Task → Type 0
+MayEnter task = (task ≡ ToEnter) ⊎ ((place : ℕ) × (task ≡ ToHelp place))
 
 -- the place is one of the 64, if there is one
 abbrev pub IsPlaceOf : Option ℕ → Type 0

@@ -15,9 +15,10 @@ ghost use Rattle.bw_lend.specs.declared.table.TheConstants.{TICKETS};
 
 use crate::steps::{claim, give_back};
 use crate::table::{Content, Place, Shared, Token};
+use crate::visitor::Visitor;
 use crate::visits::{Visit, wake_all, wake_first};
 use bw_machine::Machine;
-use bw_ticket::{Answer, Seat, TicketLock};
+use bw_ticket::{Answer, TicketLock};
 use std::rt::Clock;
 use std::sync::Wait;
 
@@ -45,7 +46,7 @@ fn make<M: Machine, R: Wait + Clock, V: Visit>(
     match content {
         Place::Lent(seat) => {
             let mut seat = seat;
-            let (answer, behind) = seat.finish_and_look(rt, lock);
+            let (answer, behind) = seat.finish_and_look(rt, lock, visit);
             let later = visit.leave_for(place, behind);
             (Place::Made(seat, answer), later)
         }
@@ -154,6 +155,8 @@ fn return_one<M: Machine, V: Visit>(
 
 // Makes the calls of the next tickets, as long as their seats are lent. After 64 calls the next
 // seat goes back as it is. Its owner makes its call, and helps on.
+// in a function of its own, so that a call with no later ticket has the registers
+#[inline(never)]
 fn help<M: Machine, R: Wait + Clock, V: Visit>(
     rt: &R,
     lock: &TicketLock<M>,
@@ -184,7 +187,7 @@ fn help<M: Machine, R: Wait + Clock, V: Visit>(
 fn leave_with<M: Machine, R: Wait + Clock, V: Visit>(
     rt: &R,
     lock: &TicketLock<M>,
-    seat: &mut Seat<M>,
+    seat: &mut Visitor<M>,
     visit: &mut V,
 ) -> (Answer<M::Reply>, bool)
     requires lock { seat.old.lock_id ≡ lock.now.lock_id }
@@ -197,19 +200,21 @@ fn leave_with<M: Machine, R: Wait + Clock, V: Visit>(
         (V.state visit.new ≡ gone (V.state visit.old) (ToWakeFrom 0)) }
     ensures small { (V.state visit.old).ticket + 1 < TICKETS }
 {
-    let (answer, behind) = seat.finish_and_look(rt, lock);
+    let (answer, behind) = seat.finish_and_look(rt, lock, visit);
     let later = visit.leave(behind);
     (answer, later)
 }
 
 /// Makes the pending call of the seat, then those of the next tickets that are lent, and then wakes
 /// their owners.
+// in its caller, so that the visit stays in registers
+#[inline(always)]
 pub(crate) fn finish_visit<M: Machine, R: Wait + Clock, V: Visit>(
     rt: &R,
     lock: &TicketLock<M>,
     table: &Shared<M>,
     token: &mut Token<M>,
-    seat: &mut Seat<M>,
+    seat: &mut Visitor<M>,
     visit: V,
 ) -> Answer<M::Reply>
     requires table { (token.old.table_id ≡ table.now.table_id) × IsTable table.now.table_id }

@@ -11,9 +11,10 @@ use crate::helping::finish_visit;
 use crate::sleeping::{PlaceWord, TableWord, may_take_back, sleep_lent};
 use crate::steps::{TakenBack, post, store_hint, take_back};
 use crate::table::{Content, Place, Shared, Token, low_half};
+use crate::visitor::Visitor;
 use crate::visits::Visit;
 use bw_machine::Machine;
-use bw_ticket::{Answer, Seat, TicketLock};
+use bw_ticket::{Answer, TicketLock};
 use std::hint::spin_loop;
 use std::rt::Clock;
 use std::snapshot::Snapshot;
@@ -60,7 +61,7 @@ fn wait_for_place<M: Machine, R: Wait, W: PlaceWord, V: Visit>(
     place: usize,
     word: &mut W,
     visit: &V,
-    lent: &Snapshot<Seat<M>>,
+    lent: &Snapshot<Visitor<M>>,
 ) -> (Content<M>, TakenBack)
     requires table { (token.old.table_id ≡ table.now.table_id) × IsTable table.now.table_id }
     requires lends { token.old.me ≡
@@ -97,11 +98,11 @@ fn go_on<M: Machine, R: Wait + Clock, V: Visit>(
     lock: &TicketLock<M>,
     table: &Shared<M>,
     token: &mut Token<M>,
-    lent: &Snapshot<Seat<M>>,
+    lent: &Snapshot<Visitor<M>>,
     content: Content<M>,
     taken: TakenBack,
     visit: V,
-) -> (Seat<M>, Answer<M::Reply>)
+) -> (Visitor<M>, Answer<M::Reply>)
     requires table { (token.old.table_id ≡ table.now.table_id) × IsTable table.now.table_id }
     requires visit { (V.state visit).table ≡ table.now.table_id }
     requires owner { (mine : _) × IsOwner lock.now.lock_id mine token.old.me }
@@ -134,15 +135,17 @@ fn go_on<M: Machine, R: Wait + Clock, V: Visit>(
 }
 
 /// Lends the seat until a helper has made its pending call, or it has to make that itself.
+// in a function of its own, so that a call that need not wait has the registers
+#[inline(never)]
 pub(crate) fn finish_lent<M: Machine, R: Wait + Clock, V: Visit>(
     rt: &R,
     lock: &TicketLock<M>,
     table: &Shared<M>,
     token: &mut Token<M>,
     place: usize,
-    seat: Seat<M>,
+    seat: Visitor<M>,
     visit: V,
-) -> (Seat<M>, Answer<M::Reply>)
+) -> (Visitor<M>, Answer<M::Reply>)
     requires table { (token.old.table_id ≡ table.now.table_id) × IsTable table.now.table_id }
     requires visit { (V.state visit).table ≡ table.now.table_id }
     requires owner { IsOwner lock.now.lock_id place token.old.me }

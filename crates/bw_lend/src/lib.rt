@@ -19,6 +19,7 @@ mod stake;
 mod steps;
 mod table;
 mod task;
+mod visitor;
 mod visits;
 
 pub use crowd_laws::{

@@ -1,6 +1,6 @@
 //! Seats that may lend themselves.
 ghost use Rattle.std.specs.Prelude.{◌≡◌, ◌+◌, ◌-◌, ◌<◌, ◌≤◌, ◌∷◌, [], ◌++◌};
-ghost use Rattle.std.specs.Prelude.{All, None, Some, length, vec_capacity};
+ghost use Rattle.std.specs.Prelude.{All, None, Some, length};
 ghost use Rattle.std.specs.Prelude.{IfOk, IfErr, IsSome, MatchOption};
 ghost use Rattle.bw_machine.specs.History.{made};
 ghost use Rattle.bw_ticket.specs.Holder.{ticket_pending};
@@ -14,6 +14,7 @@ use crate::lending::{finish_lent, is_soon};
 use crate::plays::HandOut;
 use crate::steps::open_place;
 use crate::table::{Content, PLACES, Place, Places, Token, WORDS};
+use crate::visitor::{Visitor, move_home};
 use crate::visits::TableVisit;
 use atomic_table::Table;
 use bw_machine::Machine;
@@ -29,7 +30,7 @@ use std::sync::{Arc, Wait};
 #[derive(Drop)]
 pub struct LendingSeat<M: Machine> {
     // none only while it is lent
-    seat: Option<Seat<M>>,
+    seat: Option<Visitor<M>>,
     places: Arc<Places<M>, Global>,
     token: Token<M>,
     place: usize,
@@ -84,14 +85,14 @@ impl<M: Machine> LendingSeat<M> {
             place,
         } = berth;
         LendingSeat {
-            seat: Some(seat),
+            seat: Some(Visitor::of(seat)),
             places,
             token,
             place,
         }
     }
 
-    fn into_seat(self) -> Seat<M>
+    pub(crate) fn into_visitor(self) -> Visitor<M>
         ensures { result ≡ self }
     {
         let LendingSeat {
@@ -104,7 +105,7 @@ impl<M: Machine> LendingSeat<M> {
         seat
     }
 
-    fn seat(&self) -> &Seat<M>
+    fn seat(&self) -> &Visitor<M>
         ensures { result.now ≡ self.now }
     {
         let Some(seat) = &self.seat else {
@@ -167,7 +168,8 @@ impl<M: Machine> LendingSeat<M> {
         let Some(seat) = &mut self.seat else {
             unreachable!()
         };
-        seat.take(lock, call)
+        let ticket = seat.take(lock, call)?;
+        Ok(ticket)
     }
 
     /// Makes the pending call, once all earlier tickets are served.
@@ -345,18 +347,6 @@ pub fn lend<M: Machine>(
     Ok(lending)
 }
 
-// Moves the seats into a list that has room for them.
-fn move_home<M: Machine>(seats: Vec<LendingSeat<M>>, mut home: Vec<Seat<M>>) -> Vec<Seat<M>>
-    requires empty { home.items ≡ [] }
-    requires room { length seats.items ≤ vec_capacity home }
-    ensures { result.items ≡ seats.items }
-{
-    for seat in seats {
-        home.push_reserved(seat.into_seat());
-    }
-    home
-}
-
 /// The seats of a lock, which no longer lend themselves. All go at once: a seat of the lock's own
 /// would wake no lent one.
 ///
@@ -373,9 +363,8 @@ pub fn take_home<M: Machine>(
     ensures ok { IfOk result (λ v. v.items ≡ seats.items) }
     ensures err { IfErr result (λ f. f.value.items ≡ seats.items) }
 {
-    let _ = lock;
     match Vec::with_capacity(alloc, seats.len()) {
-        Ok(home) => Ok(move_home(seats, home)),
+        Ok(home) => Ok(move_home(lock, seats, home)),
         Err(_) => Err(AllocFailed { value: seats }),
     }
 }

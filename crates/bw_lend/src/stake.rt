@@ -1,6 +1,7 @@
 //! Ghost state: what the seats of the table of places know.
+use crate::visitor::Visitor;
 use bw_machine::Machine;
-use bw_ticket::{Seat, TicketLock};
+use bw_ticket::TicketLock;
 use std::collections::LinkedList;
 use std::marker::Model;
 use std::snapshot::Snapshot;
@@ -41,4 +42,4 @@ pub struct Stake<N, S> {
 }
 
 /// Ghost state of one seat of the table: its parts in places.
-pub type View<M> = LinkedList<Stake<LockName<M>, Seat<M>>>;
+pub type View<M> = LinkedList<Stake<LockName<M>, Visitor<M>>>;

@@ -15,9 +15,10 @@ use crate::table::{
     AWAY, CLAIMED, Content, POSTED, Place, Shared, Token, hint_of, hint_word_of, is_done,
     returned_state, state_of,
 };
+use crate::visitor::Visitor;
 use crate::visits::Visit;
 use bw_machine::Machine;
-use bw_ticket::{Seat, TicketLock};
+use bw_ticket::TicketLock;
 use std::snapshot::Snapshot;
 
 /// Takes an unused place, which the seat of the table owns from now on.
@@ -58,7 +59,7 @@ pub(crate) fn post<M: Machine>(
     table: &Shared<M>,
     token: &mut Token<M>,
     place: usize,
-    seat: Seat<M>,
+    seat: Visitor<M>,
     ticket: u64,
 ) -> Offer
     requires table { (token.old.table_id ≡ table.now.table_id) × IsTable table.now.table_id }
@@ -81,7 +82,7 @@ pub(crate) fn store_hint<M: Machine>(
     table: &Shared<M>,
     token: &mut Token<M>,
     place: usize,
-    lent: &Snapshot<Seat<M>>,
+    lent: &Snapshot<Visitor<M>>,
     ticket: u64,
 ) -> StoredHint
     requires table { (token.old.table_id ≡ table.now.table_id) × IsTable table.now.table_id }
@@ -129,7 +130,7 @@ pub(crate) fn take_back<M: Machine, W: PlaceWord, V: Visit>(
     place: usize,
     word: &W,
     visit: &V,
-    lent: &Snapshot<Seat<M>>,
+    lent: &Snapshot<Visitor<M>>,
     state: u64,
 ) -> Result<(Content<M>, TakenBack), Lost>
     requires table { (token.old.table_id ≡ table.now.table_id) × IsTable table.now.table_id }

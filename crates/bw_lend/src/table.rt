@@ -9,10 +9,11 @@ ghost use Rattle.bw_lend.specs.Rule.{hint_word, hint_for};
 ghost use Rattle.bw_lend.specs.declared.table.TheConstants.{TICKETS, DONE, BACK};
 
 use crate::stake::View;
+use crate::visitor::Visitor;
 use atomic_table::TableRule;
 use bw_machine::Machine;
 use bw_ticket::limits::MAX_SEATS;
-use bw_ticket::{Answer, Seat, TicketLock};
+use bw_ticket::{Answer, TicketLock};
 use std::alloc::Global;
 use std::snapshot::Snapshot;
 
@@ -56,7 +57,7 @@ pub enum Place<S, A> {
 }
 
 /// The content of a place of a lock round a machine.
-pub type Content<M> = Place<Seat<M>, Answer<<M as Machine>::Reply>>;
+pub type Content<M> = Place<Visitor<M>, Answer<<M as Machine>::Reply>>;
 
 /// The table of places, which threads share.
 pub type Places<M> = atomic_table::Table<
@@ -76,7 +77,7 @@ pub type Token<M> = atomic_table::Seat<Content<M>, View<M>>;
 /// The rule of the table of places.
 pub struct Lending;
 
-impl<M: Machine> TableRule<Place<Seat<M>, Answer<M::Reply>>, View<M>, Snapshot<TicketLock<M>>>
+impl<M: Machine> TableRule<Place<Visitor<M>, Answer<M::Reply>>, View<M>, Snapshot<TicketLock<M>>>
     for Lending {
     ghost use Rattle.bw_lend.specs.Rule.{Ruled, stakes_from};
     ghost use Rattle.bw_lend.specs.Lent.{BringsOf};

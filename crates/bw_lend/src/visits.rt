@@ -31,8 +31,9 @@ use crate::looking::{Chance, Found};
 use crate::steps::{Given, Offer, StoredHint, TakenBack, Tried};
 use crate::table::{PLACES, Shared, Token, hint_word_of, hinted_place};
 use crate::task::Task;
+use crate::visitor::Visitor;
 use bw_machine::{Count, Machine};
-use bw_ticket::{Behind, Seat};
+use bw_ticket::Behind;
 use std::snapshot::Snapshot;
 
 /// A visit to the lock. It is not `Drop`.
@@ -227,7 +228,7 @@ pub(crate) struct TableVisit<'a, M: Machine> {
 
 impl<'a, M: Machine> TableVisit<'a, M> {
     /// The visit of a seat that has drawn a ticket.
-    pub(crate) fn of(table: &'a Shared<M>, seat: &Seat<M>) -> TableVisit<'a, M>
+    pub(crate) fn of(table: &'a Shared<M>, seat: &Visitor<M>) -> TableVisit<'a, M>
         requires drawn { IsSome seat.now.pending }
         ensures table { result.table.now ≡ table.now }
         ensures ticket { HasTicket seat.now result.ticket }

@@ -1,7 +1,7 @@
 -- The seats so far, and the rest of them.
 use Rattle.std.proofs.Common.{◌≡◌, ◌+◌, ◌≤◌, ◌++◌, vec_len, vec_capacity}
 use Rattle.std.specs.Vec.Iter.{into_iter_items, into_iter_len}
-use Rattle.bw_lend.proofs.seat.move_home.Given as goal
+use Rattle.bw_lend.proofs.visitor.move_home.Given as goal
 
 abbrev pub invariant-loop-seat : goal.invariant-loop-seat
 invariant-loop-seat g l = let left = l.seat-iterator in record {

@@ -2,7 +2,7 @@
 use Rattle.std.proofs.Common.{rules, ◌≡◌, length, [], ◌∷◌, ◌++◌, sym, ap, ◌∙◌}
 use Rattle.std.specs.Vec.Iter.{into_iter_items, into_iter_len}
 use Rattle.bw_lend.proofs.Handed.{snoc_append, append_nothing, none_left}
-use Rattle.bw_lend.proofs.seat.move_home.Goals as goal
+use Rattle.bw_lend.proofs.visitor.move_home.Goals as goal
 
 pub loop-seat-init : goal.loop-seat-init
 loop-seat-init g c =
@@ -22,7 +22,8 @@ loop-seat-preserved g c =
     let old = c.loop-seat.home.items in
     let shifted : rest ≡ seat ∷ left = search rules in
     let pushed : c.push_reserved.new.self.items ≡ old ++ seat ∷ [] =
-    c.push_reserved.ensures.items ∙ ap (λ s. old ++ s ∷ []) c.into_seat.ensures in
+    c.push_reserved.ensures.items
+    ∙ ap (λ s. old ++ s ∷ []) (c.into_seat.ensures ∙ c.into_visitor.ensures) in
     record {
       room = search rules;
       same = ap (λ l. l ++ left) pushed ∙ (snoc_append old left seat
