@@ -1,6 +1,7 @@
 -- The command of a plain line, by its parts.
 use Rattle.std.proofs.Common.{◌≡◌, ℕ, ◌+◌, ◌-◌, ◌<◌, ◌≤◌, ◌++◌, List, [], ◌∷◌, true, false, not}
-use Rattle.std.proofs.Common.{suc, get_or, length-append, take, drop, length, Ok, refl, sym, ap, ◌∙◌, subst, arith, inl, inr}
+use Rattle.std.proofs.Common.{suc, get_or, length-append, take, drop, length, Ok, refl, sym, ap}
+use Rattle.std.proofs.Common.{◌∙◌, subst, arith, inl, inr}
 use Rattle.std.specs.Prelude.{codes}
 use Rattle.std.specs.List.{position_or_len}
 use Rattle.std.proofs.lemmas.Bool.{cases_Bool, cases_lt}
@@ -14,7 +15,7 @@ use Rattle.bw_commands.specs.Word.{is_blank, blanks_of, word_len_of, blank_len_o
 use Rattle.bw_commands.specs.Word.{after_word}
 use Rattle.bw_commands.specs.Command.{command_of_line, command_of_words, forms}
 use Rattle.bw_commands.specs.Command as command
-use Rattle.bw_commands.specs.Plain.{IsWord, BeginsWith, IsPlain}
+use Rattle.bw_commands.specs.Plain.{IsWord, BeginsWith}
 use Rattle.bw_commands.proofs.Words.{position_or_len_is_word, blank-lt}
 
 word_len_is : (text : List ℕ) → word_len_of text ≡ position_or_len is_blank text
@@ -139,7 +140,17 @@ none_is : first_word [] ≡ []
 unfolding first_word
 none_is = refl
 
+none_behind : after_word [] ≡ []
+unfolding after_word
+none_behind = refl
+
 -- ---- the commands
+
+mkdir_words : (path : List ℕ) → 0 < length path
+    → command_of_words (codes "mkdir") path [] [] [] ≡ Ok (command.Mkdir path)
+unfolding command_of_words forms
+mkdir_words [] some = absurd (omega arith)
+mkdir_words (p ∷ ps) some = refl
 
 demand_words : (path number : List ℕ) → 0 < length path → 0 < length number
     → command_of_words (codes "demand") path number [] [] ≡ Ok (command.Demand path number)
@@ -173,6 +184,35 @@ two_words verb path b word v p tb w =
     (drop (word_len_of word) word)) last.0
     ∙ ap (λ x. command_of_words verb path word (first_word x) x) last.1
     ∙ ap (λ x. command_of_words verb path word x []) none_is
+
+pub mkdir_line : (path : List ℕ) → IsWord path
+    → command_of_line (codes "mkdir " ++ path) ≡ Ok (command.Mkdir path)
+unfolding command_of_line
+mkdir_line path p =
+    let verb : List ℕ = codes "mkdir" in
+    let line : List ℕ = verb ++ (32 ∷ path) in
+    let len : word_len_of line ≡ length verb =
+    word_len-front verb 32 path (omega arith, refl) refl in
+    let some : 0 < word_len_of line = omega (arith, len) in
+    let one : first_word line ≡ verb =
+    first_at line some ∙ take_at verb (32 ∷ path) (word_len_of line) (sym len) in
+    let one_after : after_word line ≡ 32 ∷ path =
+    after_at line some ∙ drop_at verb (32 ∷ path) (word_len_of line) (sym len) in
+    let two : first_word (after_word line) ≡ path =
+    ap first_word one_after ∙ first_behind 32 path refl (some_word path p)
+    ∙ (last_word path p).0 in
+    let two_after : after_word (after_word line) ≡ [] =
+    ap after_word one_after ∙ after_behind 32 path refl (some_word path p)
+    ∙ (last_word path p).1 in
+    let b : List ℕ = after_word (after_word line) in
+    let c : List ℕ = after_word b in
+    ap (λ w. command_of_words w (first_word (after_word line)) (first_word b) (first_word c) c) one
+    ∙ ap (λ w. command_of_words verb w (first_word b) (first_word c) c) two
+    ∙ ap (λ w. command_of_words verb path w (first_word c) c) (ap first_word two_after ∙ none_is)
+    ∙ ap (λ w. command_of_words verb path [] (first_word w) w)
+    (ap after_word two_after ∙ none_behind)
+    ∙ ap (λ w. command_of_words verb path [] w []) none_is
+    ∙ mkdir_words path p.0
 
 pub demand_line : (path : List ℕ) (b : ℕ) (number : List ℕ) → IsWord path → is_blank b ≡ true
     → IsWord number
@@ -258,62 +298,6 @@ begins_once text word rest begins =
           ∙ ap (drop 1) (ap (λ (xs : List ℕ). drop (word_len_of text) xs) is
           ∙ drop_at word (b ∷ rest) (word_len_of text) (sym len)),
     )
-
--- ---- the parts of a plain line
-
-abbrev pub TwoParts : List ℕ → Type 0
-TwoParts rest = (path word : List ℕ) × IsWord path × IsWord word × (rest ≡ path ++ (32 ∷ word))
-
-abbrev pub ThreeParts : List ℕ → Type 0
-ThreeParts rest = (path word text : List ℕ) × IsWord path × IsWord word
-    × (rest ≡ path ++ (32 ∷ (word ++ (32 ∷ text))))
-
-pub demand_parts : (line rest : List ℕ) → line ≡ codes "demand " ++ rest → IsPlain line
-    → TwoParts rest
-demand_parts line rest is plain = elim plain.4 [
-  | inl d ↦ (plain.0, plain.1, plain.2, plain.3, ap (drop 7) (sym is ∙ d))
-  | inr o ↦ elim o [
-    | inl r ↦ absurd (let clash : 100 ≡ 114 = ap (λ (l : List ℕ). get_or l 0 0) (sym is ∙ r) in
-        omega arith)
-    | inr w ↦ absurd (let clash : 100 ≡ 119 =
-        ap (λ (l : List ℕ). get_or l 0 0) (sym is ∙ w.1) in omega arith)
-  ]
-]
-
-pub read_parts : (line rest : List ℕ) → line ≡ codes "read " ++ rest → IsPlain line
-    → TwoParts rest
-read_parts line rest is plain = elim plain.4 [
-  | inl d ↦ absurd (let clash : 114 ≡ 100 = ap (λ (l : List ℕ). get_or l 0 0) (sym is ∙ d) in
-      omega arith)
-  | inr o ↦ elim o [
-    | inl r ↦ (plain.0, plain.1, plain.2, plain.3, ap (drop 5) (sym is ∙ r))
-    | inr w ↦ absurd (let clash : 114 ≡ 119 =
-        ap (λ (l : List ℕ). get_or l 0 0) (sym is ∙ w.1) in omega arith)
-  ]
-]
-
-pub write_parts : (line rest : List ℕ) → line ≡ codes "write " ++ rest → IsPlain line
-    → ThreeParts rest
-write_parts line rest is plain = elim plain.4 [
-  | inl d ↦ absurd (let clash : 119 ≡ 100 = ap (λ (l : List ℕ). get_or l 0 0) (sym is ∙ d) in
-      omega arith)
-  | inr o ↦ elim o [
-    | inl r ↦ absurd (let clash : 119 ≡ 114 = ap (λ (l : List ℕ). get_or l 0 0) (sym is ∙ r) in
-        omega arith)
-    | inr w ↦ (plain.0, plain.1, w.0, plain.2, plain.3, ap (drop 6) (sym is ∙ w.1))
-  ]
-]
-
-pub no_verb : (line : List ℕ) → ((rest : List ℕ) → line ≡ codes "demand " ++ rest → ⊥)
-    → ((rest : List ℕ) → line ≡ codes "write " ++ rest → ⊥)
-    → ((rest : List ℕ) → line ≡ codes "read " ++ rest → ⊥) → IsPlain line → ⊥
-no_verb line no_demand no_write no_read plain = elim plain.4 [
-  | inl d ↦ no_demand (plain.0 ++ (32 ∷ plain.1)) d
-  | inr o ↦ elim o [
-    | inl r ↦ no_read (plain.0 ++ (32 ∷ plain.1)) r
-    | inr w ↦ no_write (plain.0 ++ (32 ∷ (plain.1 ++ (32 ∷ w.0)))) w.1
-  ]
-]
 
 -- ---- from the places of blanks
 

@@ -11,10 +11,11 @@ abbrev pub BeginsWith : List ℕ → List ℕ → List ℕ → Type 0
 BeginsWith text word rest =
     IsWord word × ((b : ℕ) × (is_blank b ≡ true) × (text ≡ word ++ (b ∷ rest)))
 
--- `demand P N` or `read P FILE`, or `write P FILE` with a text behind its blank. One space stands
--- between the words.
+-- `mkdir P`, `demand P N` or `read P FILE`, or `write P FILE` with a text behind its blank. One
+-- space stands between the words.
 abbrev pub IsPlain : List ℕ → Type 0
-IsPlain line = (path word : List ℕ) × IsWord path × IsWord word
+IsPlain line = (path : List ℕ) × IsWord path × ((line ≡ codes "mkdir " ++ path)
+    ⊎ ((word : List ℕ) × IsWord word
     × ((line ≡ codes "demand " ++ (path ++ (32 ∷ word)))
     ⊎ ((line ≡ codes "read " ++ (path ++ (32 ∷ word)))
-    ⊎ ((text : List ℕ) × (line ≡ codes "write " ++ (path ++ (32 ∷ (word ++ (32 ∷ text))))))))
+    ⊎ ((text : List ℕ) × (line ≡ codes "write " ++ (path ++ (32 ∷ (word ++ (32 ∷ text))))))))))

@@ -4,6 +4,7 @@ ghost use Rattle.bw_commands.specs.Command.{form, form_named, forms, words_behin
 ghost use Rattle.bw_commands.specs.Command.{command_of_form, command_of_words};
 ghost use Rattle.bw_commands.specs.Parsed.{meaning_of, request_of};
 ghost use Rattle.bw_commands.specs.Word.{first_word, after_word, end_of};
+ghost use Rattle.bw_commands.specs.declared.marked.TheConstants.{LEAST_MARKED};
 
 use crate::fault::ScriptFault;
 use crate::marked::{LEAST_MARKED, MOST_MARKED, Marked, WIDE};
@@ -68,9 +69,10 @@ pub enum Command<'a> {
 }
 
 impl<'a> Command<'a> {
-    ghost use Rattle.std.specs.Prelude.{◌≡◌};
+    ghost use Rattle.std.specs.Prelude.{◌≡◌, ◌≤◌, Ok, IfSome, IsSome, length};
     ghost use Rattle.bw_commands.specs.Command.{command_of_line};
-    ghost use Rattle.bw_commands.specs.Parsed.{request_of};
+    ghost use Rattle.bw_commands.specs.Parsed.{meaning_of, request_of};
+    ghost use Rattle.bw_commands.specs.Plain.{IsPlain};
     ghost use Rattle.bw_commands.specs.Script.{kept_of, request_of_kept};
 
     /// Reads the command of a line, without its newline.
@@ -119,7 +121,19 @@ impl<'a> Command<'a> {
         Command::of_any(line)
     }
 
-    /// Reads the command of a line whose blanks are marked, as `of_text` does.
+    /// Reads the command of a plain line. `None` says nothing of a line: `of_marked` then reads it.
+    #[inline(always)]
+    pub fn of_plain(line: Marked<'a>) -> Option<Command<'a>>
+        ensures known { IfSome result
+            (λ c. request_of_kept (kept_of line.entry.text.now) ≡ Ok (meaning_of c)) }
+        ensures answers { LEAST_MARKED ≤ length line.entry.text.now
+            → IsPlain line.entry.text.now → IsSome result }
+    {
+        let _text = line.text();
+        plain_command(line)
+    }
+
+    /// Reads the command of a line whose blanks are marked, word by word, as `of_text` does.
     ///
     /// # Errors
     ///
@@ -129,7 +143,7 @@ impl<'a> Command<'a> {
         ensures { request_of result ≡ request_of_kept (kept_of line.entry.text.now) }
     {
         let _text = line.text();
-        Command::parse_marked(line)
+        Command::of_marked_words(line)
     }
 
     // The command that the words of a line name whose blanks are marked.
@@ -137,9 +151,6 @@ impl<'a> Command<'a> {
     fn parse_marked(line: Marked<'a>) -> Result<Command<'a>, ScriptFault>
         ensures { request_of result ≡ command_of_line line.entry.text.now }
     {
-        if line.text().len() < LEAST_MARKED {
-            return Command::of_marked_words(line);
-        }
         match plain_command(line) {
             Some(command) => Ok(command),
             None => Command::of_marked_words(line),

@@ -9,7 +9,20 @@ ghost use Rattle.bw_commands.specs.Plain.{IsWord, IsPlain};
 ghost use Rattle.bw_commands.specs.declared.marked.TheConstants.{LEAST_MARKED};
 
 use crate::command::{Change, Command, Question};
-use crate::marked::Marked;
+use crate::marked::{LEAST_MARKED, Marked};
+
+// The command of a line, by what stands behind `mkdir `.
+#[inline(always)]
+fn mkdir_of(path: Marked<'_>) -> Option<Command<'_>>
+    ensures known { IfSome result
+        (λ c. command_of_line (codes "mkdir " ++ path.entry.text.now) ≡ Ok (meaning_of c)) }
+    ensures answers { IsWord path.entry.text.now → IsSome result }
+{
+    if !path.is_word() {
+        return None;
+    }
+    Some(Command::Change(Change::Mkdir { path: path.text() }))
+}
 
 // The command of a line, by what stands behind `demand `.
 #[inline(always)]
@@ -60,15 +73,18 @@ fn write_of(rest: Marked<'_>) -> Option<Command<'_>>
     Some(Command::Change(Change::Write { path, file, text }))
 }
 
-/// The command of a line `demand P N`, `read P FILE` or `write P FILE TEXT`, if one space stands
-/// between its words.
+/// The command of a line `mkdir P`, `demand P N`, `read P FILE` or `write P FILE TEXT`, if one
+/// space stands between its words.
 #[inline(always)]
 pub(crate) fn plain_command(line: Marked<'_>) -> Option<Command<'_>>
-    requires { LEAST_MARKED ≤ length line.text.now }
     ensures known { IfSome result
         (λ c. command_of_line line.entry.text.now ≡ Ok (meaning_of c)) }
-    ensures answers { IsPlain line.entry.text.now → IsSome result }
+    ensures answers { LEAST_MARKED ≤ length line.entry.text.now
+        → IsPlain line.entry.text.now → IsSome result }
 {
+    if line.text().len() < LEAST_MARKED {
+        return None;
+    }
     if let Some(rest) = line.behind("demand ") {
         return demand_of(rest);
     }
@@ -77,6 +93,9 @@ pub(crate) fn plain_command(line: Marked<'_>) -> Option<Command<'_>>
     }
     if let Some(rest) = line.behind("read ") {
         return read_of(rest);
+    }
+    if let Some(path) = line.behind("mkdir ") {
+        return mkdir_of(path);
     }
     None
 }

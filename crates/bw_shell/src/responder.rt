@@ -1,8 +1,8 @@
 //! Answers whole lines of a script.
-ghost use Rattle.std.specs.Prelude.{◌≡◌, ◌≤◌, ◌||◌, not, [], true, OnOk};
+ghost use Rattle.std.specs.Prelude.{◌≡◌, ◌≤◌, ◌||◌, not, [], true, Ok, OnOk, IfSome};
 ghost use Rattle.std.specs.Vec.{vec_capacity};
 ghost use Rattle.bw_commands.specs.Command.{Period};
-ghost use Rattle.bw_commands.specs.Parsed.{request_of, question_of};
+ghost use Rattle.bw_commands.specs.Parsed.{request_of, question_of, meaning_of};
 ghost use Rattle.bw_commands.specs.Script.{kept_of, request_of_kept};
 ghost use Rattle.bw_streams.specs.Watched.{is_flushed, HasNoFault};
 ghost use Rattle.bw_shell.specs.Gathers.{GathersText};
@@ -22,15 +22,39 @@ use std::rt::Clock;
 use std::sync::Wait;
 use std::thread::Threads;
 
-// The command that a line asks for, or the refusal of the line.
+// The command of a plain line. `None` says nothing of a line.
 #[inline(always)]
-fn command_of(line: Piece<'_>) -> Result<Command<'_>, ScriptFault>
+fn plain_command_of(line: Piece<'_>) -> Option<Command<'_>>
+    ensures { IfSome result
+        (λ c. request_of_kept (kept_of (bytes_of line.entry)) ≡ Ok (meaning_of c)) }
+{
+    match line {
+        Piece::Line(line) => Command::of_plain(line),
+        Piece::Text(_) | Piece::Bytes(_) => None,
+    }
+}
+
+// The command that a line of any form asks for, or the refusal of the line. It is not inlined, since
+// it is much code, and few lines need it.
+#[inline(never)]
+fn any_command_of(line: Piece<'_>) -> Result<Command<'_>, ScriptFault>
     ensures { request_of result ≡ request_of_kept (kept_of (bytes_of line.entry)) }
 {
     match line {
         Piece::Text(text) => Command::of_text(text),
         Piece::Bytes(bytes) => Command::of_bytes(bytes),
         Piece::Line(line) => Command::of_marked(line),
+    }
+}
+
+// The command that a line asks for, or the refusal of the line.
+#[inline(always)]
+fn command_of(line: Piece<'_>) -> Result<Command<'_>, ScriptFault>
+    ensures { request_of result ≡ request_of_kept (kept_of (bytes_of line.entry)) }
+{
+    match plain_command_of(line) {
+        Some(command) => Ok(command),
+        None => any_command_of(line),
     }
 }
 

@@ -10,5 +10,5 @@ returns c =
     let line = c.args.line.text.now in
     let short : length line ≤ 65536 = omega (arith, c.args.line.short) in
     let utf8 : IsUtf8 line = subst IsUtf8 c.text-text.ensures c.text-text.utf8 in
-    c.parse_marked.ensures
+    c.of_marked_words.ensures
     ∙ sym (ap request_of_kept (kept_of-short line short) ∙ request_of_kept-text line utf8)
