@@ -7,6 +7,8 @@
  * line:
  *
  *   plan SLICES                   a plan begins: the slices of all CPUs in its period
+ *   rest AMOUNT GUARANTEE         the amount and the guarantee of the rest in slices, beside those of
+ *                                 the plan
  *   limit GROUP NS BURST_NS ABOVE a group's limit in 100 ms, what it may keep of that for later,
  *                                 and the nearest group above it that has one (0: none)
  *   leaf GROUP AMOUNT GUARANTEE LIMITED
@@ -27,7 +29,6 @@
 #define _GNU_SOURCE
 #include <bpf/bpf.h>
 #include <bpf/libbpf.h>
-#include <dirent.h>
 #include <errno.h>
 #include <fcntl.h>
 #include <limits.h>
@@ -59,7 +60,6 @@ typedef __s32 s32;
 #define MOST_SLICES 1000000000ULL
 /* Bytes of the ring of steps: some minutes of a small host. */
 #define TRACE_BYTES (16 << 20)
-#define DEFAULT_WEIGHT 100
 /* The loader's own group is a leaf, where the plan has it not: of a tenth of a CPU. */
 #define OWN_GUARANTEE (ONE_CPU / 10)
 /* Groups that come below another one have this part of a plan's slices in all. */
@@ -172,54 +172,6 @@ static u64 group_of_self(void)
     return stat(path, &found) == 0 ? found.st_ino : 0;
 }
 
-static u64 weight_of(const char *folder)
-{
-    char text[32];
-    return read_text(folder, "cpu.weight", text, sizeof text) ? strtoull(text, NULL, 10) : 0;
-}
-
-/* The weights of the groups of a folder that have tasks, but for one of this name. */
-static u64 weights_in(const char *folder, const char *name)
-{
-    u64 sum = 0;
-    DIR *found = opendir(folder);
-    for (struct dirent *each; found && (each = readdir(found));) {
-        char path[PATH_MAX], text[128];
-        if (each->d_type != DT_DIR || each->d_name[0] == '.' || strcmp(each->d_name, name) == 0
-            || snprintf(path, sizeof path, "%s/%s", folder, each->d_name) >= (int)sizeof path)
-            continue;
-        if (read_text(path, "cgroup.events", text, sizeof text) && strstr(text, "populated 1"))
-            sum += weight_of(path);
-    }
-    if (found)
-        closedir(found);
-    return sum;
-}
-
-/* The part of the host that is the planned groups' by weights: of 1. They count also while they have
- * no tasks. Tasks of the root count as one group. */
-static double planned_part(void)
-{
-    char path[PATH_MAX];
-    double part = 1;
-    snprintf(path, sizeof path, "%s", top);
-    while (strlen(path) > strlen(CGROUPS)) {
-        u64 own = weight_of(path), others;
-        char *name = strrchr(path, '/');
-        *name++ = 0;
-        others = weights_in(path, name);
-        if (strcmp(path, CGROUPS) == 0)
-            others += DEFAULT_WEIGHT;
-        if (own)
-            part *= (double)own / (own + others);
-    }
-    if (strcmp(top, CGROUPS) == 0) {
-        u64 all = weights_in(top, "");
-        part = (double)(all + 1) / (all + 1 + DEFAULT_WEIGHT);
-    }
-    return part;
-}
-
 static void set_memory(void)
 {
     struct rlimit all = { RLIM_INFINITY, RLIM_INFINITY };
@@ -320,29 +272,22 @@ static bool drop_old(void)
         if (table[row].group && table[row].plan != plans) {
             bpf_map_delete_elem(bpf_map__fd(program->maps.rows_of_groups), &table[row].group);
             table[row].group = 0;
+            program->bss->given[row] = (struct given){ .amount = 1 };
             has_dropped = true;
         }
     return has_dropped;
 }
 
-/* What the rest has beside a plan of all slices, so that its part is that of its weights. */
-static u64 rest_of(u64 slices, double part)
+/* Guarantees of leaves are slices of the plan. They are made parts of a CPU, so that all CPUs are those
+ * of the plan and of the rest together. */
+static void give_guarantees(u64 slices)
 {
-    double rest = slices * (1 - part) / part;
-    return rest < MOST_SLICES ? rest : MOST_SLICES;
-}
-
-/* Guarantees of a plan are of all CPUs. They are made parts of a CPU, so that beside them the rest
- * has its own by weights. */
-static void give_guarantees(u64 slices, double part)
-{
-    double cpus = sysconf(_SC_NPROCESSORS_ONLN);
-    for (u32 row = 1; row < rows; row++) {
+    u64 cpus = sysconf(_SC_NPROCESSORS_ONLN), whole = slices + program->bss->given[0].guarantee;
+    for (u32 row = 0; row < rows && whole; row++) {
         struct given *each = &program->bss->given[row];
-        if (slices && table[row].group != own_group)
-            each->guarantee = each->guarantee * (cpus * ONE_CPU * part / slices);
+        if (!row || (table[row].plan == plans && table[row].group != own_group))
+            each->guarantee = each->guarantee * cpus * ONE_CPU / whole;
     }
-    program->bss->given[0].guarantee = cpus * ONE_CPU * (1 - part);
 }
 
 /* A leaf of this program's own group, so that no crowd beside it keeps plans back. */
@@ -370,18 +315,17 @@ static void scale(void)
     for (u32 row = 0; row < rows; row++)
         while (program->bss->given[row].amount >> shift > MOST_AMOUNT)
             shift++;
-    for (u32 row = 0; row < rows && shift; row++)
-        program->bss->given[row].amount >>= shift;
+    for (u32 row = 0; row < rows && shift; row++) {
+        u64 amount = program->bss->given[row].amount >> shift;
+        program->bss->given[row].amount = amount ? amount : 1;
+    }
 }
 
-static void take_plan(u64 slices, u64 given, bool is_new)
+static void take_plan(u64 slices, bool is_new)
 {
     LIBBPF_OPTS(bpf_test_run_opts, options);
-    double part = planned_part();
-    u64 least = rest_of(slices, part), left = slices > given ? slices - given : 0;
-    program->bss->given[0].amount = left > least ? left : least;
     is_new |= add_own(slices);
-    give_guarantees(slices, part);
+    give_guarantees(slices);
     scale();
     is_new |= drop_old();
     drop_old_limits();
@@ -470,21 +414,24 @@ static bool set_leaf(u64 group, u64 amount, u64 guarantee, u64 limited_by)
 /* One command. */
 static void obey(char *line)
 {
-    static u64 slices, given;
+    static u64 slices;
     static bool is_open, is_new;
     char *rest = line, *word = strsep(&rest, " ");
     if (strcmp(word, "plan") == 0 && !is_open) {
         slices = number(rest, MOST_SLICES);
-        given = 0;
+        program->bss->given[0] = (struct given){ .amount = 1 };
         is_open = true;
         is_new = false;
         plans++;
+    } else if (strcmp(word, "rest") == 0 && is_open) {
+        u64 amount = number(strsep(&rest, " "), MOST_SLICES);
+        program->bss->given[0].amount = amount ? amount : 1;
+        program->bss->given[0].guarantee = number(rest, MOST_SLICES);
     } else if (strcmp(word, "leaf") == 0 && is_open) {
         u64 group = number(strsep(&rest, " "), ~0ULL);
         u64 amount = number(strsep(&rest, " "), MOST_SLICES);
         u64 guarantee = number(strsep(&rest, " "), MOST_SLICES);
         is_new |= set_leaf(group, amount, guarantee, number(rest, ~0ULL));
-        given += amount;
     } else if (strcmp(word, "inner") == 0 && is_open) {
         u64 group = number(strsep(&rest, " "), ~0ULL);
         is_new |= set_leaf(group, slices / NEW_PART, 0, number(rest, ~0ULL));
@@ -499,7 +446,7 @@ static void obey(char *line)
                                  .above = limit_of(above) };
     } else if (strcmp(word, "end") == 0 && is_open) {
         is_open = false;
-        take_plan(slices, given, is_new);
+        take_plan(slices, is_new);
     } else if (strcmp(word, "read") == 0 && !is_open) {
         tell_round();
     } else {

@@ -36,10 +36,11 @@
  * each. Where a call does not answer 0, all that it may write is as it was, but for `row` of the checks and of
  * arbiter_refused_row.
  *
- * arbiter_refused_row, arbiter_reading, arbiter_leaf_reading, arbiter_round, arbiter_swings, arbiter_judged, arbiter_written,
- * arbiter_slices, arbiter_period_limit, arbiter_demand, arbiter_planned_host, arbiter_weight_of_shares, arbiter_owned_weight,
- * arbiter_owned_limit, arbiter_least_owned, arbiter_owned_number, arbiter_pod_amount, arbiter_greatest_part, arbiter_allowed,
- * arbiter_lost, arbiter_version and arbiter_name ask for no memory: their answers are exact.
+ * arbiter_refused_row, arbiter_reading, arbiter_leaf_reading, arbiter_round, arbiter_swings, arbiter_judged, arbiter_let_go,
+ * arbiter_rest, arbiter_written, arbiter_slices, arbiter_period_limit, arbiter_demand, arbiter_planned_host,
+ * arbiter_weight_of_shares, arbiter_owned_weight, arbiter_owned_limit, arbiter_least_owned, arbiter_owned_number,
+ * arbiter_pod_amount, arbiter_greatest_part, arbiter_allowed, arbiter_lost, arbiter_version and arbiter_name ask for no memory:
+ * their answers are exact.
  */
 #ifndef ARBITER_H
 #define ARBITER_H
@@ -455,6 +456,43 @@ uint32_t arbiter_judged(const uint64_t *free_used, size_t free_used_length,
                         const uint64_t *held_used, size_t held_used_length,
                         const uint64_t *held_planned, size_t held_planned_length, const uint64_t *sure, size_t sure_length,
                         const uint64_t *guesses, size_t guesses_length, uint64_t *lost, uint64_t *guessed);
+
+/* Which groups are let go, since limits do harm to them, and why. For 1 one group goes: of those whose demand turned for 60
+ * rounds, or else of those whose limit went back for as long, the one whose use changed most. For 2 and 3 the groups with most
+ * slices go, as few as come to `lost` or `guesses`. Of equal groups the first goes.
+ * Reads:
+ *   backs    the rounds in a row in which the limit of each group went back, as arbiter_swings counts them
+ *   turns    those in which what it asked for turned
+ *   moved    slices by which its use changed in the last rounds
+ *   left     slices of its plans that it did not use in these
+ *   guessed  slices that it used in these where its hunger was a guess
+ *   lost     that of arbiter_judged
+ *   guesses  `guessed` of arbiter_judged
+ * Writes:
+ *   go      1 for a group that goes, else 0
+ *   reason  the first that holds. 1: a limit went back for 60 rounds. 2: slices were lost. 3: hunger was guessed. 0: none, and
+ *           nobody goes
+ * Answers 0, or 50 where columns differ in length. */
+uint32_t arbiter_let_go(const uint64_t *backs, size_t backs_length, const uint64_t *turns, size_t turns_length,
+                        const uint64_t *moved, size_t moved_length, const uint64_t *left, size_t left_length,
+                        const uint64_t *guessed, size_t guessed_length, uint64_t lost, uint64_t guesses,
+                        uint8_t *go, size_t go_length, uint32_t *reason);
+
+/* What a scheduler gives the rest of a host beside a plan, by weights. At each level up the tree others have their part by
+ * weights beside what the group has, rounded up, and at most 10^9 slices are reached. So the rest has its part of the whole
+ * host at least.
+ * Reads:
+ *   slices   the slices of the plan, up to 10^9
+ *   planned  those of them that are planned
+ *   own      the weight of the planned groups' top, then of each group above it but the root; 0 is an idle group, and counts as
+ *            1
+ *   others   the weights of the groups beside each. Tasks of the root are one more beside the last ones, of weight 100
+ * Writes:
+ *   amount     slices that the plan leaves, or its guarantee if that is more
+ *   guarantee  slices that the host has above those of the plan
+ * Answers 0, or 50 where columns differ in length; 9 where the plan is of more than 10^9 slices. */
+uint32_t arbiter_rest(uint64_t slices, uint64_t planned, const uint64_t *own, size_t own_length,
+                      const uint64_t *others, size_t others_length, uint64_t *amount, uint64_t *guarantee);
 
 /* What is written for a leaf's limit of a round. A quota lies from the limit to a sixty-fourth above it, and not above the own
  * limit. What stands there stays, since the kernel gives a new quota at each writing; else it is a 128th above the limit. A

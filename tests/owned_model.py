@@ -133,3 +133,33 @@ def judged(free, held):
         return 0, 0
     used, planned, sure, guesses = together(held)
     return lost(together(free), (used, planned)), max(guesses, sure) - sure
+
+
+def rest(slices, planned, own, others):
+    """What the rest has: each group has its part, by fractions, of the group above it."""
+    whole, weights = slices, [*others]
+    if weights:
+        weights[-1] += 100
+    for weight, beside in zip(own, weights):
+        whole = math.ceil(whole / Fraction(max(weight, 1), max(weight, 1) + beside))
+    guarantee = min(whole, 10**9) - slices
+    return max(guarantee, slices - planned, 0), guarantee
+
+
+def let_go(groups, lost, guesses):
+    """Who goes, of groups that are rows of five numbers, and why: the first ones in order."""
+    def first_ones(ranked, needed):
+        gone, order = set(), sorted(ranked, key=lambda at: (-ranked[at], at))
+        while order and sum(max(ranked[at], 1) for at in gone) < needed:
+            gone.add(order.pop(0))
+        return gone
+
+    swung = {at: row[2] for at, row in enumerate(groups) if row[0] // 60}
+    turned = {at: row[2] for at, row in enumerate(groups) if row[1] // 60}
+    if swung:
+        return first_ones(turned or swung, 1), 1
+    for reason, needed, place in ((2, lost, 3), (3, guesses, 4)):
+        if needed:
+            some = {at: row[place] for at, row in enumerate(groups) if row[place]}
+            return first_ones(some, needed), reason
+    return set(), 0

@@ -8,8 +8,8 @@ import pytest
 
 import arbiter
 from arbiter import LimitFormula, PartKind, WeightFormula, c
-from owned_model import (WEIGHTS, allowed, asks, greatest_part, has_turned, judged, limit_by, lost,
-                         number_for, pod_amount, unserved, went_back)
+from owned_model import (WEIGHTS, allowed, asks, greatest_part, has_turned, judged, let_go, limit_by,
+                         lost, number_for, pod_amount, rest, unserved, went_back)
 from support import same
 from test_library import number_of
 
@@ -259,6 +259,71 @@ def test_many_judged_rounds(calls):
     assert min(seen.values()) >= 300, seen
 
 
+@pytest.mark.parametrize("backs, turns, moved, left, guessed, judged_by, told", [
+    # of those that ask so the one whose use changed most, else of those that swing; of equals the
+    # first
+    ((60, 99, 0), (0, 0, 59), (3, 5, 9), (1, 1, 1), (1, 1, 1), (9, 9), ([0, 1, 0], 1)),
+    ((60, 99, 0), (60, 0, 60), (3, 5, 9), (1, 1, 1), (1, 1, 1), (9, 9), ([0, 0, 1], 1)),
+    ((0, 60, 60), (0, 0, 0), (5, 0, 0), (9, 9, 9), (9, 9, 9), (0, 0), ([0, 1, 0], 1)),
+    # those that left most, as few as left what was lost, or all
+    ((59, 0, 0), (60, 60, 60), (9, 9, 9), (4, 6, 6), (9, 9, 9), (6, 9), ([0, 1, 0], 2)),
+    ((0, 0, 0), (0, 0, 0), (9, 9, 9), (4, 6, 6), (9, 9, 9), (7, 9), ([0, 1, 1], 2)),
+    ((0, 0, 0), (0, 0, 0), (9, 9, 9), (4, 6, 0), (9, 9, 9), (99, 9), ([1, 1, 0], 2)),
+    # those that used most on a guess
+    ((0, 0, 0), (0, 0, 0), (9, 9, 9), (9, 9, 9), (1, 0, 5), (0, 5), ([0, 0, 1], 3)),
+    ((0, 0, 0), (0, 0, 0), (9, 9, 9), (9, 9, 9), (0, 0, 0), (0, 5), ([0, 0, 0], 3)),
+    ((59, 0, 0), (60, 60, 60), (9, 9, 9), (9, 9, 9), (9, 9, 9), (0, 0), ([0, 0, 0], 0))])
+def test_who_is_let_go(calls, backs, turns, moved, left, guessed, judged_by, told):
+    """Who goes, and why, worked by hand."""
+    same(calls.let_go(backs, turns, moved, left, guessed, judged_by), (told[0], told[1]))
+
+
+def test_many_are_let_go(calls):
+    """Beside the model, with equal numbers and great ones."""
+    drawn, seen = random.Random(20261201), [0] * 4
+    for _ in range(3000):
+        most = drawn.choice((2, 5, 1000, 2**64))
+        groups = [[drawn.choice((0, 59, 60, 99)) * (drawn.random() < 0.1), drawn.choice((0, 59, 60)),
+                   *(drawn.randrange(most) for _ in range(3))] for _ in range(drawn.randrange(9))]
+        judged_by = [drawn.choice((0, 0, 1, drawn.randrange(3 * most) % 2**64)) for _ in range(2)]
+        gone, reason = let_go(groups, *judged_by)
+        columns = [[row[at] for row in groups] for at in range(5)]
+        same(calls.let_go(*columns, judged_by), ([at in gone for at in range(len(groups))], reason),
+             f"{groups}, {judged_by}")
+        seen[reason] += 1
+    assert min(seen) >= 200, seen
+
+
+@pytest.mark.parametrize("slices, planned, own, others, told", [
+    (200, 150, (), (), (50, 0)), (200, 250, (), (), (0, 0)), (200, 250, (100,), (0,), (200, 200)),
+    # beside 100 of 10000 it has 2 of 202; an idle group counts as 1
+    (200, 0, (10000,), (0,), (200, 2)), (200, 200, (10000,), (0,), (2, 2)),
+    (200, 200, (0,), (0,), (20000, 20000)), (25, 25, (3,), (0,), (834, 834)),
+    # 200 of 300 are 300, and these of 600 with the root's tasks
+    (200, 150, (100, 300), (50, 200), (400, 400)),
+    (10**9, 0, (), (), (10**9, 0)), (10**9, 10**9, (1,), (2**64 - 1,), (0, 0)),
+    (1, 1, (1,), (2**64 - 1,), (10**9 - 1, 10**9 - 1))])
+def test_rests(calls, slices, planned, own, others, told):
+    """What the rest has beside a plan, worked by hand."""
+    same(calls.rest(slices, planned, own, others), told)
+
+
+def test_many_rests(calls):
+    """Beside the model."""
+    drawn, cut = random.Random(20261201), 0
+    for _ in range(3000):
+        slices = drawn.choice((0, 1, drawn.randrange(300), drawn.randrange(10**9 + 1)))
+        planned = drawn.randrange(drawn.choice((2 * slices + 1, 2**64)))
+        levels = [(drawn.choice((0, 1, 100, drawn.randrange(10001))),
+                   drawn.choice((0, 100, drawn.randrange(10**5), drawn.randrange(2**64))))
+                  for _ in range(drawn.randrange(5))]
+        own, others = ([each[at] for each in levels] for at in range(2))
+        found = calls.rest(slices, planned, own, others)
+        same(found, rest(slices, planned, own, others), f"{slices}, {planned}, {levels}")
+        cut += slices + found[1] == 10**9
+    assert 300 <= cut <= 2500, cut
+
+
 def test_refused_rounds(calls):
     """Columns that differ in length, and a sum above 2^60 of the last rounds alone."""
     for at in range(4):
@@ -278,6 +343,13 @@ def test_refused_rounds(calls):
         columns[at] = [1] * 59
         same(number_of(calls.judged, columns[:2], columns[2:]), (50, None))
     same(calls.judged([[2**60, *[1] * 60]] * 2, [[2**64 - 1, *[1] * 60]] * 4), (0, 0))
+    for at in range(1, 5):
+        words = [[60, 60] for _ in range(5)]
+        words[at] = words[at][:1]
+        same(number_of(calls.let_go, *words, (1, 1)), (50, None))
+    same(number_of(calls.rest, 1, 1, [1, 2], [1]), (50, None))
+    same(number_of(calls.rest, 10**9 + 1, 1, [1, 2], [1]), (50, None))
+    same(number_of(calls.rest, 10**9 + 1, 1, [1], [1]), (9, None))
 
 
 def test_refused_rounds_write_nothing(calls):
@@ -295,6 +367,14 @@ def test_refused_rounds_write_nothing(calls):
     same(calls.calls.arbiter_judged(*read[:6], read[0], 2, *read[:4],
                                     *map(ctypes.byref, numbers)), 50)
     same([each.value for each in numbers], [7, 8])
+    for slices, length, number in ((1, 2, 50), (10**9 + 1, 3, 9)):
+        same(calls.calls.arbiter_rest(slices, 1, *read[:2], read[0], length,
+                                      *map(ctypes.byref, numbers)), number)
+    same([each.value for each in numbers], [7, 8])
+    reason = c.U32(7)
+    same(calls.calls.arbiter_let_go(*read[:6], *read[:4], 1, 1, written[1], 2,
+                                    ctypes.byref(reason)), 50)
+    same([reason.value, *written[1]], [7] * 4)
 
 
 @pytest.mark.parametrize("formula", [0, 7, 2**32 - 1])

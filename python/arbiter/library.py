@@ -490,3 +490,30 @@ class Library:
         """
         lost, guessed = self.told("judged", *free, *held)
         return int(lost), int(guessed)
+
+    def let_go(self, backs: Sequence[int], turns: Sequence[int], moved: Sequence[int],
+               left: Sequence[int], guessed: Sequence[int], judged: tuple[int, int]
+               ) -> tuple[list[bool], int]:
+        """Which groups are let go, since limits do harm to them, and the number of the reason.
+
+        `backs` are the counts of `swings` of each group's limit, `turns` those of what it asks for.
+        `moved` are the slices by which its use changed in the last rounds, `left` those of its
+        plans that it did not use, and `guessed` those that it used on a guess. `judged` is the
+        answer of `judged`. 1: limits went back and forth. 2: slices were lost. 3: hunger was
+        guessed. 0: nobody goes. Refused by 50 WrongLength.
+        """
+        go, reason = self.told("let_go", backs, turns, moved, left, guessed, *judged,
+                               count=len(backs))
+        return list(map(bool, go)), int(reason)
+
+    def rest(self, slices: int, planned: int, own: Sequence[int], others: Sequence[int]
+             ) -> tuple[int, int]:
+        """The amount and the guarantee of the rest of a host beside a plan of so many slices, of
+        which some are planned.
+
+        `own` are the weights of the planned groups' top and of each group above it but the root,
+        `others` those of the groups beside each. At each level others have their part by weights.
+        Refused by 50 WrongLength, and by 9 DemandTooLarge.
+        """
+        amount, guarantee = self.told("rest", slices, planned, own, others)
+        return int(amount), int(guarantee)

@@ -35,6 +35,9 @@ WORDS = {
     "swings": "now:Q[] last:Q[] before:Q[] <>backs:Q[] <>turns:Q[]",
     "judged": "free_used:Q[] free_planned:Q[] held_used:Q[] held_planned:Q[] sure:Q[] "
               "guesses:Q[] >lost:Q >guessed:Q",
+    "let_go": "backs:Q[] turns:Q[] moved:Q[] left:Q[] guessed:Q[] lost:Q guesses:Q >go:B[] "
+              ">reason:I",
+    "rest": "slices:Q planned:Q own:Q[] others:Q[] >amount:Q >guarantee:Q",
     "written": f"{HOST} limit:Q own:Q stands_us:Q tasks:I >quota:Q >weight:Q",
     "script": f"{HOST} hash_key:Q text:B[] >parents:I[] >weights:Q[] >limits:Q[] >demands:Q[] "
               ">quotas:Q[] >periods:Q[] >bursts:Q[] >carries:Q[] >names:B[] >refused_lines:Q[] "

@@ -432,6 +432,36 @@ ROUNDS = (
          (Refusal("50", "columns of rounds without limits differ in length, or of those under"
                   " limits"), Refusal("9", "a sum of the last rounds is above 2^60")),
          allocates=False),
+    Call("let_go", "which groups are let go, and why",
+         "Which groups are let go, since limits do harm to them, and why. For 1 one group goes: of"
+         " those whose demand turned for 60 rounds, or else of those whose limit went back for as"
+         " long, the one whose use changed most. For 2 and 3 the groups with most slices go, as few"
+         " as come to `lost` or `guesses`. Of equal groups the first goes.",
+         (column("backs", U64, "the rounds in a row in which the limit of each group went back, as"
+                 " arbiter_swings counts them"),
+          column("turns", U64, "those in which what it asked for turned"),
+          column("moved", U64, "slices by which its use changed in the last rounds"),
+          column("left", U64, "slices of its plans that it did not use in these"),
+          column("guessed", U64, "slices that it used in these where its hunger was a guess"),
+          CallWord("lost", U64, "that of arbiter_judged"),
+          CallWord("guesses", U64, "`guessed` of arbiter_judged"),
+          room("go", U8, "1 for a group that goes, else 0"),
+          result("reason", U32, "the first that holds. 1: a limit went back for 60 rounds. 2: slices"
+                 " were lost. 3: hunger was guessed. 0: none, and nobody goes")),
+         (LENGTHS,), allocates=False),
+    Call("rest", "what the rest of a host is given beside a plan",
+         "What a scheduler gives the rest of a host beside a plan, by weights. At each level up the"
+         " tree others have their part by weights beside what the group has, rounded up, and at"
+         " most 10^9 slices are reached. So the rest has its part of the whole host at least.",
+         (CallWord("slices", U64, "the slices of the plan, up to 10^9"),
+          CallWord("planned", U64, "those of them that are planned"),
+          column("own", U64, "the weight of the planned groups' top, then of each group above it"
+                 " but the root; 0 is an idle group, and counts as 1"),
+          column("others", U64, "the weights of the groups beside each. Tasks of the root are one"
+                 " more beside the last ones, of weight 100"),
+          result("amount", U64, "slices that the plan leaves, or its guarantee if that is more"),
+          result("guarantee", U64, "slices that the host has above those of the plan")),
+         (LENGTHS, Refusal("9", "the plan is of more than 10^9 slices")), allocates=False),
     Call("written", "the quota and the weight that are written for a limit",
          "What is written for a leaf's limit of a round. A quota lies from the limit to a"
          " sixty-fourth above it, and not above the own limit. What stands there stays, since the"

@@ -104,10 +104,10 @@ def test_a_plan_is_given_and_nothing_is_written(folder, begun):
     # are by weights: 50, 50 and 100.
     limit, inner = f"limit {b} 80000000 0 0", f"inner {top} 0"
     assert told == [
-        f"top {world.tree}", "read", "read", "plan 200", limit, f"leaf {a} 60 50 0",
+        f"top {world.tree}", "read", "read", "plan 200", "rest 0 0", limit, f"leaf {a} 60 50 0",
         f"leaf {b} 60 50 {b}", f"leaf {c} 120 100 0", inner, "end", "read",
-        "plan 200", limit, f"leaf {a} 80 50 0", f"leaf {b} 80 50 {b}", f"leaf {c} 160 100 0", inner,
-        "end", "ended"]
+        "plan 200", "rest 0 0", limit, f"leaf {a} 80 50 0", f"leaf {b} 80 50 {b}",
+        f"leaf {c} 160 100 0", inner, "end", "ended"]
     assert [world.maximum(path) for path in "abc"] == [FREE, "80000 100000", FREE]
     assert stood == then and [each.name for each in folder.glob("undo*")] == []
 

@@ -21,7 +21,7 @@ from arbiter_host.base.faults import HostFault, NoHelp
 from arbiter_host.base.model import Group, Model
 from arbiter_host.helps import STATUSES
 from arbiter_host.hold import hold
-from arbiter_host.hold.harm import Harm, Shadow, Swings, long
+from arbiter_host.hold.harm import Harm, Shadow, Swings
 from arbiter_host.setting import apply
 from arbiter_host.sources import readings, task_times
 from arbiter_host.subcommands.hold import Notifier, Service
@@ -354,7 +354,6 @@ def test_what_goes_back_and_forth(calls, values, wanted):
     for at, each in enumerate(values):
         swings.take({"a": each, "b": each} if at > 9 else {"a": each})
     assert swings.backs["a"] == wanted and swings.backs["b"] == max(wanted - 10, 0)
-    assert long(swings.backs) == ["a"] * (wanted >= JUDGED_ROUNDS)
 
 
 def of_round(held, **groups):

@@ -146,6 +146,10 @@ def of_owned():
     for asked in ([], [0, 9, 10**6, MOST]):
         yield "round", ([8] * 4, [5] * 4, asked, [True, False, True, False])
         yield "swings", (asked, [1] * 4, [0, 9, 10**6, 7], [0, 3, MOST, 1], [1] * 4)
+    yield from (("let_go", ([backs, 0], [60, 60], [3, 5], [7, 2], [1, 9], (lost, 9)))
+                for backs in (0, 60) for lost in (0, 8, MOST))
+    yield from (("rest", (slices, 150, [100, 300], others)) for slices in (0, 200, MOST)
+                for others in ([50], [50, 200], [0, MOST]))
     yield from (("judged", ([[90] * count] * 2, [[84] * count, [100] * 60, [1] * 60, [sure] * 60]))
                 for count in (59, 60) for sure in (1, 4, MOST))
 

@@ -360,6 +360,16 @@ static void rounds(uint64_t one, uint64_t other)
     IS(0, arbiter_swings(ones, 61, others, 61, ones, 61, counts, 61, written, 61));
     demand(counts[0] == counts[1] && (counts[0] == 0 || (counts[0] == UINT64_MAX && one != other)), __LINE__);
     demand(one == other ? written[60] == 0 : written[0] == 1 && written[60] == 61, __LINE__);
+    uint32_t reason = 7;
+    IS(50, arbiter_let_go(ones, 61, others, 61, ones, 61, others, 61, ones, 61, one, other, all, 60, &reason));
+    demand(reason == 7, __LINE__);
+    IS(0, arbiter_let_go(ones, 61, others, 61, ones, 61, others, 61, ones, 61, one, other, all, 61, &reason));
+    demand(reason == (one >= 60 ? 1 : one ? 2 : other ? 3 : 0), __LINE__);
+    demand(one < 60 || (all[0] == 1 && all[1] == 0 && all[60] == 0), __LINE__);
+    uint64_t amount = 7, guarantee = 8;
+    IS(one > 1000000000 ? 9 : 0, arbiter_rest(one, other, ones, 61, others, 61, &amount, &guarantee));
+    demand(one > 1000000000 ? amount == 7 && guarantee == 8 : guarantee <= 1000000000 - one && amount >= guarantee, __LINE__);
+    IS(50, arbiter_rest(one, other, ones, 61, others, 60, &amount, &guarantee));
     uint32_t great = one > SUM / 60 || other > SUM / 60 ? 9 : 0;
     IS(great, arbiter_judged(ones, 61, others, 61, others, 61, ones, 61, ones, 61, others, 61, &lost, &guessed));
     demand(great ? lost == 7 && guessed == 7 : guessed == (other > one ? 60 * (other - one) : 0), __LINE__);

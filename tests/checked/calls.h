@@ -519,6 +519,45 @@ uint32_t arbiter_judged(const uint64_t *free_used, size_t free_used_length,
     return answer;
 }
 
+uint32_t arbiter_let_go(const uint64_t *backs, size_t backs_length, const uint64_t *turns, size_t turns_length,
+                        const uint64_t *moved, size_t moved_length, const uint64_t *left, size_t left_length,
+                        const uint64_t *guessed, size_t guessed_length, uint64_t lost, uint64_t guesses,
+                        uint8_t *go, size_t go_length, uint32_t *reason)
+{
+    begin("let_go");
+    COLUMN(backs, backs_length);
+    COLUMN(turns, turns_length);
+    COLUMN(moved, moved_length);
+    COLUMN(left, left_length);
+    COLUMN(guessed, guessed_length);
+    put(' ', lost);
+    put(' ', guesses);
+    COLUMN(go, go_length);
+    put(' ', *reason);
+    uint32_t answer = (uint32_t)sent_line();
+    TOLD(go, go_length);
+    *reason = (uint32_t)get();
+    pthread_mutex_unlock(&lock);
+    return answer;
+}
+
+uint32_t arbiter_rest(uint64_t slices, uint64_t planned, const uint64_t *own, size_t own_length,
+                      const uint64_t *others, size_t others_length, uint64_t *amount, uint64_t *guarantee)
+{
+    begin("rest");
+    put(' ', slices);
+    put(' ', planned);
+    COLUMN(own, own_length);
+    COLUMN(others, others_length);
+    put(' ', *amount);
+    put(' ', *guarantee);
+    uint32_t answer = (uint32_t)sent_line();
+    *amount = (uint64_t)get();
+    *guarantee = (uint64_t)get();
+    pthread_mutex_unlock(&lock);
+    return answer;
+}
+
 uint32_t arbiter_written(uint64_t processors, uint64_t period_us, uint64_t slice_us, uint64_t limit, uint64_t own,
                          uint64_t stands_us, uint32_t tasks, uint64_t *quota, uint64_t *weight)
 {

@@ -96,7 +96,10 @@ def scheduler_lines(scenario: Scenario, amounts: dict[str, int], guarantees: dic
     first run loads it, which takes most of a guest's time, and the last one ends it. Limits are
     nanoseconds of 100 ms. With a trace each step of the rule is told, of all runs by the last."""
     slices = scenario.processors * scenario.period // scenario.slice
-    plan = "; ".join([f"echo plan {slices}", *(
+    # The tree weighs 10000 beside the root's tasks, which weigh 100.
+    least = -(-slices // 100)
+    rest = max(least, slices - sum(amounts[path] for path in scenario.leaves))
+    plan = "; ".join([f"echo plan {slices}; echo rest {rest} {least}", *(
         f"echo limit {number_in(path)} {limits[path]} 0"
         f" {number_in(nearest(path.rpartition('/')[0], limits))}"
         for path in sorted(limits, key=lambda each: each.count("/"))), *(

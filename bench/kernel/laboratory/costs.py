@@ -66,7 +66,8 @@ def work(leaves: int, cpus: int, nap: int) -> str:
              f"for i in $(seq {leaves}); do mkdir {layout.HOME}/$i;"
              f" echo $((100 + i % 19 * 100)) > {layout.HOME}/$i/cpu.weight; done",
              *(line for name in PHASES[:3] for line in phase(name, leaves, cpus, nap))]
-    lines += [f"( echo plan {20 * leaves}; for i in $(seq {leaves}); do"
+    lines += [f"( echo plan {20 * leaves}; echo rest {20 * leaves} {20 * leaves};"
+              f" for i in $(seq {leaves}); do"
               f" echo leaf $(stat -c %i {layout.HOME}/$i) $((1 + i % 19)) $((1 + i % 19)) 0; done;"
               " echo end;"
               f" sleep 1000 ) | /arbiter-scheduler {layout.HOME} > /plan.out 2>&1 &",

@@ -62,7 +62,7 @@ def loaded(program: str) -> list[str]:
     return ["rm -f /plan.in; mkfifo /plan.in; : > /plan.out",
             f"{program} {layout.HOME} < /plan.in > /plan.out 2>&1 &",
             "scheduler=$!; exec 9> /plan.in",
-            f"{{ echo plan 200; {plan}; echo end; }} >&9",
+            f"{{ echo plan 200; echo rest 100 2; {plan}; echo end; }} >&9",
             "until grep -q -v ready /plan.out; do sleep 0.1; done"]
 
 

@@ -1,10 +1,10 @@
 -- Judged rounds: where slices are told lost, rounds were harmed.
-use Rattle.std.proofs.Common.{◌+◌, ◌*◌, ◌<◌, ◌≤◌, ◌≡◌, length, arith, inl, inr}
+use Rattle.std.proofs.Common.{◌+◌, ◌*◌, ◌<◌, ◌≤◌, ◌≡◌, length, arith, refl, inl, inr}
 use Rattle.std.specs.Prelude.{sum}
 use Rattle.std.proofs.lemmas.Bool.{cases_lt}
-use Rattle.bw_owned.specs.Harm.{with_more}
+use Rattle.bw_owned.specs.Harm.{with_more, IsLost}
 use Rattle.bw_owned.specs.Judged.{last_rounds, last_slices}
-use Rattle.bw_owned.specs.Laws.{LostIsHarm}
+use Rattle.bw_owned.specs.Laws.{LostIsHarm, HalfIsLost}
 use Rattle.bw_owned.proofs.Losses.{harm_is_harm}
 
 pub lost_is_harm : LostIsHarm
@@ -22,3 +22,16 @@ lost_is_harm free_used free_planned held_used held_planned sure guesses lost mor
           harm_is_harm free (with_more held 0) plan ((judged.lost_is enough).least 0 some) in
           (enough, omega (arith, less))
     ]
+
+half_lost : IsLost (record { used = 600; planned = 600 }) (record { used = 300; planned = 600 }) 270
+half_lost = record {
+  enough = λ harmed. let clash : ⊥ = omega (arith, harmed) in clash;
+  least = λ fewer less. omega (arith, less);
+}
+
+pub half_is_lost : HalfIsLost
+half_is_lost = record {
+  few = λ few. absurd (omega (arith, few));
+  lost_is = λ enough. half_lost;
+  guessed_is = λ enough. refl;
+}

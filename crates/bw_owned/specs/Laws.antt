@@ -1,6 +1,6 @@
 -- Laws of what owners set.
-use Rattle.std.specs.Prelude.{◌≡◌, ◌≢◌, ℕ, ◌+◌, ◌*◌, ◌<◌, ◌≤◌, IfSome, List, Some, length, true}
-use Rattle.std.specs.Prelude.{slice_index, max, sum, if◌then◌else◌}
+use Rattle.std.specs.Prelude.{◌≡◌, ◌≢◌, ℕ, zero, suc, ◌+◌, ◌*◌, ◌<◌, ◌≤◌, IfSome, List, Some}
+use Rattle.std.specs.Prelude.{length, true, slice_index, max, sum, if◌then◌else◌, replicate}
 use Rattle.bw_model.specs.declared.limits.TheConstants.{MIN_WEIGHT, MAX_WEIGHT, MAX_DEMAND}
 use Rattle.bw_model.specs.declared.limits.TheConstants.{MIN_QUOTA_US, MAX_QUOTA_US}
 use Rattle.bw_model.specs.declared.limits.TheConstants.{MIN_PERIOD_US, MAX_PERIOD_US}
@@ -17,7 +17,10 @@ use Rattle.bw_owned.specs.declared.limit.OwnedLimit.{OwnedLimit}
 use Rattle.bw_owned.specs.Allowed.{allowed_time}
 use Rattle.bw_owned.specs.Harm.{IsHarmed}
 use Rattle.bw_owned.specs.Judged.{IsJudged, last_rounds}
+use Rattle.bw_owned.specs.declared.rest.RestShare.{RestShare}
 use Rattle.bw_owned.specs.Requests.{number_for_request}
+use Rattle.bw_owned.specs.Rest.{own_weight, weight_beside, beside, up_to, IsRestShare}
+use Rattle.bw_owned.specs.LetGo.{AreLetGo}
 use Rattle.bw_owned.specs.Round.{asked_column, asks_for_all, unserved}
 use Rattle.bw_owned.specs.Swings.{went_back, has_turned}
 use Rattle.bw_owned.specs.Weights.{IsOwnedWeight}
@@ -149,3 +152,51 @@ abbrev pub PodAmountsGrow : Type 0
 PodAmountsGrow = (kinds amounts more : List ℕ) (one other : ℕ) → length more ≡ length amounts
     → ((k : ℕ) → k < length amounts → slice_index amounts k ≤ slice_index more k)
     → IsPodAmount kinds amounts one → IsPodAmount kinds more other → one ≤ other
+
+-- Others have at least their part by weights beside a group, and less than a slice more.
+abbrev pub OthersHaveTheirPart : Type 0
+OthersHaveTheirPart = (own others slices : ℕ) → 0 < own
+    → (others * slices ≤ own * beside own others slices)
+    × (own * beside own others slices < others * slices + own)
+
+-- Where weights make whole slices, others have just these.
+abbrev pub RestIsExact : Type 0
+RestIsExact = (own others slices part : ℕ) → 0 < own → others * slices ≡ own * part
+    → beside own others slices ≡ part
+
+-- the product of the own weights of the first levels, and that of all weights
+abbrev pub own_parts : List ℕ → ℕ → ℕ
+own_parts own zero = 1
+own_parts own (suc k) = own_parts own k * own_weight own k
+
+abbrev pub all_parts : List ℕ → List ℕ → ℕ → ℕ
+all_parts own others zero = 1
+all_parts own others (suc k) =
+    all_parts own others k * (own_weight own k + weight_beside others k)
+
+-- Of what the levels come to, the slices are no more than the product of the parts by weights.
+abbrev pub LevelsHaveTheirParts : Type 0
+LevelsHaveTheirParts = (slices : ℕ) (own others : List ℕ) (k : ℕ)
+    → slices * all_parts own others k ≤ up_to slices own others k * own_parts own k
+
+-- With no greater weights of the planned groups, and no lesser ones of others, the rest has no less.
+abbrev pub RestGrows : Type 0
+RestGrows = (slices planned : ℕ) (own others lesser more : List ℕ) (share greater : RestShare)
+    → IsRestShare slices planned own others share → IsRestShare slices planned lesser more greater
+    → length lesser ≡ length own → length more ≡ length others
+    → ((k : ℕ) → k < length own → slice_index lesser k ≤ slice_index own k)
+    → ((k : ℕ) → k < length own → slice_index others k ≤ slice_index more k)
+    → (share.guarantee ≤ greater.guarantee) × (share.amount ≤ greater.amount)
+
+-- Of groups of which the first to go is enough, no two go.
+abbrev pub OneSwings : Type 0
+OneSwings = (least k other : ℕ) (counts slices go : List ℕ) → length go ≡ length slices
+    → AreLetGo 1 least counts slices go
+    → k < length slices → other < length slices → 0 < slice_index go k → 0 < slice_index go other
+    → k ≡ other
+
+-- Sixty rounds that serve half of a plan under limits, and all of it without, lost 19 parts of 20
+-- less that half.
+abbrev pub HalfIsLost : Type 0
+HalfIsLost = IsJudged (replicate 60 10) (replicate 60 10) (replicate 60 5) (replicate 60 10)
+    (replicate 60 0) (replicate 60 0) 270 0

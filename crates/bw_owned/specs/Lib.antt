@@ -5,10 +5,12 @@ pub mod Harm
 pub mod Judged
 pub mod Laws
 pub mod Least
+pub mod LetGo
 pub mod Limits
 pub mod Logarithm
 pub mod Pods
 pub mod Requests
+pub mod Rest
 pub mod Round
 pub mod Shares
 pub mod Swings

@@ -1,12 +1,15 @@
 //! Laws of what owners set, each the contract of a function that does nothing.
-ghost use Rattle.std.specs.Prelude.{◌≡◌, ◌-◌, ◌^◌, Some};
+ghost use Rattle.std.specs.Prelude.{◌≡◌, ◌-◌, ◌^◌, Some, true};
 ghost use Rattle.bw_owned.specs.Laws.{WeightsGrow, WeightsAreInRange, WeightsAreOne};
 ghost use Rattle.bw_owned.specs.Laws.{WeightsAtTheEnds, LeastIsOne, LimitsAreInRange};
 ghost use Rattle.bw_owned.specs.Laws.{LimitsGrow, PodAmountIsOne, PodAmountsGrow};
 ghost use Rattle.bw_owned.specs.Laws.{RequestsAreWritten, SharesWeighAsRequests, AllowedGrows};
 ghost use Rattle.bw_owned.specs.Laws.{PartsAllowNoMore, PeriodsAllowQuotas, HarmIsHarm};
 ghost use Rattle.bw_owned.specs.Laws.{LostIsHarm, GuessesAreMost, RoundAsksAsRead};
-ghost use Rattle.bw_owned.specs.Laws.{OnlyTheHungryLack, BackHasTurned};
+ghost use Rattle.bw_owned.specs.Laws.{OnlyTheHungryLack, BackHasTurned, HalfIsLost};
+ghost use Rattle.bw_owned.specs.Laws.{OthersHaveTheirPart, LevelsHaveTheirParts, RestIsExact};
+ghost use Rattle.bw_owned.specs.Laws.{RestGrows, OneSwings};
+ghost use Rattle.bw_owned.specs.Swings.{went_back};
 ghost use Rattle.bw_owned.specs.Shares.{linear_weight};
 ghost use Rattle.bw_owned.specs.Requests.{shares_of_request, weight_of_request};
 ghost use Rattle.bw_owned.specs.Limits.{limit_of_thousandths, limit_of_billionths, limit_of_rate};
@@ -18,6 +21,7 @@ use crate::limit::{BILLION, CPU, DEFAULT_PERIOD_US, SECOND_US};
 use crate::logarithm::{SCALE_DIGITS, UNIT};
 use crate::pod::{INIT_CONTAINER, SIDECAR};
 use crate::request::{MAX_REQUEST, WEIGHT_REQUEST};
+use crate::rest::{MOST_TOLD, ROOT_WEIGHT};
 use crate::shares::{DEFAULT_SHARES, DEFAULT_WEIGHT, MAX_SHARES, MIN_SHARES};
 
 /// Law: by each formula a greater number has no lesser weight, and a number has one weight.
@@ -96,10 +100,11 @@ pub fn harm_is_harm()
 
 /// Law: a loop that is told of harm was harmed, and one that is told of guesses went by guesses.
 ///
-/// Sixty rounds under limits judge them.
+/// Sixty rounds under limits judge them, such as those that serve half of a plan.
 pub fn lost_is_harm()
     ensures harm { LostIsHarm }
     ensures guesses { GuessesAreMost }
+    ensures half { HalfIsLost }
     ensures rounds { JUDGED_ROUNDS ≡ 60 }
 {}
 
@@ -115,9 +120,29 @@ pub fn only_the_hungry_lack()
     ensures { OnlyTheHungryLack }
 {}
 
-/// Law: a number that went back rose and falls, or fell and rises.
+/// Law: a number that went back rose and falls, or fell and rises, as 100, 50 and 100.
 pub fn back_has_turned()
-    ensures { BackHasTurned }
+    ensures turned { BackHasTurned }
+    ensures some { went_back 100 50 100 ≡ true }
+{}
+
+/// Law: a loop whose limits go back and forth lets one group go, and no two.
+pub fn one_swings()
+    ensures { OneSwings }
+{}
+
+/// Law: at each level the rest has its part by weights, and less than a slice more.
+///
+/// So of what all levels come to, the planned groups have no more than the product of their parts.
+/// With weights that make whole slices the rest has just these. Greater weights of others, or lesser
+/// ones of the planned groups, give it no less.
+pub fn rest_has_its_part()
+    ensures part { OthersHaveTheirPart }
+    ensures levels { LevelsHaveTheirParts }
+    ensures exact { RestIsExact }
+    ensures grow { RestGrows }
+    ensures root { ROOT_WEIGHT ≡ 100 }
+    ensures most { MOST_TOLD ≡ 1000000000 }
 {}
 
 /// Law: `cpu.shares` of 2 to 262144, of which 1024 stand for the weight 100.

@@ -4,9 +4,9 @@
 //! of a container, CPUs of a container and a quota of a unit make quotas. The formulas are those of
 //! kubelet, of container runtimes, of docker and of systemd.
 //!
-//! Beside them are the rules of a loop that holds a plan by limits: what limits allow in a time,
-//! what a round asks for each leaf, what was not served, which numbers go back and forth, and when
-//! limits do harm.
+//! Beside them are the rules of a loop that holds a plan: what limits allow in a time, what a round
+//! asks for each leaf, what was not served, which numbers go back and forth, when limits do harm,
+//! which groups are let go then, and what the rest of the host is given beside a plan.
 #![tactic(auto)]
 
 mod allowed;
@@ -18,7 +18,9 @@ mod least;
 mod limit;
 mod logarithm;
 mod pod;
+mod release;
 mod request;
+mod rest;
 mod round;
 mod shares;
 mod swings;
@@ -30,14 +32,16 @@ pub use harm::{MOST_SLICES, ServedSlices, lost_slices};
 pub use judged::{JUDGED_ROUNDS, JudgedSlices, judge};
 pub use laws::{
     back_has_turned, harm_is_harm, kind_numbers, least_is_one, limit_numbers, limits_are_in_range,
-    limits_grow, lost_is_harm, only_the_hungry_lack, pod_amount_is_one, requests_are_written,
-    round_asks_as_read, share_numbers, times_are_allowed, weights_are_in_range,
-    weights_at_the_ends, weights_grow,
+    limits_grow, lost_is_harm, one_swings, only_the_hungry_lack, pod_amount_is_one,
+    requests_are_written, rest_has_its_part, round_asks_as_read, share_numbers, times_are_allowed,
+    weights_are_in_range, weights_at_the_ends, weights_grow,
 };
 pub use least::least_number;
 pub use limit::{OwnedLimit, owned_limit};
 pub use pod::{greatest_part, pod_amount};
+pub use release::{LetGoReason, let_go};
 pub use request::{number_for_request, shares_of_request};
+pub use rest::{MOST_TOLD, RestShare, rest_share};
 pub use round::write_round;
 pub use shares::{linear_weight, logarithmic_weight};
 pub use swings::count_swings;

@@ -1,5 +1,5 @@
 //! Numbers that go back and forth from round to round, such as limits.
-ghost use Rattle.std.specs.Prelude.{◌≡◌, length, slice_index, EachIndex};
+ghost use Rattle.std.specs.Prelude.{◌≡◌, length};
 ghost use Rattle.bw_owned.specs.Swings.{apart, went_back, has_turned, in_a_row};
 ghost use Rattle.bw_owned.specs.Swings.{AreSwingsCounted};
 
@@ -38,36 +38,6 @@ fn in_a_row(did: bool, rounds: u64) -> u64
     if did { rounds.saturating_add(1) } else { 0 }
 }
 
-// Counts the rounds in a row in which each number went back.
-fn count_backs(now: &[u64], last: &[u64], before: &[u64], backs: &mut [u64])
-    requires last { length last.now ≡ length now.now }
-    requires before { length before.now ≡ length now.now }
-    requires room { length backs.old ≡ length now.now }
-    ensures long { length backs.new ≡ length backs.old }
-    ensures each { EachIndex now.now (λ k. slice_index backs.new k ≡ in_a_row
-        (went_back (slice_index now.now k) (slice_index last.now k) (slice_index before.now k))
-        (slice_index backs.old k)) }
-{
-    for k in 0..now.len() {
-        backs[k] = in_a_row(went_back(now[k], last[k], before[k]), backs[k]);
-    }
-}
-
-// Counts the rounds in a row in which each number turned.
-fn count_turns(now: &[u64], last: &[u64], before: &[u64], turns: &mut [u64])
-    requires last { length last.now ≡ length now.now }
-    requires before { length before.now ≡ length now.now }
-    requires room { length turns.old ≡ length now.now }
-    ensures long { length turns.new ≡ length turns.old }
-    ensures each { EachIndex now.now (λ k. slice_index turns.new k ≡ in_a_row
-        (has_turned (slice_index now.now k) (slice_index last.now k) (slice_index before.now k))
-        (slice_index turns.old k)) }
-{
-    for k in 0..now.len() {
-        turns[k] = in_a_row(has_turned(now[k], last[k], before[k]), turns[k]);
-    }
-}
-
 /// Counts the rounds in a row in which each number went back, and in which it turned.
 ///
 /// A number stands beside those of the last round and of the one before. It went back if it is that
@@ -81,6 +51,8 @@ pub fn count_swings(now: &[u64], last: &[u64], before: &[u64], backs: &mut [u64]
     ensures { AreSwingsCounted now.now last.now before.now backs.old turns.old backs.new
         turns.new }
 {
-    count_backs(now, last, before, backs);
-    count_turns(now, last, before, turns);
+    for k in 0..now.len() {
+        backs[k] = in_a_row(went_back(now[k], last[k], before[k]), backs[k]);
+        turns[k] = in_a_row(has_turned(now[k], last[k], before[k]), turns[k]);
+    }
 }

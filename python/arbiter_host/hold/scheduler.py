@@ -61,19 +61,21 @@ class Served(NamedTuple):
 
 class Given(NamedTuple):
     """A plan as the scheduler takes it: the host's slices, the limits, the leaves, the groups with
-    children, below which others may come, each with its nearest limit."""
+    children, below which others may come, each with its nearest limit. And the amount and the
+    guarantee of the rest."""
 
     slices: int
     limits: list[Limit]
     leaves: list[Served]
     inner: list[tuple[int, int]]
+    rest: tuple[int, int] = (0, 0)
 
     @property
     def lines(self) -> Iterator[str]:
         """The commands."""
         rows: dict[str, Sequence[tuple[int, ...]]] = {
-            "plan": [(self.slices,)], "limit": self.limits, "leaf": self.leaves,
-            "inner": self.inner, "end": [()]}
+            "plan": [(self.slices,)], "rest": [self.rest], "limit": self.limits,
+            "leaf": self.leaves, "inner": self.inner, "end": [()]}
         return (" ".join(map(str, (word, *row))) for word, each in rows.items() for row in each)
 
 
@@ -185,6 +187,34 @@ def folders_above(top: str) -> Iterator[str]:
     yield from reversed(found) if found else [top]
 
 
+def weight_of(folder: str) -> int | None:
+    """The weight of a group; 0 of an idle one. None where the cpu controller is not enabled."""
+    return cgroup2.number_in(cgroup2.file_text(folder, "cpu.weight"))
+
+
+def weights_in(folder: str, name: str = "") -> int:
+    """The weights of the groups of a folder that have tasks, but for one of this name, added up."""
+    with os.scandir(folder) as entries:
+        found = [each.path for each in entries
+                 if each.name != name and each.is_dir(follow_symlinks=False)]
+    return sum(weight_of(each) or 0 for each in found
+               if "populated 1" in (cgroup2.file_text(each, "cgroup.events") or ""))
+
+
+def weights_above(top: str) -> tuple[list[int], list[int]]:
+    """The weight of a top and of each group above it but the root, and the weights of those beside
+    each. Of the host's root itself those of its groups. None beside a tree of the host."""
+    if os.path.realpath(top) == readings.HOST_TREE:
+        return [weights_in(top)], [0]
+    own, others = list[int](), list[int]()
+    for folder in reversed([*folders_above(top)]):
+        weight, (above, name) = weight_of(folder), os.path.split(folder)
+        if weight is not None and folder.startswith(readings.HOST_TREE):
+            own.append(weight)
+            others.append(weights_in(above, name))
+    return own, others
+
+
 def limit_of(library: Library, group: int, settings: tuple[int | None, int, int], above: int
              ) -> Limit | None:
     """The limit of a group's quota, period and burst in microseconds, if it has one."""
@@ -261,9 +291,11 @@ class ScheduledLoop(hold.Loop):
 
     def write(self, found: Written) -> int:
         """Gives the scheduler the limits of all groups, and the amount and the guarantee of each
-        leaf."""
+        leaf and of the rest."""
         given = self.bounded(self.given())
-        self.scheduler.plan(given)
+        rest = self.engine.library.rest(given.slices, sum(each.amount for each in given.leaves),
+                                        *weights_above(self.tree.top))
+        self.scheduler.plan(given._replace(rest=rest))
         self.last_limits = {each.group: each for each in given.limits}
         self.last_leaves = {each.group: each for each in given.leaves}
         return len(given.leaves)

@@ -531,6 +531,72 @@ pub fn judged(free: [&[u64]; 2], held: [&[u64]; 4]) -> Result<Judged, Fault> {
     Ok(Judged { lost, guessed })
 }
 
+/// What each group did in the last rounds, by which some are let go. One number of each group in each column.
+#[derive(Clone, Copy, Debug, PartialEq, Eq)]
+pub struct Lately<'a> {
+    /// Rounds in a row in which its limit went back, as [`swings`] counts them.
+    pub backs: &'a [u64],
+    /// Rounds in a row in which what it asked for turned.
+    pub turns: &'a [u64],
+    /// Slices by which its use changed.
+    pub moved: &'a [u64],
+    /// Slices of its plans that it did not use.
+    pub left: &'a [u64],
+    /// Slices that it used where its hunger was a guess.
+    pub guessed: &'a [u64],
+}
+
+/// Why groups are let go.
+#[derive(Clone, Copy, Debug, PartialEq, Eq)]
+pub enum LetGo {
+    /// Nobody is.
+    Nothing,
+    /// Limits went back and forth.
+    Swings,
+    /// Slices were lost under limits.
+    Losses,
+    /// Hunger was mostly a guess.
+    Guesses,
+}
+
+/// Which groups are let go, since limits do harm to them, and why.
+///
+/// # Errors
+/// 50 where the columns differ in length.
+pub fn let_go(groups: &Lately<'_>, judged: Judged) -> Result<(LetGo, Vec<bool>), Fault> {
+    let (mut go, mut reason) = (vec![0; groups.backs.len()], 0);
+    let Lately { backs, turns, moved, left, guessed } = *groups;
+    answered(raw::let_go(backs, turns, moved, left, guessed, judged.lost, judged.guessed, &mut go, &mut reason), None)?;
+    let why = match reason {
+        0 => LetGo::Nothing,
+        1 => LetGo::Swings,
+        2 => LetGo::Losses,
+        _ => LetGo::Guesses,
+    };
+    Ok((why, go.iter().map(|flag| *flag != 0).collect()))
+}
+
+/// What the rest of a host is given beside a plan, in slices.
+#[derive(Clone, Copy, Debug, PartialEq, Eq)]
+pub struct Rest {
+    /// What it has of what all have.
+    pub amount: u64,
+    /// What it has at least.
+    pub guarantee: u64,
+}
+
+/// What the rest of a host is given beside a plan of so many slices, of which some are planned.
+///
+/// `own` has the weights of the planned groups' top and of each group above it but the root, `others` those of the groups beside each.
+///
+/// # Errors
+/// 50 where the columns differ in length; the plan is of more than 10^9 slices (9).
+pub fn rest(slices: u64, planned: u64, own: &[u64], others: &[u64]) -> Result<Rest, Fault> {
+    let (mut amount, mut guarantee) = (0, 0);
+    answered(raw::rest(slices, planned, own, others, &mut amount, &mut guarantee), None)?;
+    Ok(Rest { amount, guarantee })
+}
+
 /// The quota and the weight that are written for a leaf's limit of a round, as share/arbiter.h has them.
 ///
 /// `own` is its own limit, and `stands_us` the quota that stands in it, of the host's period. No quota: its own limit is written.
@@ -1041,6 +1107,22 @@ mod tests {
         assert_eq!(swings(&[200, 90], &[50, 100], &[200, 90], &mut backs, &mut turns), Ok(()));
         assert_eq!((backs, turns), ([4, 0], [5, 5]));
         assert_eq!(swings(&[200], &[50], &[], &mut backs, &mut turns), Err(fault(50, None)));
+    }
+
+    #[test]
+    fn lets_go_and_leaves_a_rest() {
+        let mut groups = Lately { backs: &[60, 60], turns: &[0, 0], moved: &[3, 5], left: &[7, 2], guessed: &[1, 9] };
+        let judged = Judged { lost: 8, guessed: 9 };
+        assert_eq!(let_go(&groups, judged), Ok((LetGo::Swings, vec![false, true])));
+        groups.backs = &[59, 0];
+        assert_eq!(let_go(&groups, judged), Ok((LetGo::Losses, vec![true, true])));
+        assert_eq!(let_go(&groups, Judged { lost: 0, ..judged }), Ok((LetGo::Guesses, vec![false, true])));
+        assert_eq!(let_go(&groups, Judged { lost: 0, guessed: 0 }), Ok((LetGo::Nothing, vec![false, false])));
+        groups.turns = &[0];
+        assert_eq!(let_go(&groups, judged), Err(fault(50, None)));
+        assert_eq!(rest(200, 150, &[100, 300], &[50, 200]), Ok(Rest { amount: 400, guarantee: 400 }));
+        assert_eq!(rest(200, 150, &[100], &[]), Err(fault(50, None)));
+        assert_eq!(rest(1_000_000_001, 0, &[], &[]), Err(fault(9, None)));
     }
 
     #[test]

@@ -95,6 +95,12 @@ extern "C" {
                       held_used: *const u64, held_used_length: usize, held_planned: *const u64, held_planned_length: usize,
                       sure: *const u64, sure_length: usize, guesses: *const u64, guesses_length: usize, lost: *mut u64,
                       guessed: *mut u64) -> u32;
+    fn arbiter_let_go(backs: *const u64, backs_length: usize, turns: *const u64, turns_length: usize,
+                      moved: *const u64, moved_length: usize, left: *const u64, left_length: usize,
+                      guessed: *const u64, guessed_length: usize, lost: u64, guesses: u64, go: *mut u8, go_length: usize,
+                      reason: *mut u32) -> u32;
+    fn arbiter_rest(slices: u64, planned: u64, own: *const u64, own_length: usize, others: *const u64, others_length: usize,
+                    amount: *mut u64, guarantee: *mut u64) -> u32;
     fn arbiter_written(processors: u64, period_us: u64, slice_us: u64, limit: u64, own: u64, stands_us: u64, tasks: u32,
                        quota: *mut u64, weight: *mut u64) -> u32;
     fn arbiter_script(processors: u64, period_us: u64, slice_us: u64, hash_key: u64, text: *const u8, text_length: usize,
@@ -473,6 +479,23 @@ pub(crate) fn judged(free_used: &[u64], free_planned: &[u64], held_used: &[u64],
         arbiter_judged(free_used.as_ptr(), free_used.len(), free_planned.as_ptr(), free_planned.len(),
                        held_used.as_ptr(), held_used.len(), held_planned.as_ptr(), held_planned.len(), sure.as_ptr(), sure.len(),
                        guesses.as_ptr(), guesses.len(), lost, guessed)
+    }
+}
+
+pub(crate) fn let_go(backs: &[u64], turns: &[u64], moved: &[u64], left: &[u64], guessed: &[u64], lost: u64, guesses: u64,
+                     go: &mut [u8], reason: &mut u32) -> u32 {
+    // SAFETY: as the head of this file says
+    unsafe {
+        arbiter_let_go(backs.as_ptr(), backs.len(), turns.as_ptr(), turns.len(), moved.as_ptr(), moved.len(),
+                       left.as_ptr(), left.len(), guessed.as_ptr(), guessed.len(), lost, guesses, go.as_mut_ptr(), go.len(),
+                       reason)
+    }
+}
+
+pub(crate) fn rest(slices: u64, planned: u64, own: &[u64], others: &[u64], amount: &mut u64, guarantee: &mut u64) -> u32 {
+    // SAFETY: as the head of this file says
+    unsafe {
+        arbiter_rest(slices, planned, own.as_ptr(), own.len(), others.as_ptr(), others.len(), amount, guarantee)
     }
 }
 
