@@ -16,6 +16,7 @@ Conventions:
   come from `pytest_generate_tests`, so that an import does no work.
 - A case that this machine cannot try is skipped, with its reason. Nothing else is skipped.
 - Expected values are worked by hand or by plan_model.py, never copied from the program.
+- Random cases are as many as `chances.cases` says: few with --fuzz-runs.
 - Lines have at most 100 columns, tables excepted. pyflakes3 finds nothing.
 - A folder of tests elsewhere has a conftest.py that puts this folder on `sys.path` and has the
   line below. Its tests run in the same call: `pytest tests python/tests`.

@@ -8,6 +8,7 @@ from pathlib import Path
 
 import pytest
 
+import chances
 import support
 
 
@@ -27,7 +28,7 @@ def pytest_addoption(parser):
                     help="seconds that each fuzzer of the C library runs (default 10)")
     group.addoption("--fuzz-runs", metavar="N", type=int, default=0,
                     help="inputs that each fuzzer tries, in the place of seconds, and the most"
-                    " random cases of a test of the package")
+                    " random cases of a test; of cheap ones some times more")
     group.addoption("--write", action="store_true",
                     help="put the program's answers into the pages of docs/, to be read by hand")
 
@@ -65,7 +66,9 @@ def pytest_unconfigure(config):
 
 
 def pytest_configure(config):
-    """Finds the checked build where it is asked for."""
+    """Sets the most random cases, before a test is read, and finds the checked build where it is
+    asked for."""
+    chances.most = config.getoption("fuzz_runs")
     if config.getoption("checked"):
         make_checked(config)
         config.option.program = support.CHECKED / "arbiter"

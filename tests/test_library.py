@@ -20,6 +20,7 @@ import pytest
 import arbiter
 import pages
 from arbiter import c
+from chances import cases
 from shared_fixtures import build_in_coq, has_coq
 from stand_in import version
 from support import ROOT, Program, Talk, kit_folder, run, same
@@ -28,7 +29,7 @@ from worked_scripts import all_scripts
 # Time limit of a compiler, in seconds.
 SECONDS = 120
 SEED = 20260730
-TREES = 60
+TREES = cases(60)
 # The lines that `answers_in` reads.
 ASKED = "plan\ntotal\ncert\n"
 ASKING = {line.encode() for line in ASKED.split("\n") if line}

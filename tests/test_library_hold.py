@@ -9,14 +9,15 @@ from typing import List, NamedTuple, Optional, Sequence, Tuple
 import pytest
 
 import arbiter
+from chances import cases
 from plan_model import Instance, Row
 from support import same
 from test_library import number_of, random_tree
 
 SEED = 20261127
-TREES = 60
+TREES = cases(60)
 # Random trees that a scheduler is given, in tests of so many.
-SERVED, OF_ONE = 2000, 250
+SERVED, OF_ONE = cases(2000, 10), 200
 # One processor of 20 slices.
 HOST = arbiter.Host(1, 100000, 5000)
 EVERYTHING = 1000000

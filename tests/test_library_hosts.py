@@ -8,11 +8,12 @@ from fractions import Fraction
 import pytest
 
 import arbiter
+from chances import cases
 from support import same
 from test_library import random_tree
 
 SEED = 20261128
-DEMANDS, HOSTS, PLANS = 2000, 1000, 60
+DEMANDS, HOSTS, PLANS = cases(2000, 20), cases(1000, 20), cases(60)
 MOST = 2**64 - 1
 MILLISECOND = 1000
 

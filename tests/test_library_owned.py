@@ -8,6 +8,7 @@ import pytest
 
 import arbiter
 from arbiter import LimitFormula, PartKind, WeightFormula, c
+from chances import cases
 from owned_model import (WEIGHTS, allowed, asks, greatest_part, has_turned, judged, let_go, limit_by,
                          lost, number_for, pod_amount, rest, unserved, went_back)
 from support import same
@@ -42,7 +43,7 @@ def test_weights(calls, formula, number, weight):
 def test_many_weights(calls, formula):
     """Weights of random numbers are those of the model."""
     drawn = random.Random(20261130 + formula)
-    for _ in range(9000):
+    for _ in range(cases(9000, 20)):
         number = drawn.randrange(drawn.choice((20, 3000, 300000, 10**12)))
         same(calls.owned_weight(formula, number), WEIGHTS[formula](number), f"{number}")
 
@@ -52,7 +53,7 @@ def test_least_numbers(calls, formula):
     """The least number of each weight: it has the weight at least, and the one before has less."""
     first, last = ENDS[formula]
     weights = {1, 2, 3, 39, 100, 101, 5000, 9999, 10000, *random.Random(formula).sample(
-        range(1, 10001), 600)}
+        range(1, 10001), cases(600, 5))}
     for weight in weights:
         least = calls.least_owned(formula, weight)
         assert first <= least <= last, (formula, weight, least)
@@ -78,7 +79,7 @@ def test_limits(calls, formula, number, period, limit):
 @pytest.mark.parametrize("formula", LimitFormula)
 def test_many_limits(calls, formula):
     drawn = random.Random(20261130 + formula)
-    for _ in range(13000):
+    for _ in range(cases(13000, 20)):
         number = drawn.randrange(drawn.choice((3, 12000, 10**7, 10**12, 2**64)))
         period = drawn.choice((0, 100000, drawn.randrange(2 * 10**6), 2**64 - 1))
         same(calls.owned_limit(formula, number, period), limit_by(formula, number, period),
@@ -97,7 +98,7 @@ def test_pods(calls, kinds, amounts, amount):
 def test_many_pods(calls):
     """Amounts of random pods, and the greatest amount of one part, are those of the model."""
     drawn = random.Random(20261130)
-    for _ in range(50000):
+    for _ in range(cases(50000, 20)):
         many = drawn.randrange(7)
         kinds = [drawn.choice([*PartKind]) for _ in range(many)]
         amounts = [drawn.randrange(drawn.choice((3, 2000, 10**12))) for _ in range(many)]
@@ -128,7 +129,7 @@ def test_numbers(calls, formula, asked, number):
 @pytest.mark.parametrize("formula", WeightFormula)
 def test_many_numbers(calls, formula):
     drawn = random.Random(20261130 + formula)
-    for _ in range(9000):
+    for _ in range(cases(9000, 20)):
         request = drawn.randrange(drawn.choice((20, 3000, 300000, 10**12, 2**64)))
         same(calls.owned_number(formula, request), number_for(formula, request), f"{request}")
 
@@ -144,7 +145,7 @@ def test_times(calls, quota, period, burst, passed, time):
 
 def test_many_times(calls):
     drawn = random.Random(20261130)
-    for _ in range(50000):
+    for _ in range(cases(50000, 20)):
         words = [drawn.randrange(drawn.choice((3, 12000, 10**7, 10**12, 2**64))) for _ in range(4)]
         words[1] += 1
         same(calls.allowed(*words), allowed(*words), f"{words}")
@@ -162,7 +163,7 @@ def test_losses(calls, free, held, slices):
 
 def test_many_losses(calls):
     drawn = random.Random(20261130)
-    for _ in range(50000):
+    for _ in range(cases(50000, 20)):
         words = [tuple(drawn.randrange(drawn.choice((3, 100, 10**4, 2**60))) for _ in range(2))
                  for _ in range(2)]
         same(calls.lost(*words), lost(*words), f"{words}")
@@ -191,7 +192,7 @@ def test_rounds(calls, planned, used, asked, is_hungry, told):
 def test_many_rounds(calls):
     """Beside the model. What `hold` asks for each leaf by the two columns is what was read."""
     drawn = random.Random(20261130)
-    for _ in range(300):
+    for _ in range(cases(300)):
         leaves = [[drawn.randrange(drawn.choice((3, 100, 2 * 10**6, 2**64))) for _ in range(3)]
                   for _ in range(drawn.randrange(120))]
         columns = [[each[at] for each in leaves] for at in range(3)]
@@ -218,7 +219,7 @@ def test_swings(calls, now, last, before, counts):
 def test_many_swings(calls):
     """Beside the model, near the bounds too. A count stops at its greatest value."""
     drawn, seen = random.Random(20261130), {"back": 0, "turned": 0}
-    for _ in range(300):
+    for _ in range(cases(300)):
         last = [drawn.randrange(drawn.choice((3, 100, 10**6, 2**64))) for _ in range(100)]
         now = [drawn.choice((each, 3 * each // 4, each // 2, drawn.randrange(2**64)))
                for each in last]
@@ -231,7 +232,7 @@ def test_many_swings(calls):
                 does = did(*words[:3])
                 same(words[4], min(words[3] + 1, 2**64 - 1) if does else 0, f"{name}: {words}")
                 seen[name] += does
-    assert min(seen.values()) >= 3000, seen
+    assert min(seen.values()) >= 10 * cases(300), seen
 
 
 @pytest.mark.parametrize("free, held, told", [
@@ -247,7 +248,7 @@ def test_judged_rounds(calls, free, held, told):
 def test_many_judged_rounds(calls):
     """Beside the model, of fewer rounds than are judged up to more."""
     drawn, seen = random.Random(20261130), {"few": 0, "lost": 0, "guessed": 0}
-    for _ in range(2000):
+    for _ in range(cases(2000, 20)):
         most = drawn.choice((3, 100, 10**9, 2**54))
         counts = drawn.choice((0, 3, 60, 61)), drawn.choice((59, 60, 61, 62))
         free, held = ([[drawn.randrange(most) for _ in range(count)] for _ in range(columns)]
@@ -256,7 +257,7 @@ def test_many_judged_rounds(calls):
         same(found, judged(free, held), f"{free}, {held}")
         for name, is_so in zip(seen, (counts[1] < 60, found[0] > 0, found[1] > 0)):
             seen[name] += is_so
-    assert min(seen.values()) >= 300, seen
+    assert min(seen.values()) >= cases(2000, 20) * 0.15, seen
 
 
 @pytest.mark.parametrize("backs, turns, moved, left, guessed, judged_by, told", [
@@ -281,7 +282,7 @@ def test_who_is_let_go(calls, backs, turns, moved, left, guessed, judged_by, tol
 def test_many_are_let_go(calls):
     """Beside the model, with equal numbers and great ones."""
     drawn, seen = random.Random(20261201), [0] * 4
-    for _ in range(3000):
+    for _ in range(cases(3000, 20)):
         most = drawn.choice((2, 5, 1000, 2**64))
         groups = [[drawn.choice((0, 59, 60, 99)) * (drawn.random() < 0.1), drawn.choice((0, 59, 60)),
                    *(drawn.randrange(most) for _ in range(3))] for _ in range(drawn.randrange(9))]
@@ -291,7 +292,7 @@ def test_many_are_let_go(calls):
         same(calls.let_go(*columns, judged_by), ([at in gone for at in range(len(groups))], reason),
              f"{groups}, {judged_by}")
         seen[reason] += 1
-    assert min(seen) >= 200, seen
+    assert min(seen) >= cases(3000, 20) // 15, seen
 
 
 @pytest.mark.parametrize("slices, planned, own, others, told", [
@@ -311,7 +312,7 @@ def test_rests(calls, slices, planned, own, others, told):
 def test_many_rests(calls):
     """Beside the model."""
     drawn, cut = random.Random(20261201), 0
-    for _ in range(3000):
+    for _ in range(cases(3000, 20)):
         slices = drawn.choice((0, 1, drawn.randrange(300), drawn.randrange(10**9 + 1)))
         planned = drawn.randrange(drawn.choice((2 * slices + 1, 2**64)))
         levels = [(drawn.choice((0, 1, 100, drawn.randrange(10001))),

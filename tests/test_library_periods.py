@@ -14,12 +14,13 @@ import pytest
 
 import arbiter
 from arbiter.columns import given
+from chances import cases
 from plan_model import Instance, Row
 from support import same
 from test_library import number_of, random_tree
 
 SEED = 20261128
-LIMITS, BOOKED, SERIES, SAMPLES = 2000, 150, 12, 60
+LIMITS, BOOKED, SERIES, SAMPLES = cases(2000, 20), cases(150, 2), 12, cases(60)
 MOST = 2**64 - 1
 HOST = arbiter.Host(1, 100000, 5000)
 TWO = [arbiter.Row(), arbiter.Row(0, limit=15, demand=20), arbiter.Row(0, limit=9, demand=20)]

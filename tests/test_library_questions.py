@@ -11,12 +11,13 @@ import pytest
 
 import arbiter
 from arbiter import c
+from chances import cases
 from plan_model import Instance, Row
 from support import ROOT, same
 from test_library import REFUSED, number_of, raw_columns, rows_of, with_lengths
 
 SEED = 20261126
-TREES = 60
+TREES = cases(60)
 # One processor of 20 slices, and the host's numbers as C takes them.
 HOST = arbiter.Host(1, 100000, 5000)
 NOTHING_ASKED, ALL_WANTED, OWN_LIMIT, LIMIT_ABOVE, HOST_FULL = range(5)

@@ -12,12 +12,13 @@ import pytest
 
 import arbiter
 from arbiter import c
+from chances import cases
 from support import same
 from test_library import HOST_OF_ONE, number_of
 
 SEED = 20261128
 # 50,000 were tried of each: the same answers.
-CASES = 3000
+CASES = cases(3000, 20)
 MILLISECOND, SECOND = 10**6, 10**9
 EVERYTHING, MOST_QUOTA = 1000000, 10**15
 # A processor has 100 slices of a period, so a slice is a hundredth of the time.

@@ -10,6 +10,7 @@ from typing import NamedTuple
 import pytest
 
 import plan_model
+from chances import cases
 from support import ROOT, same
 from worked_scripts import all_scripts
 
@@ -21,7 +22,7 @@ MARK = 7
 COLUMNS = [U32] + [U64] * 7
 SEED = 20261126
 HASH_KEY = 2**63 + SEED
-SCRIPTS = 40
+SCRIPTS = cases(40)
 MOST_GROUPS = 16384
 
 

@@ -12,12 +12,13 @@ import pytest
 
 import arbiter
 from arbiter import c
+from chances import cases
 from plan_model import Row
 from support import same
 from test_library import REFUSED, number_of, raw_columns, rows_of, with_lengths
 from test_library_questions import GREATEST_DEMAND, HOST, changed, host_words, is_under, model_of
 
-SEED, TREES, GUARANTEED_TREES = 20261129, 3000, 1800
+SEED, TREES, GUARANTEED_TREES, HALVED = 20261129, 3000, 1800, cases(3000, 10)
 # The weights that the model tries, and the fewest trees of each kind.
 TRIED, LEAST_OF_EACH = (1, 2, 3, 5), 8
 # Of 20 slices `web` (1) gets 10, and the groups of `pod` (2) 5 each.
@@ -271,7 +272,7 @@ def test_halves_of_tiny_trees(module, guaranteed):
     """Beside the slow model's plans, each row's way up, and sums from the leaves up."""
     chance, host = random.Random(SEED), arbiter.Host(1, 100000, 10000)
     seen = {"half": 0, "goal": 0, "above": 0, "more below": 0}
-    for _ in range(TREES):
+    for _ in range(HALVED):
         rows = tiny(chance)
         goals = [chance.choice((0, 0, 0, 1, 5)) for _ in rows]
         amounts = model_of(host, rows).plan()

@@ -9,20 +9,18 @@ import sys
 import pytest
 from hypothesis import HealthCheck, settings
 
-import chances
 from places import PACKAGE
 
 sys.path[:0] = [str(PACKAGE), *(str(PACKAGE.parent / name) for name in ("tests", "bench/kernel"))]
 pytest_plugins = ["shared_fixtures"]
 SECONDS = 300
-# A busy machine is no failure of a case.
-settings.register_profile("busy", deadline=None, suppress_health_check=[HealthCheck.too_slow])
-settings.load_profile("busy")
 
 
 def pytest_configure(config):
-    """Sets the most random cases, before a test is read."""
-    chances.most = config.getoption("fuzz_runs")
+    """Sets the most random cases, before a test is read. A busy machine is no failure of one."""
+    settings.register_profile("busy", deadline=None, suppress_health_check=[HealthCheck.too_slow],
+                              max_examples=config.getoption("fuzz_runs") or 100)
+    settings.load_profile("busy")
 
 
 @pytest.fixture(scope="session")

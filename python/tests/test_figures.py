@@ -14,9 +14,10 @@ from arbiter_host.base.model import Group, Model, cpus_in, host_of, with_cpus
 from arbiter_host.base.plan import plan
 from arbiter_host.sources import kubernetes
 from arbiter_host.sources.source_options import SourceOptions
+from chances import cases
 
 # Random nodes, in so many tests; more by `NODES=2000 pytest ..`.
-NODES, PARTS = int(os.environ.get("NODES", "100")), 20
+NODES, PARTS = int(os.environ.get("NODES", cases(100))), 20
 # Ways to write thousandths of a CPU.
 SPELLINGS = (lambda m: f"{m}m", lambda m: f"{m / 1000:.3f}", lambda m: f"{m}e-3",
              lambda m: f"{m * 1000}u", lambda m: m // 1000 if m % 1000 == 0 else f"{m}m")

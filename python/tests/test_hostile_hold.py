@@ -21,6 +21,7 @@ from arbiter_host.setting import apply, record
 from arbiter_host.setting.apply import By, Change, Settings
 from arbiter_host.sources import readings
 from arbiter_host.subcommands import _steps, apply as applying, hold as holding
+from chances import cases
 from held import FREE, SECOND, World, begun, content, limit, said, started
 from places import PACKAGE
 
@@ -138,8 +139,9 @@ TENANTS = {
 @as_root
 @pytest.mark.parametrize("name", TENANTS)
 def test_a_tenant_of_short_tasks(folder, engine, capsys, name):
-    """For 500 rounds: the loop lets go of the group in question, if it has to, and says so. The
+    """For many rounds: the loop lets go of the group in question, if it has to, and says so. The
     others are held on as they are without it, and no group is let go that is root's."""
+    count = cases(500, 12)
     world = World(folder, [("t", 400, FREE), ("v", 100, FREE), ("w", 200, FREE)], lacks="v")
     give(world.tree / "t")
     turns = iter(range(1, 10**6))
@@ -152,14 +154,15 @@ def test_a_tenant_of_short_tasks(folder, engine, capsys, name):
             quota = world.maximum(path).split()[0]
             world.uses(path, most if quota == "max" else min(most, int(quota) // 1000), 1, 10**6)
 
-    lines = world.run(world.loop(engine, folder / "undo"), *[step] * 500)
-    assert len(lines) == 500 and not (folder / "undo").exists()
+    lines = world.run(world.loop(engine, folder / "undo"), *[step] * count)
+    last = lines[-count // 5:]
+    assert len(lines) == count and not (folder / "undo").exists()
     said = [line for line in capsys.readouterr().err.splitlines() if "held no longer" in line]
     assert all(line.startswith("arbiterctl: warning: t: held no longer: ") for line in said)
     assert len(said) == 1 or not said and name == "by chance"
     if said:
-        assert all(stood["t"] == FREE for _, stood in lines[-100:])
-    assert all(stood[path] != FREE for _, stood in lines[-100:] for path in "vw"), lines[-1]
+        assert all(stood["t"] == FREE for _, stood in last)
+    assert all(stood[path] != FREE for _, stood in last for path in "vw"), lines[-1]
     assert [world.maximum(path) for path in "tvw"] == [FREE] * 3
 
 

@@ -17,6 +17,7 @@ from arbiter_host.base.model import Group, Model
 from arbiter_host.base.plan import plan
 from arbiter_host.sources import prometheus, selection
 from arbiter_host.sources.selection import Selection
+from chances import cases
 from places import PACKAGE
 from test_cluster import cluster
 from test_figures import items, node, pod
@@ -105,7 +106,7 @@ def test_a_demand_that_is_the_limit_is_met(engine, quota, period, demand, short)
 def test_random_limits_as_demands_are_met(engine):
     """Of groups that ask for their limits, on hosts that have as much, none lacks any."""
     chance = random.Random(5)
-    for _ in range(300):
+    for _ in range(cases(300)):
         host = Host(16, *chance.choice([(1000000, 1000), (100000, 1000), (100000, 5000)]))
         model = Model(host)
         for at in range(6):
