@@ -69,11 +69,16 @@ pytest_quick() {
     "$manual"::test_files_are_made_from_the_help -q -x </dev/null
 }
 
-# What a checked build can show, without the tests of tests/checked/left_out.txt.
+# What a checked build can show, without the tests of tests/checked/left_out.txt. Some tests wait for
+# others' processes, so more workers than processors run. Modules are compiled once for all of them.
 pytest_checked() {
+  local processors
+  processors=$(nproc)
   rm -f "$test_report"
-  timeout --kill-after=10 "$test_seconds" "$python" -m pytest tests python/tests --checked \
-    --fuzz-runs 20 -n "$(nproc)" --dist loadfile --junitxml="$test_report" -q </dev/null
+  PYTHONDONTWRITEBYTECODE='' PYTHONPYCACHEPREFIX=$PWD/out/pycache \
+    timeout --kill-after=10 "$test_seconds" "$python" -m pytest tests python/tests --checked \
+    --fuzz-runs 20 -n $((processors + (processors + 1) / 2)) --dist loadgroup \
+    --junitxml="$test_report" -q </dev/null
 }
 
 # ./test --checked: its last line says what was not proved.

@@ -1,9 +1,12 @@
 """Options and fixtures of all tests (a pytest plugin, loaded by conftest.py)."""
 import fcntl
+import importlib
 import shutil
 import signal
 import subprocess
+import sys
 import tempfile
+from contextlib import suppress
 from pathlib import Path
 
 import pytest
@@ -78,16 +81,43 @@ def pytest_configure(config):
         config.option.program = support.CHECKED / "arbiter"
 
 
+def pytest_sessionstart(session):
+    """Reads a part of the test files before all are read. So workers side by side do not each
+    compile all of them: each finds what the others have compiled."""
+    worker = getattr(session.config, "workerinput", None)
+    if worker is None or sys.dont_write_bytecode:
+        return
+    files = [path for each in session.config.args for path in sorted(Path(each).glob("test_*.py"))]
+    for path in files[int(worker["workerid"][2:])::worker["workercount"]]:
+        # (a file that cannot be read is told later)
+        with suppress(Exception, pytest.skip.Exception):
+            importlib.import_module(path.stem)
+
+
+def order(items, sees_build, is_grouped):
+    """Orders tests for workers side by side, each of which has one file after another, or one group
+    of a file. Those that need no build come first, while that is made. Then those of files with
+    most text, so that none of them goes on alone at the end."""
+    sizes = {path: path.stat().st_size for path in {item.path for item in items}}
+    builds = {"program", "library"} if sees_build else set()
+    later = {item: bool(builds & {*item.fixturenames}) for item in items}
+    if is_grouped:
+        for item in items:
+            group = f"{item.path.relative_to(support.ROOT)} {later[item]:d}"
+            item.add_marker(pytest.mark.xdist_group(group))
+    else:
+        files = {item.path for item in items if later[item]}
+        later = {item: item.path in files for item in items}
+    items.sort(key=lambda item: (later[item], -sizes[item.path]))
+
+
+@pytest.hookimpl(tryfirst=True)
 def pytest_collection_modifyitems(config, items):
-    """Leaves out what a checked build cannot show. Of workers side by side each has one file after
-    another: those with most text come first, so that none of them goes on alone at the end. Those
-    that need no build come before, while the checked build is made."""
+    """Leaves out what a checked build cannot show. Workers get the tests of a file that need the
+    build, and those that do not, as a group each: first of all, since xdist reads them."""
     is_checked = config.getoption("checked")
     if hasattr(config, "workerinput"):
-        sizes = {path: path.stat().st_size for path in {item.path for item in items}}
-        builds = {"program", "library"}
-        later = {item.path for item in items if is_checked and builds & {*item.fixturenames}}
-        items.sort(key=lambda item: (item.path in later, -sizes[item.path]))
+        order(items, is_checked, config.getvalue("loadgroup"))
     if not is_checked:
         return
     lines = (support.ROOT / "tests/checked/left_out.txt").read_text().splitlines()

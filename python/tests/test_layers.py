@@ -1,5 +1,6 @@
 """The graph of imports: each module stands in a layer, and leans on no layer above it."""
 import ast
+import functools
 import re
 
 from arbiter_host.subcommands import NAMES
@@ -49,7 +50,10 @@ def imported(path):
     return found - {""}
 
 
-EDGES = [(name, other) for name, path in MODULES.items() for other in imported(path)]
+@functools.cache
+def edges():
+    """Each module with each that it imports."""
+    return [(name, other) for name, path in MODULES.items() for other in imported(path)]
 
 
 def head(name):
@@ -63,7 +67,7 @@ def test_each_folder_has_its_layer():
 
 def test_nothing_leans_upward():
     """A module imports none of a layer above its own."""
-    assert [edge for edge in EDGES if LAYER[head(edge[0])] < LAYER[head(edge[1])]] == []
+    assert [edge for edge in edges() if LAYER[head(edge[0])] < LAYER[head(edge[1])]] == []
 
 
 def compared(path):
@@ -84,7 +88,7 @@ def test_words_of_the_command_line_end_in_its_layer():
 
 def test_features_know_no_feature():
     """What two features need stands below both."""
-    assert [edge for edge in EDGES if all(head(each) in FEATURES for each in edge)
+    assert [edge for edge in edges() if all(head(each) in FEATURES for each in edge)
             and head(edge[0]) != head(edge[1])] == []
 
 

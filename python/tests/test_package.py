@@ -1,5 +1,6 @@
 """The package as a whole: types, names, lengths, versions, help."""
 import ast
+import functools
 import re
 import subprocess
 import sys
@@ -60,7 +61,10 @@ def named(path):
                     and node.value.id in modules}
 
 
-NAMED = set().union(*map(named, SOURCES))
+@functools.cache
+def all_named():
+    """What all modules name of others."""
+    return set().union(*map(named, SOURCES))
 
 
 @pytest.mark.parametrize("path", SOURCES, ids=lambda path: path.name)
@@ -74,7 +78,7 @@ def test_functions_are_short_and_have_comments(path):
             if isinstance(node, ast.FunctionDef):
                 assert lines <= MOST_LINES, f"{node.name}: {lines} lines"
     public = [node for node in tree.body if isinstance(node, ast.ClassDef)
-              or isinstance(node, ast.FunctionDef) and (module(path), node.name) in NAMED]
+              or isinstance(node, ast.FunctionDef) and (module(path), node.name) in all_named()]
     assert [node.name for node in public if not ast.get_docstring(node)] == []
 
 
