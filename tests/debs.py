@@ -337,13 +337,19 @@ def test_units_are_not_enabled(installed, name):
 
 
 @pytest.fixture(scope="module")
-def told(installed, suite):
-    """What the service did under systemd: the root, booted in a guest."""
+def booted(installed, suite):
+    """The root that a guest boots; its services are tried in that of one release."""
     if suite != SUITES[0]:
         pytest.skip("the services are tried in one root")
     if packages.missing():
         pytest.skip(packages.missing())
-    return real_unit.shown_by(packages.kernel("6.12"), installed)
+    return installed
+
+
+@pytest.fixture(scope="module")
+def told(booted):
+    """What the service did under systemd."""
+    return real_unit.shown_by(packages.kernel("6.12"), booted)
 
 
 FREE = {"a": "100 max 100000", "b": "300 max 100000"}
@@ -385,13 +391,9 @@ def test_service_begins_again(told):
 
 
 @pytest.fixture(scope="module")
-def scheduled(installed, suite):
+def scheduled(booted):
     """What the other service did, on a kernel that takes a scheduler."""
-    if suite != SUITES[0]:
-        pytest.skip("the services are tried in one root")
-    if packages.missing():
-        pytest.skip(packages.missing())
-    return real_unit.shown_by(packages.kernel(packages.NEWEST), installed, "arbiter-schedule",
+    return real_unit.shown_by(packages.kernel(packages.NEWEST), booted, "arbiter-schedule",
                               real_unit.SCHEDULED)
 
 

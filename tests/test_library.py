@@ -306,6 +306,15 @@ def test_slices(calls, usec, own_period, host, slices):
     same(calls.slices(host, usec, own_period), slices)
 
 
+def check_refused(calls, name, number, host, *numbers):
+    """A conversion answers its first refusal, and writes nothing."""
+    same(number_of(getattr(calls, name), host, *numbers), (number, None))
+    slices = c.U64(7)
+    words = [*calls.host(host), *map(c.U64, numbers), ctypes.byref(slices)]
+    same(getattr(calls.calls, f"arbiter_{name}")(*words), number)
+    same(slices.value, 7)
+
+
 @pytest.mark.parametrize("number, host, usec, own_period", [
     (1, arbiter.Host(0, 0, 0), 2**64 - 1, 0), (1, arbiter.Host(65, 100000, 5000), 0, 100000),
     (2, arbiter.Host(1, 1000001, 0), 2**64 - 1, 0), (3, arbiter.Host(1, 100000, 999), 2**64 - 1, 0),
@@ -314,12 +323,7 @@ def test_slices(calls, usec, own_period, host, slices):
     (15, HOST_OF_ONE, 0, 2**64 - 1),
 ])
 def test_refused_slices(calls, number, host, usec, own_period):
-    """The first refusal is answered, and nothing is written."""
-    same(number_of(calls.slices, host, usec, own_period), (number, None))
-    slices = c.U64(7)
-    words = [*calls.host(host), c.U64(usec), c.U64(own_period)]
-    same(calls.calls.arbiter_slices(*words, ctypes.byref(slices)), number)
-    same(slices.value, 7)
+    check_refused(calls, "slices", number, host, usec, own_period)
 
 
 @pytest.mark.parametrize("thousandths, host, slices", [
@@ -350,12 +354,7 @@ def test_demand_of_parts(calls, numerator, denominator, slices):
     (11, HOST_OF_ONE, 0, 0), (9, HOST_OF_ONE, 2**64 - 1, 368934881474191),
 ])
 def test_refused_demand(calls, number, host, numerator, denominator):
-    """The first refusal is answered, and nothing is written."""
-    same(number_of(calls.demand, host, numerator, denominator), (number, None))
-    slices = c.U64(7)
-    words = [*calls.host(host), c.U64(numerator), c.U64(denominator)]
-    same(calls.calls.arbiter_demand(*words, ctypes.byref(slices)), number)
-    same(slices.value, 7)
+    check_refused(calls, "demand", number, host, numerator, denominator)
 
 
 @pytest.mark.parametrize("shares, linear, logarithmic", [

@@ -15,9 +15,9 @@ import arbiter
 from arbiter import c
 from plan_model import Instance, Row
 from support import same
-from test_library import REFUSED, number_of, raw_columns, rows_of, with_lengths
+from test_library import REFUSED, number_of, rows_of, with_lengths
 from test_library_questions import GREATEST_DEMAND, HOST, host_words, is_under, model_of
-from test_library_tune import EVEN, IDLE, kept
+from test_library_tune import EVEN, IDLE, asked_columns, check_lengths, kept
 
 SEED, TREES = 20261128, 500
 # The fewest trees of each kind, and the choices of limits beside the answer.
@@ -64,14 +64,11 @@ def test_worked(module, rows, goals, may, lowest, guaranteed, answer):
 def limited(calls, host, rows: Sequence[Row], lengths: Sequence[int]):
     """The number of the answer, the limits and whether goals are met, over which 7 stood.
 
-    `lengths` are those of the four columns of the rows, of the goals, of `may`, of the lowest
-    limits and of the limits. Each column has room for one entry more.
+    `lengths` are those of the columns that are asked, of the lowest limits and of the limits.
     """
     room = len(rows) + 1
-    columns = [(type(column)._type_ * room)(*column, 7) for column in raw_columns(rows)]
-    goals, may = (c.U64 * room)(*[1] * room), (c.U8 * room)(*[1] * room)
     lowest, limits, met = (c.U64 * room)(), (c.U64 * room)(*[7] * room), c.U32(7)
-    words = with_lengths([*columns, goals, may, lowest, limits], lengths)
+    words = with_lengths([*asked_columns(rows), lowest, limits], lengths)
     number = calls.arbiter_limit_others(*host_words(host), *words[:14], c.U32(1), *words[14:],
                                         ctypes.byref(met))
     return number, list(limits), met.value
@@ -90,12 +87,7 @@ def test_refused(module, number, row, host, tuples):
 
 @pytest.mark.parametrize("by", [-1, 1], ids=["one too few", "one too many"])
 def test_wrong_length(module, by):
-    """A wrong length of each column in turn: 50 before the host, and nothing is written."""
-    for host in (HOST, arbiter.Host(0, 0, 0)):
-        for at in range(8):
-            lengths = [5] * 8
-            lengths[at] += by
-            same(limited(module.calls, host, EVEN, lengths), (50, [7] * 6, 7), f"column {at}")
+    check_lengths(limited, module.calls, 8, by)
     columns = [[0] * 5, NONE, [0] * 5]
     for at in range(3):
         wrong = [column[:-1] if by < 0 else [*column, 0] for column in columns]

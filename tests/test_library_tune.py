@@ -101,17 +101,21 @@ def test_measures(module, rows, goals, may, guaranteed, answer):
         assert is_met(HOST, with_weights(rows, answer), goals, guaranteed=guaranteed)
 
 
+def asked_columns(rows: Sequence[Row]) -> list:
+    """The four columns of the rows, the goals and `may`, each with room for one entry more."""
+    room = len(rows) + 1
+    columns = [(type(column)._type_ * room)(*column, 7) for column in raw_columns(rows)]
+    return [*columns, (c.U64 * room)(*[1] * room), (c.U8 * room)(*[1] * room)]
+
+
 def tuned(calls, host, rows: Sequence[Row], lengths: Sequence[int]):
     """The number of the answer, the weights and the row, over which 7 stood.
 
-    `lengths` are those of the four columns of the rows, of the goals, of `may` and of the weights.
-    Each column has room for one entry more.
+    `lengths` are those of the columns that are asked and of the weights.
     """
     room = len(rows) + 1
-    columns = [(type(column)._type_ * room)(*column, 7) for column in raw_columns(rows)]
-    goals, may = (c.U64 * room)(*[1] * room), (c.U8 * room)(*[1] * room)
     weights, unmet = (c.U64 * room)(*[7] * room), c.U64(7)
-    words = with_lengths([*columns, goals, may, weights], lengths)
+    words = with_lengths([*asked_columns(rows), weights], lengths)
     number = calls.arbiter_tune(*host_words(host), *words[:12], c.U32(1), *words[12:],
                                 ctypes.byref(unmet))
     return number, list(weights), unmet.value
@@ -128,14 +132,18 @@ def test_refused(module, number, row, host, tuples):
     same(found, (number, [7] * (len(rows) + 1), 7))
 
 
-@pytest.mark.parametrize("by", [-1, 1], ids=["one too few", "one too many"])
-def test_wrong_length(module, by):
+def check_lengths(answered, calls, columns: int, by: int) -> None:
     """A wrong length of each column in turn: 50 before the host, and nothing is written."""
     for host in (HOST, arbiter.Host(0, 0, 0)):
-        for at in range(7):
-            lengths = [5] * 7
+        for at in range(columns):
+            lengths = [5] * columns
             lengths[at] += by
-            same(tuned(module.calls, host, EVEN, lengths), (50, [7] * 6, 7), f"column {at}")
+            same(answered(calls, host, EVEN, lengths), (50, [7] * 6, 7), f"column {at}")
+
+
+@pytest.mark.parametrize("by", [-1, 1], ids=["one too few", "one too many"])
+def test_wrong_length(module, by):
+    check_lengths(tuned, module.calls, 7, by)
     same(number_of(module.tune, HOST, EVEN, [0] * (5 + by), ALL), (50, None))
     same(number_of(module.tune, HOST, EVEN, [0] * 5, [True] * (5 + by)), (50, None))
 

@@ -75,14 +75,11 @@ def needs_of(built: Path) -> dict:
 
 
 def all_needs(needs: dict, names) -> set:
-    """Some modules, and all that they need."""
-    found: set = set()
-    todo = list(names)
-    while todo:
-        name = todo.pop()
-        if name not in found:
-            found.add(name)
-            todo += needs[name]
+    """Some modules, and all that they need. In `needs` each stands behind those that it needs."""
+    found = set(names)
+    for name in reversed(needs):
+        if name in found:
+            found |= needs[name]
     return found
 
 

@@ -3,6 +3,7 @@
     /usr/bin/python3 -m pytest python/tests --program PATH --library PATH
 """
 import os
+import shutil
 import subprocess
 import sys
 
@@ -28,6 +29,13 @@ def calls(library):
     """The C library under test."""
     import arbiter
     return arbiter.Library(library)
+
+
+@pytest.fixture(scope="session")
+def chromium():
+    """The browser that shows a page; a test is skipped where there is none."""
+    found = shutil.which("chromium")
+    return found or pytest.skip("no chromium here")
 
 
 @pytest.fixture(scope="session")

@@ -2,7 +2,6 @@
 import http.server
 import json
 import re
-import shutil
 import threading
 import urllib.parse
 from fractions import Fraction
@@ -680,11 +679,8 @@ def test_page_escapes_names(engine):
 
 @pytest.mark.parametrize("mode", ["light", "dark"])
 @pytest.mark.parametrize("width", [400, 500, 1280])
-def test_page_is_legible_in_a_browser(ctl, folder, width, mode):
+def test_page_is_legible_in_a_browser(ctl, folder, chromium, width, mode):
     """As the page of `report`: nothing overlaps, is cut or too faint. So are texts of pictures."""
-    chromium = shutil.which("chromium")
-    if chromium is None:
-        pytest.skip("no chromium here")
     found = copies(folder)
     ctl.run("audit", *found, "--read", "x10s", "--cpus", "2", "-o", f"html={folder}/p.html")
     prefers = ["--blink-settings=preferredColorScheme=0"] if mode == "dark" else []

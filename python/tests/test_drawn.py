@@ -185,13 +185,15 @@ def test_marks_are_no_capitals(ctl):
         assert set(re.findall(r"\b[A-Z]{3,}\b", text)) <= {"CPU"} and "throttled" in text
 
 
-def test_page_in_a_browser(ctl, folder):
-    """The page opens in headless Chromium; search and fold work there."""
-    chromium = shutil.which("chromium")
-    if chromium is None:
-        pytest.skip("no chromium here")
+def page_of_node(ctl, folder):
+    """The page of an example."""
     ctl.run("explain", ROOT / "examples/node.script", "-o", f"html={folder / 'p.html'}")
-    page = (folder / "p.html").read_text()
+    return (folder / "p.html").read_text()
+
+
+def test_page_in_a_browser(ctl, folder, chromium):
+    """The page opens in headless Chromium; search and fold work there."""
+    page = page_of_node(ctl, folder)
     probe = ("find.value='redis';find.dispatchEvent(new Event('input'));"
              "return inTree.filter(each=>!each.hidden).length")
     # The host, kubepods, burstable, and pod-cache with its redis.
@@ -263,11 +265,8 @@ PODS = [PACKAGE / "tests/fixtures/pods.json", PACKAGE / "tests/fixtures/node.jso
 @pytest.mark.parametrize("mode", ["light", "dark"])
 @pytest.mark.parametrize("width", [400, 800, 1280])
 @pytest.mark.parametrize("source", [[ROOT / "examples/node.script"], PODS], ids=["script", "pods"])
-def test_page_is_legible_in_a_browser(ctl, folder, source, width, mode):
+def test_page_is_legible_in_a_browser(ctl, folder, chromium, source, width, mode):
     """Nothing overlaps, is cut or too faint, on a phone and a screen, by day and by night."""
-    chromium = shutil.which("chromium")
-    if chromium is None:
-        pytest.skip("no chromium here")
     change = ["--set", "kubepods/burstable.weight=900", "--set", "kubepods/burstable.max=1cpu"]
     ctl.run("diff", *source, *change, "-o", f"html={folder / 'p.html'}")
     page = (folder / "p.html").read_text()
@@ -297,13 +296,9 @@ def test_page_has_requests_and_names_once(ctl, folder):
     assert 'data-head="request"' not in (folder / "s.html").read_text()
 
 
-def test_keys_of_the_page(ctl, folder):
+def test_keys_of_the_page(ctl, folder, chromium):
     """Arrows go from group to group, open and fold; one row alone is reached by Tab."""
-    chromium = shutil.which("chromium")
-    if chromium is None:
-        pytest.skip("no chromium here")
-    ctl.run("explain", ROOT / "examples/node.script", "-o", f"html={folder / 'p.html'}")
-    page = (folder / "p.html").read_text()
+    page = page_of_node(ctl, folder)
     script = ("const at=()=>document.activeElement.querySelector?.('.name')?.textContent,seen=[];"
               "const press=key=>document.activeElement.dispatchEvent(new KeyboardEvent('keydown',"
               "{key,bubbles:true,cancelable:true}));inTree[0].focus();"

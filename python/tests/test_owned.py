@@ -410,24 +410,28 @@ def test_what_a_unit_needs(ctl):
     assert (by["CPUWeight"]["now"], by["CPUWeight"]["least"]) == ("200", None)
 
 
+@pytest.fixture
+def containers(engine):
+    """A host of containers."""
+    data = (FIXTURES / "docker.json").read_bytes()
+    return reading.docker([("d", data)], EIGHT, engine.library)
+
+
 @pytest.mark.parametrize("words, wanted", [
     (["cpus=2.5"], (79, 250000, 100000)), (["cpus=0"], (79, None, 100000)),
     # 512 shares: 1 + 510 * 9999 / 262142 = 20.4.
     (["cpu-shares=512"], (20, 150000, 100000)), (["cpu-shares=0"], (100, 150000, 100000)),
     (["cpus=125m", "cpu-shares=2"], (1, 12500, 100000)),
 ])
-def test_docker(engine, words, wanted):
+def test_docker(containers, words, wanted):
     """Options of web, which has 2048 shares and 1.5 CPUs."""
-    data = (FIXTURES / "docker.json").read_bytes()
-    model = reading.docker([("d", data)], EIGHT, engine.library)
-    after = change.changed(model, [f"system.slice/web.{word}" for word in words])
+    after = change.changed(containers, [f"system.slice/web.{word}" for word in words])
     assert of(after.groups["system.slice/web"]) == wanted
 
 
-def test_cpus_stand_in_place_of_a_quota(engine):
+def test_cpus_stand_in_place_of_a_quota(containers):
     """db has 20 ms of 50 ms; `--cpus` is half of 100 ms."""
-    model = reading.docker([("d", (FIXTURES / "docker.json").read_bytes())], EIGHT, engine.library)
-    after = change.changed(model, ["system.slice/db.cpus=0.5"])
+    after = change.changed(containers, ["system.slice/db.cpus=0.5"])
     assert of(after.groups["system.slice/db"]) == (100, 50000, 100000)
 
 
@@ -435,10 +439,9 @@ def test_cpus_stand_in_place_of_a_quota(engine):
     "cpus=8.01", "cpus=0.009", "cpus=-1", "cpus=x", "cpus=0.0000000001", "cpu-shares=1",
     "cpu-shares=262145", "cpu-shares=2.5", "cpu-shares=-1", "CPUQuota=5%",
 ])
-def test_bad_settings_of_containers(engine, word):
-    model = reading.docker([("d", (FIXTURES / "docker.json").read_bytes())], EIGHT, engine.library)
+def test_bad_settings_of_containers(containers, word):
     with pytest.raises(UsageFault, match="^--set "):
-        change.changed(model, [f"system.slice/web.{word}"])
+        change.changed(containers, [f"system.slice/web.{word}"])
 
 
 def test_what_a_container_needs(ctl):

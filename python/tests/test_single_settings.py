@@ -9,9 +9,9 @@ from arbiter_host.base import units
 from arbiter_host.base.model import Group, Model
 from arbiter_host.base.plan import guarantees, plan
 from arbiter_host.tune import single_settings, tune
-from chances import cases
-from hypothesis import HealthCheck, given, settings
+from hypothesis import given
 from hypothesis import strategies as st
+from small_hosts import PATHS, models, some
 
 # One CPU of 20 slices; a counts once and b twice, and both want all of it.
 TWO = """# arbiter run --processors 1 --period 100000 --slice 5000
@@ -88,25 +88,7 @@ def test_guarantees_of_the_inside(engine):
     assert guarantees(found, found.groups[1:]) == [8, 4, 4, 0]
 
 
-PATHS = ["a", "b", "c", "a/x", "a/y"]
-
-
-@st.composite
-def models(draw):
-    """Small hosts with limits and demands."""
-    model = Model(Host(draw(st.integers(1, 3)), 100000, 20000))
-    for path in PATHS:
-        quota = draw(st.none() | st.integers(1, 12).map(lambda slices: 20000 * slices))
-        demand = 0 if path == "a" else draw(st.integers(0, 12)) * 200
-        model.add(Group(path, draw(st.integers(1, 400)), quota, demand=Fraction(demand)))
-    return model
-
-
-SOME = settings(max_examples=cases(40), deadline=None,
-                suppress_health_check=[HealthCheck.function_scoped_fixture])
-
-
-@SOME
+@some(40)
 @given(model=models(), path=st.sampled_from(PATHS), slices=st.integers(1, 10))
 def test_least_values(engine, model, path, slices):
     """The least value reaches the amount, and the value before it does not."""
@@ -125,7 +107,7 @@ def test_least_values(engine, model, path, slices):
             assert single.least == 1 or gets(single.least - 1) < slices
 
 
-@SOME
+@some(40)
 @given(model=models(), demands=st.lists(st.integers(0, 12), min_size=5, max_size=5))
 def test_no_demands_of_the_others_give_less(engine, model, demands):
     """Each group gets its guarantee with any demands of the groups that are not under it."""

@@ -23,9 +23,9 @@ from arbiter_host.sources import change, kubernetes, selection
 from arbiter_host.tune import (goals as goals_, other_limits, single_settings, tune, tune_settings,
                                tune_weights)
 from arbiter_host.tune.goals import Clash
-from chances import cases
-from hypothesis import HealthCheck, given, settings
+from hypothesis import given
 from hypothesis import strategies as st
+from small_hosts import PATHS, models, some
 
 
 def host_file(folder, *groups, cpus=1, slice_="5ms"):
@@ -722,22 +722,6 @@ def test_quotas_of_units(ctl, folder):
 # Against other weights
 
 
-PATHS = ["a", "b", "c", "a/x", "a/y"]
-SOME = settings(max_examples=cases(30), deadline=None,
-                suppress_health_check=[HealthCheck.function_scoped_fixture])
-
-
-@st.composite
-def models(draw):
-    """Small hosts with limits and demands."""
-    model = Model(Host(draw(st.integers(1, 3)), 100000, 20000))
-    for path in PATHS:
-        quota = draw(st.none() | st.integers(3, 12).map(lambda slices: 20000 * slices))
-        demand = 0 if path == "a" else draw(st.integers(0, 12)) * 200
-        model.add(Group(path, draw(st.integers(1, 400)), quota, demand=Fraction(demand)))
-    return model
-
-
 GOALS = st.lists(st.tuples(st.sampled_from(["b", "c", "a/x", "a/y"]), st.integers(1, 6)),
                  min_size=1, max_size=4, unique_by=lambda each: each[0])
 WEIGHTS = st.lists(st.lists(st.integers(1, 10000), min_size=6, max_size=6), max_size=5)
@@ -755,8 +739,8 @@ def meets(found, goals, is_guaranteed, library):
     return True
 
 
-@SOME
-@given(model=models(), goals=GOALS, is_guaranteed=st.booleans(), others=WEIGHTS)
+@some(30)
+@given(model=models(3), goals=GOALS, is_guaranteed=st.booleans(), others=WEIGHTS)
 def test_met_or_never(engine, model, goals, is_guaranteed, others):
     """What is answered meets all goals. Goals that clash are met by no weights of their groups, of
     those above them and of those beside."""
@@ -784,8 +768,8 @@ def goals_kept(found):
                              for row, amount in kept)]
 
 
-@SOME
-@given(model=models(), goals=GOALS, is_guaranteed=st.booleans(),
+@some(30)
+@given(model=models(3), goals=GOALS, is_guaranteed=st.booleans(),
        chosen=st.sets(st.sampled_from(PATHS), max_size=3))
 def test_no_change_can_be_left_out(engine, model, goals, is_guaranteed, chosen):
     """As `--set` makes the changes, they meet all goals, and others keep half where that is said.

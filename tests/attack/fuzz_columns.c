@@ -2,9 +2,9 @@
  * Every sixteenth input has one of its allocations refused. */
 #include "../../share/arbiter.h"
 #include "guard.h"
+#define FUZZER "fuzz_columns"
+#include "fuzzing.h"
 
-#include <stdio.h>
-#include <stdlib.h>
 #include <string.h>
 
 #define MOST 48
@@ -13,7 +13,7 @@
 
 __attribute__((section("__libfuzzer_extra_counters"))) static uint8_t seen[128 * 16];
 
-static unsigned long answers[128], calls, refused;
+static unsigned long calls;
 
 struct host {
     uint64_t processors, period, slice;
@@ -31,19 +31,8 @@ struct rows {
 
 static void tell(void)
 {
-    fprintf(stderr, "calls: %lu; answers:", calls);
-    for (int number = 0; number < 128; number++)
-        if (answers[number])
-            fprintf(stderr, " %d:%lu", number, answers[number]);
-    fprintf(stderr, "; allocations refused: %lu\n", refused);
-}
-
-static void demand(int holds, const char *what)
-{
-    if (!holds) {
-        fprintf(stderr, "fuzz_columns: %s\n", what);
-        abort();
-    }
+    fprintf(stderr, "calls: %lu; ", calls);
+    tell_answers();
 }
 
 static uint32_t counted(uint32_t answer)

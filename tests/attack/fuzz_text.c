@@ -1,34 +1,15 @@
 /* libFuzzer on arbiter_check_text and arbiter_script. Every sixteenth input has one of its allocations refused. */
 #include "../../share/arbiter.h"
 #include "guard.h"
+#define FUZZER "fuzz_text"
+#include "fuzzing.h"
 
-#include <stdio.h>
-#include <stdlib.h>
 #include <string.h>
 
 #define MARK 0x5a5a5a5au
 
 /* The library's own branches are not counted, so answers and rows are: libFuzzer keeps an input with a new one. */
 __attribute__((section("__libfuzzer_extra_counters"))) static uint8_t seen[128 * 64];
-
-static unsigned long answers[128], refused;
-
-static void tell(void)
-{
-    fprintf(stderr, "answers:");
-    for (int number = 0; number < 128; number++)
-        if (answers[number])
-            fprintf(stderr, " %d:%lu", number, answers[number]);
-    fprintf(stderr, "; allocations refused: %lu\n", refused);
-}
-
-static void demand(int holds, const char *what)
-{
-    if (!holds) {
-        fprintf(stderr, "fuzz_text: %s\n", what);
-        abort();
-    }
-}
 
 static int is_answer(uint32_t answer)
 {
@@ -145,7 +126,7 @@ int LLVMFuzzerTestOneInput(const uint8_t *data, size_t size)
     uint32_t row, again;
 
     if (!turn++)
-        atexit(tell);
+        atexit(tell_answers);
     guard_refused = 0;
     guard_asked = 0;
     uint32_t answer = asked(data, size, 0, &row);
