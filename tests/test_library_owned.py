@@ -322,7 +322,7 @@ def test_many_rests(calls):
         found = calls.rest(slices, planned, own, others)
         same(found, rest(slices, planned, own, others), f"{slices}, {planned}, {levels}")
         cut += slices + found[1] == 10**9
-    assert 300 <= cut <= 2500, cut
+    assert cases(3000, 20) * 0.1 <= cut <= cases(3000, 20) * 0.84, cut
 
 
 def test_refused_rounds(calls):
