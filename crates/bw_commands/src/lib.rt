@@ -19,7 +19,7 @@ mod word;
 
 pub use command::{Change, Command, LINE_BYTES, Question};
 pub use fault::ScriptFault;
-pub use marked::{Marked, WIDE};
+pub use marked::{MOST_MARKED, Marked, WIDE};
 pub use reader::ScriptReader;
 pub use reading::{ReadScript, RefusedLine, read_script};
 pub use refusal::{REFUSAL_BYTES, put_error};

@@ -2,7 +2,7 @@
 ghost use Rattle.std.specs.Prelude.{◌≡◌, ◌+◌, ◌<◌, length, take, drop, slice_index};
 ghost use Rattle.bw_shell.specs.Piece.{bytes_of};
 
-use bw_commands::{Marked, WIDE};
+use bw_commands::{MOST_MARKED, Marked, WIDE};
 
 /// A part of a script. A part of `Text` is text too, so that its lines need no test of their own.
 #[derive(Clone, Copy)]
@@ -68,5 +68,9 @@ fn split_text(text: &str, end: usize) -> (Piece<'_>, Piece<'_>)
     if WIDE <= text.len() && end <= WIDE {
         return (Piece::Line(Marked::at_front(text, end)), rest);
     }
-    (Piece::Text(&text[..end]), rest)
+    let front = &text[..end];
+    if WIDE < end && end <= MOST_MARKED {
+        return (Piece::Line(Marked::new(front)), rest);
+    }
+    (Piece::Text(front), rest)
 }
