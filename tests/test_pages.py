@@ -295,6 +295,8 @@ CALLS_OF_THE_LOCK = {
     # The loads, each in the function of its step. A waiting seat makes `glance` and `look`.
     r"\.peek\(": ("sleeping.rt", ["glance", "tickets_served"]),
     r"\.load::<Looking>": ("sleeping.rt", ["look"]),
+    # a mark is stored by the one function that asks for a look before it
+    r"::<Mark>": ("steps.rt", ["store_mark"]),
     r"\.load::<Woken>": ("sleeping.rt", ["note_wake"]),
     r"\.load::<Record>": ("steps.rt", ["leave"]),
     r"\.load::<PeekNext>": ("behind.rt", ["peek_next"]),
@@ -321,7 +323,7 @@ CALLS_OF_LENT_SEATS = {
     r"\bChance::of\(": [("sleeping.rt", "read"), ("visits.rt", "chance")],
     r"\n +Found \{": [("looking.rt", "look")],
     # each call that is made has its visit
-    r"\.finish\w*\(": [("helping.rt", "make"), ("helping.rt", "leave_with"), ("seat.rt", "call"),
+    r"\.finish\w*\(": [("helping.rt", "make"), ("helping.rt", "finish_visit"), ("seat.rt", "call"),
                         ("visitor.rt", "finish_and_look")],
     r"\bTableVisit::of\(": [("seat.rt", "finish")],
     # what is lent, hinted at and taken back is noted, as what is claimed and given back

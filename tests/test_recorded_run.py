@@ -78,12 +78,14 @@ def test_recorded_run(made, threads, slices, order, record_property):
     assert 1 <= rounds.greatest(events) <= rounds.CROWD_ROUNDS
     # of two accesses in a row that a seat makes, one at least is an event
     assert silent_in_a_row(steps) == 1
-    assert rounds.greatest(accesses) <= 2 * rounds.CROWD_ROUNDS
+    assert rounds.greatest(accesses) <= rounds.ACCESS_ROUNDS
     assert rounds.most_for_a_ticket(events) <= rounds.CROWD_ROUNDS
+    assert rounds.most_for_a_ticket(accesses) <= rounds.ACCESS_ROUNDS
     assert rounds.most_for_a_ticket(turns) <= rounds.TURN_ROUNDS
     said = (f"{drawn} tickets, {len(steps)} accesses; most rounds that raised what is served: "
             f"{rounds.greatest(events)} of events ({rounds.CROWD_ROUNDS} proved), "
-            f"{rounds.greatest(accesses)} of accesses, {rounds.greatest(turns)} of turns")
+            f"{rounds.greatest(accesses)} of accesses ({rounds.ACCESS_ROUNDS} proved), "
+            f"{rounds.greatest(turns)} of turns")
     record_property("rounds", said)
     print(said)
 
@@ -91,7 +93,7 @@ def test_recorded_run(made, threads, slices, order, record_property):
 def test_all_states_of_two_seats():
     """The most rounds that raise what is served, in the model and of the accesses of the code."""
     same(explore.most_rounds(2, explore.model_steps), (1119, 12))
-    same(explore.most_rounds(2, explore.code_steps), (803, 14))
+    same(explore.most_rounds(2, explore.code_steps), (709, 13))
 
 
 def test_each_event_occurs(made):

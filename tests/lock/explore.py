@@ -1,7 +1,7 @@
 """All states that a few seats reach, and the most rounds in which the served ticket is raised.
 
 Explored are the model `Crowd`, in which a move is an event, and the code, in which it is an access.
-The code makes the model's events and two loads more for a ticket.
+The code makes the model's events and one load more for a ticket.
 
 usage: PYTHONPATH=tests python3 -m lock.explore [SEATS]
 """
@@ -15,8 +15,8 @@ from collections.abc import Callable, Iterator
 from typing import NamedTuple, Optional
 
 from lock import crowd
-from lock.crowd import OWN_LOADS, Crowd, EnteringFor, Event, Giving, GivingLast, Has, Helping
-from lock.crowd import Hint, Leaves, Peeking, Phase, Stage, Wakes
+from lock.crowd import OWN_LOADS, Crowd, Event, Giving, GivingLast, Has, Helping, Hint, Leaves
+from lock.crowd import Peeking, Phase, Stage, Wakes
 
 # More rounds than any law has: the ticket that is served is never raised.
 NEVER = 100
@@ -71,9 +71,9 @@ def model_steps(state: State, i: int) -> Iterator[State]:
 def mark_of(old: Phase, new: Phase) -> int:
     """Whether a seat that has moved so has a load before its next event, or has looked once."""
     match new:
-        case Has(_, (Stage.DRAWN | Stage.ENTERING | Stage.INSIDE)):
-            return int(old != new or isinstance(old, Has)) if not isinstance(old, Wakes) else 0
-        case Leaves(_, _, (EnteringFor() | Helping())):
+        case Has(_, Stage.DRAWN):
+            return int(isinstance(old, Has))
+        case Has(_, Stage.INSIDE) | Leaves(_, _, Helping()):
             return 1
     return 0
 
@@ -88,8 +88,7 @@ def code_steps(state: State, i: int) -> Iterator[State]:
         return State(found, crowd.put(state.marks, i, some))
 
     match phase:
-        case (Has(_, (Stage.ENTERING | Stage.INSIDE))
-              | Leaves(_, _, (EnteringFor() | Helping()))) if mark[i]:
+        case (Has(_, Stage.INSIDE) | Leaves(_, _, Helping())) if mark[i]:
             yield marked(s, 0)
         case Leaves(_, _, (Peeking(k) | Giving(_, k))) if k == OWN_LOADS:
             yield marked(after(s, Event("LookBehind", i)))

@@ -3,8 +3,7 @@
 An access is refused if its seat can make no such event where it is. So it is if its word has
 another value than in the model, before or after it.
 
-Two loads of the served ticket stand for no event: one before a seat enters, and one before it
-leaves.
+One load of the served ticket stands for no event: the one before a seat leaves.
 """
 from __future__ import annotations
 
@@ -140,9 +139,8 @@ class Replay:
             raise Refused(f"{len(self.seats)} threads, {seats} seats")
         self.chosen = chosen(run, self.seats)
         self.crowd, self.hall = crowd.start(seats, PLACES), turns.opened(seats, calls)
-        # of each seat: loads that stand for none since it could enter or was inside, and the state
-        # that it read last
-        self.loads, self.read = [0] * seats, [0] * seats
+        # of each seat the state that it read last
+        self.read = [0] * seats
         self.steps: list[Step] = []
 
     def word(self, access: Access) -> int:
@@ -242,10 +240,6 @@ class Replay:
             case Has(_, (Stage.DRAWN | Stage.LOOKING)):
                 return [Event("Look", i)], None
             case Has(_, Stage.ENTERING) | Leaves(_, _, EnteringFor()):
-                self.loads[i] += 1
-                if self.loads[i] == 1:
-                    return [], None
-                self.loads[i] = 0
                 return [Event("Look", i)], Turn("Looks", self.inside(i, phase))
             case Has(_, Stage.INSIDE) | Leaves(_, _, Helping()):
                 return [], Turn("Records", self.inside(i, phase))

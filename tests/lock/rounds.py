@@ -13,6 +13,7 @@ from lock.replay import Step
 
 NEVER = 1 << 60
 CROWD_ROUNDS, TURN_ROUNDS = 17, 8  # SeventeenRoundsRaiseServing, RunsServeDrawnTickets
+ACCESS_ROUNDS = 18  # AccessesServeDrawnTickets
 
 
 class Move(NamedTuple):

@@ -23,7 +23,8 @@ use Rattle.bw_lend.specs.Turns.{Hall, Turn, LooksAhead, LendsItself, StoresHint,
 use Rattle.bw_lend.specs.Turns.{TakesBack, Sleeps, Peeks, ClaimsToHelp, ClaimsToReturn, Gives}
 use Rattle.bw_lend.specs.Turns.{GivesLast, Returns, RousesFirst, Rouses, Makes, IsTurn, maker}
 use Rattle.bw_lend.specs.Turns.{is_waiting}
-use Rattle.bw_lend.specs.BothTables.{Both, BothTurn, OnPlaces, OnLock, Calls, Ends, WakesUp}
+use Rattle.bw_lend.specs.BothTables.{Both, BothTurn, OnPlaces, OnLock, Calls, Ends}
+use Rattle.bw_lend.specs.BothTables.{Glances, WakesUp}
 use Rattle.bw_lend.specs.BothTables.{is_on_places, made, opened_both, IsBothTurn, BothLead}
 use Rattle.bw_lend.specs.BothTables.{IsFree, IsIn, Enters}
 use Rattle.bw_lend.specs.BothTables.{thread_of, is_event, MakesEvent}
@@ -36,7 +37,7 @@ use Rattle.bw_lend.proofs.TurnsLed.{one_turn}
 use Rattle.bw_lend.proofs.BothHeld.{IsEntering, Agrees, HasWords, Joined, Turned}
 use Rattle.bw_lend.proofs.BothHeld.{slept_idle, stays, meets_after, by_one, by_none}
 use Rattle.bw_lend.proofs.BothHeld.{doing_or}
-use Rattle.bw_lend.proofs.BothRuns.{on_lock}
+use Rattle.bw_lend.proofs.BothRuns.{on_lock, no_glance}
 
 -- the two numbers of the lock are as before
 abbrev Same : Hall → Hall → Type 0
@@ -188,7 +189,7 @@ module _ {M C R : Type 0} (b c : Both M C R) (m : Joined b) where
               (λ (nn : n ≢ i). m.apart k n x (old_call k x ne is) (old_call n x nn at)));
         }) refl refl
 
-  one_both : (t : BothTurn) → IsBothTurn t b c → Turned b c t
+  pub one_both : (t : BothTurn) → IsBothTurn t b c → Turned b c t
   one_both (OnPlaces t) turn = subst (λ (x : Both M C R). Turned b x (OnPlaces t)) (sym turn.3)
       (on_places t turn.0 turn.1 turn.2)
   one_both (OnLock i u) turn = subst (λ (x : Both M C R). Turned b x (OnLock i u)) (sym turn.2)
@@ -196,6 +197,7 @@ module _ {M C R : Type 0} (b c : Both M C R) (m : Joined b) where
   one_both (Calls i j) turn = subst (λ (x : Both M C R). Turned b x (Calls i j)) (sym turn.5)
       (calls_in i j turn.0 turn.1 turn.2 turn.3 turn.4)
   one_both (Ends i) turn = subst (λ (x : Both M C R). Turned b x (Ends i)) (sym turn.3) (ends i)
+  one_both (Glances i) turn = absurd (no_glance b c m i turn)
   one_both (WakesUp i) turn = subst (λ (x : Both M C R). Turned b x (WakesUp i)) (sym turn.2)
       (wakes_up i turn.0 turn.1)
 
@@ -220,11 +222,11 @@ no_marks n (suc (suc w)) le = all_zero n w
 
 module _ {M C R : Type 0} where
   -- the events of a list of turns
-  abbrev Led : Both M C R → List BothTurn → Both M C R → Type 0
+  abbrev pub Led : Both M C R → List BothTurn → Both M C R → Type 0
   Led b turns c = (events : List Event) × Joined c × (run b.hall.crowd events ≡ c.hall.crowd)
       × ((i : ℕ) → MakesEvent i turns → MakesOne i b.hall.crowd events)
 
-  led : (b c : Both M C R) (turns : List BothTurn) → Joined b → BothLead b turns c
+  pub led : (b c : Both M C R) (turns : List BothTurn) → Joined b → BothLead b turns c
       → Led b turns c
   led b c [] m is = (
     [],
@@ -252,7 +254,7 @@ module _ {M C R : Type 0} where
   all_up (x ∷ xs) zero p d is = sym (ap doing_or is)
   all_up (x ∷ xs) (suc j) p d is = all_up xs j p d is
 
-  at_first : (seats words calls : ℕ) → seats ≤ words
+  pub at_first : (seats words calls : ℕ) → seats ≤ words
       → Joined (opened_both {M = M} {C = C} {R = R} seats words calls)
   at_first seats words calls le = record {
     meets = at_start seats words le;

@@ -29,7 +29,7 @@ use Rattle.bw_lend.specs.Crowd.{look_by, leave_by, look_behind_by, glance_by, ta
 use Rattle.bw_lend.specs.Crowd.{after, or_same, happens, put, moved}
 use Rattle.bw_lend.specs.CrowdLaws.{Holds}
 use Rattle.bw_lend.specs.Turns.{Hall, is_waiting}
-use Rattle.bw_lend.specs.BothTables.{Both, OnLock}
+use Rattle.bw_lend.specs.BothTables.{Both, OnLock, Glances, IsBothTurn}
 use Rattle.bw_lend.specs.BothTables.{MayMake, looking, made, event_of}
 use Rattle.bw_lend.proofs.CrowdInvariant.{OkPlace, Ok, Sound}
 use Rattle.bw_lend.proofs.CrowdErrands.{at_errand}
@@ -87,7 +87,7 @@ module _ (s : Crowd) (y : Sound s) (i t : ℕ) where
         served,
       )) is
 
-  leaves : IsInside (s.phase i) t
+  pub leaves : IsInside (s.phase i) t
       → (r : Phase) × (after s (Leave i) ≡ Some (record s {
         serving = s.serving + 1;
         phase = put s.phase i r;
@@ -183,6 +183,20 @@ module _ {M C R : Type 0} where
   stores_none q (Owes t n) h may = may
   stores_none q (Found t n) h may = h
   stores_none q (WakesIt t n) h may = h
+
+  -- and it waits no more
+  waits_no_more : (q : Phase) (f : ViewPhase M C R) → Agrees q f true
+      → waits (ticket_of f) f ≡ 1 → ⊥
+  waits_no_more q Idle h e = absurd (omega arith)
+  waits_no_more q (Waiting t) h e = let is : true ≡ false = h.1 in cc is
+  waits_no_more q (Marked t) h e = h
+  waits_no_more q (Looked t) h e = h
+  waits_no_more q (InsideIt t y) h e = absurd (omega arith)
+  waits_no_more q (DoneIt t) h e = absurd (omega arith)
+  waits_no_more q (Served t) h e = absurd (omega arith)
+  waits_no_more q (Owes t n) h e = absurd (omega arith)
+  waits_no_more q (Found t n) h e = h
+  waits_no_more q (WakesIt t n) h e = h
 
 -- one that has made one of the loads that it owes
 owed_less : (M C R : Type 0) (r : Phase) (z : Bool) (t u n : ℕ) → HasLeft r u n
@@ -427,33 +441,66 @@ module _ {M C R : Type 0} (b c : Both M C R) (m : Joined b) (i : ℕ) where
   not_in j p f is at e = subst (λ (g : ViewPhase M C R). Agrees (b.hall.crowd.phase i) g (b.looked i)) e
       (agrees_at b m i j p IsUp is at)
 
+  -- turns of seats that wait by marks: no thread makes one
+  abbrev pub is_never : LockTurn → Bool
+  is_never (LooksAgain j) = true
+  is_never (Marks j) = true
+  is_never (MarksAgain j) = true
+  is_never (TakesMark j) = true
+  is_never (SleepsIn j) = true
+  is_never (SleepsInVain j) = true
+  is_never (ReturnsIn j) = true
+  is_never (Rings j k) = true
+  is_never (RingsNobody j) = true
+  is_never (NotesWake j) = true
+  is_never _ = false
+
+  pub never : (u : LockTurn) → is_never u ≡ true → IsLockTurn u b.lock c.lock → MayMake b i u → ⊥
+  never (LooksAgain j) is (inl turn) may =
+      not_down j turn.0 HasSlept turn.4 (λ e. let bad : ⊥ = cc e in bad)
+  never (LooksAgain j) is (inr turn) may =
+      not_down j turn.0 HasSlept turn.4 (λ e. let bad : ⊥ = cc e in bad)
+  never (Marks j) is turn may = let st = turn.2 in let p = st.0 in
+      stores_none (b.hall.crowd.phase i) p.phase
+      (subst (λ z. Agrees (b.hall.crowd.phase i) p.phase z) may.1 (agrees_at b m i j p IsUp may.0 st.4))
+      st.5.3.0
+  never (MarksAgain j) is turn may = let st = turn.2 in
+      not_down j st.0 HasSlept st.4 (λ e. let bad : ⊥ = cc e in bad)
+  never (TakesMark j) is turn may = let st = turn.3 in let by = st.5.4.0 in let p = st.0 in
+      not_in j p (Found (ticket_of p.phase) by.0) may st.4 by.1
+  never (SleepsIn j) is turn may = not_in j turn.0 (Looked turn.1) may turn.2 turn.3
+  never (SleepsInVain j) is turn may = not_in j turn.0 (Looked turn.1) may turn.2 turn.3
+  never (ReturnsIn j) is turn may =
+      not_down j turn.0 Sleeping turn.1 (λ e. let bad : ⊥ = cc e in bad)
+  never (Rings j k) is turn may = not_in j turn.0 (WakesIt turn.1 turn.2) may turn.5 turn.6
+  never (RingsNobody j) is turn may = not_in j turn.0 (WakesIt turn.1 turn.2) may turn.3 turn.4
+  never (NotesWake j) is turn may =
+      not_down j turn.0 HasRung turn.4 (λ e. let bad : ⊥ = cc e in bad)
+  never _ is turn may = absurd (cc is)
+
   pub on_lock : (u : LockTurn) → IsLockTurn u b.lock c.lock → MayMake b i u
       → Turned b (On u) (OnLock i u)
   on_lock (Draws j) turn may = draws j turn may
   on_lock (LooksIn j) turn may = looks j turn may
-  on_lock (LooksAgain j) (inl turn) may =
-      absurd (not_down j turn.0 HasSlept turn.4 (λ e. let bad : ⊥ = cc e in bad))
-  on_lock (LooksAgain j) (inr turn) may =
-      absurd (not_down j turn.0 HasSlept turn.4 (λ e. let bad : ⊥ = cc e in bad))
-  on_lock (Marks j) turn may = let st = turn.2 in let p = st.0 in
-      absurd (stores_none (b.hall.crowd.phase i) p.phase
-      (subst (λ z. Agrees (b.hall.crowd.phase i) p.phase z) may.1 (agrees_at b m i j p IsUp may.0 st.4))
-      st.5.3.0)
-  on_lock (MarksAgain j) turn may = let st = turn.2 in
-      absurd (not_down j st.0 HasSlept st.4 (λ e. let bad : ⊥ = cc e in bad))
   on_lock (Records j) turn may = records j turn may
   on_lock (Serves j) turn may = serves j turn may
   on_lock (PeeksNext j) turn may = peeks_next j turn may
   on_lock (PeeksWord j) turn may = peeks_word j turn may
-  on_lock (TakesMark j) turn may = let st = turn.3 in let by = st.5.4.0 in let p = st.0 in
-      absurd (not_in j p (Found (ticket_of p.phase) by.0) may st.4 by.1)
   on_lock (Fronts j) turn may = fronts j turn may
-  on_lock (SleepsIn j) turn may = absurd (not_in j turn.0 (Looked turn.1) may turn.2 turn.3)
-  on_lock (SleepsInVain j) turn may = absurd (not_in j turn.0 (Looked turn.1) may turn.2 turn.3)
-  on_lock (ReturnsIn j) turn may =
-      absurd (not_down j turn.0 Sleeping turn.1 (λ e. let bad : ⊥ = cc e in bad))
-  on_lock (Rings j k) turn may = absurd (not_in j turn.0 (WakesIt turn.1 turn.2) may turn.5 turn.6)
-  on_lock (RingsNobody j) turn may =
-      absurd (not_in j turn.0 (WakesIt turn.1 turn.2) may turn.3 turn.4)
-  on_lock (NotesWake j) turn may =
-      absurd (not_down j turn.0 HasRung turn.4 (λ e. let bad : ⊥ = cc e in bad))
+  on_lock (LooksAgain j) turn may = absurd (never (LooksAgain j) refl turn may)
+  on_lock (Marks j) turn may = absurd (never (Marks j) refl turn may)
+  on_lock (MarksAgain j) turn may = absurd (never (MarksAgain j) refl turn may)
+  on_lock (TakesMark j) turn may = absurd (never (TakesMark j) refl turn may)
+  on_lock (SleepsIn j) turn may = absurd (never (SleepsIn j) refl turn may)
+  on_lock (SleepsInVain j) turn may = absurd (never (SleepsInVain j) refl turn may)
+  on_lock (ReturnsIn j) turn may = absurd (never (ReturnsIn j) refl turn may)
+  on_lock (Rings j k) turn may = absurd (never (Rings j k) refl turn may)
+  on_lock (RingsNobody j) turn may = absurd (never (RingsNobody j) refl turn may)
+  on_lock (NotesWake j) turn may = absurd (never (NotesWake j) refl turn may)
+
+  -- after a look in its call a thread does not wait, so it does not glance
+  pub no_glance : IsBothTurn (Glances i) b c → ⊥
+  no_glance turn = let p = turn.1 in waits_no_more (b.hall.crowd.phase i) p.phase
+      (subst (λ z. Agrees (b.hall.crowd.phase i) p.phase z) turn.3
+      (agrees_at b m i turn.0 p IsUp turn.2 turn.4))
+      turn.5

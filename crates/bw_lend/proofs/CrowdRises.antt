@@ -448,7 +448,7 @@ from_owner s i t Fetching g at v = by_place s i t 17 Fetching (omega arith) g at
 from_owner s i t Entering g at v = more 2 17 s (omega arith) (from_entering s i t g (at, v))
 from_owner s i t Inside g at v = more 1 17 s (omega arith) (from_inside s i t g (at, v))
 
-seventeen_rounds : (s : Crowd) → Sound s → s.serving < s.next → Rises 17 s
+pub seventeen_rounds : (s : Crowd) → Sound s → s.serving < s.next → Rises 17 s
 seventeen_rounds s g lt = let k = g.held s.serving (omega arith) lt in
     from_owner s (s.owner s.serving) s.serving k.0 g k.1 refl
 

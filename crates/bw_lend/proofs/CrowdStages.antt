@@ -22,7 +22,7 @@ event_le : (s : Crowd) (e : Event) → Sound s → s.serving ≤ (happens s e).s
 event_le s e g = ⊎_elim (λ (same : (happens s e).serving ≡ s.serving). omega arith)
     (λ (lt : s.serving < (happens s e).serving). omega arith) ((beside s e (seat_of e) g).2)
 
-run_le : (s : Crowd) (es : List Event) → Sound s → s.serving ≤ (run s es).serving
+pub run_le : (s : Crowd) (es : List Event) → Sound s → s.serving ≤ (run s es).serving
 run_le s [] g = omega arith
 run_le s (e ∷ es) g = let a = event_le s e g in
     let b = run_le (happens s e) es (happens_sound s e g) in omega arith
@@ -33,7 +33,7 @@ rounds_le s [] g = omega arith
 rounds_le s (r ∷ rs) g = let a = run_le s r g in
     let b = rounds_le (run s r) rs (run_sound s r g) in omega arith
 
-run_drawn : (s : Crowd) (es : List Event) → Sound s → s.next ≤ (run s es).next
+pub run_drawn : (s : Crowd) (es : List Event) → Sound s → s.next ≤ (run s es).next
 run_drawn s [] g = omega arith
 run_drawn s (e ∷ es) g = let a = (beside s e (seat_of e) g).3 in
     let b = run_drawn (happens s e) es (happens_sound s e g) in omega arith

@@ -27,4 +27,6 @@ mod TurnsLed
 mod BothHeld
 mod BothRuns
 mod BothLed
+mod BothNotes
+mod BothAccesses
 mod PlacesOwed

@@ -1,12 +1,13 @@
 -- Runs of a lock whose seats are lent: turns on the lock's own table, which are those of bw_ticket,
 -- beside turns on the table of places. What is claimed of them: each is one event of the crowd, or
--- none.
+-- none, and rounds of events or of accesses serve each drawn ticket.
 use Rattle.std.specs.Prelude.{◌≡◌, ◌≢◌, ℕ, ◌+◌, ◌-◌, ◌*◌, ◌<◌, ◌≤◌, ◌⊎◌}
 use Rattle.std.specs.Prelude.{Bool, true, false, List, [], ◌∷◌, Option, None, Some, length}
 use Rattle.std.specs.Prelude.{slice_get, slice_index}
 use Rattle.bw_ticket.specs.declared.board.SeatView.{SeatView}
 use Rattle.bw_ticket.specs.declared.board.Phase.{Phase as ViewPhase}
 use Rattle.bw_ticket.specs.declared.board.Phase.TheVariants.{Idle, Waiting}
+use Rattle.bw_ticket.specs.Rule.{ticket_of, waits}
 use Rattle.bw_ticket.specs.Turns.{Hall as LockHall, Turn as LockTurn, IsTurn as IsLockTurn}
 use Rattle.bw_ticket.specs.Turns.{maker as lock_seat, opened as lock_opened, seated}
 use Rattle.bw_ticket.specs.Turns.Turn.{Draws, Looks as LooksIn, Marks, Serves, PeeksNext}
@@ -19,13 +20,14 @@ use Rattle.bw_lend.specs.CrowdLaws.{is_still}
 use Rattle.bw_lend.specs.Turns.{Hall, Turn, Makes, Visits, IsTurn, maker, opened}
 
 -- One turn. A thread makes a turn on the table of places, or one on the lock's table, by a seat of
--- the lock. It calls the lock to make the call of a seat, and ends that call. It wakes for no
--- reason.
+-- the lock. It calls the lock to make the call of a seat, and ends that call. In a call it may
+-- glance, by a load that is no step of the table. It wakes for no reason.
 pub data BothTurn : Type 0 where
   OnPlaces : Turn → BothTurn
   OnLock : ℕ → LockTurn → BothTurn
   Calls : (thread : ℕ) → (seat : ℕ) → BothTurn
   Ends : ℕ → BothTurn
+  Glances : ℕ → BothTurn
   WakesUp : ℕ → BothTurn
 
 -- Between two turns: the lock, and the places with the crowd. Of each thread the seat with which it
@@ -97,7 +99,8 @@ module _ {M C R : Type 0} where
   -- The turn leads from one state to the other. A turn on the lock's table is one of bw_ticket's,
   -- and one on the table of places is made by a thread that is in no call of the lock. A thread
   -- calls the lock where its visit says that it enters. It does so with a seat that waits with the
-  -- same ticket. The call ends when the seat is idle.
+  -- same ticket. The call ends when the seat is idle. In a call it glances only with a seat that
+  -- waits, and only after a look.
   abbrev pub IsBothTurn : BothTurn → Both M C R → Both M C R → Type 0
   IsBothTurn (OnPlaces t) b c = (is_on_places t ≡ true) × IsTurn t b.hall c.hall
       × (b.call (maker t) ≡ None) × (c ≡ record b { hall = c.hall })
@@ -111,6 +114,9 @@ module _ {M C R : Type 0} where
       × (c ≡ record b { call = put b.call i (Some j); looked = put b.looked i false })
   IsBothTurn (Ends i) b c = (j : ℕ) × (b.call i ≡ Some j) × IsIn b j Idle
       × (c ≡ record b { call = put b.call i None })
+  IsBothTurn (Glances i) b c = (j : ℕ) × (p : SeatView M C R) × (b.call i ≡ Some j)
+      × (b.looked i ≡ true) × (slice_get b.lock.seats j ≡ Some (seated IsUp p))
+      × (waits (ticket_of p.phase) p.phase ≡ 1) × (c ≡ b)
   IsBothTurn (WakesUp i) b c = (t : ℕ) × (b.hall.crowd.phase i ≡ Has t Asleep)
       × (c ≡ record b { hall = made b.hall (Some (SpuriousWake i)) })
 
@@ -125,25 +131,42 @@ thread_of (OnPlaces t) = maker t
 thread_of (OnLock i u) = i
 thread_of (Calls i j) = i
 thread_of (Ends i) = i
+thread_of (Glances i) = i
 thread_of (WakesUp i) = i
 
 abbrev pub is_made : Option Event → Bool
 is_made None = false
 is_made (Some e) = true
 
--- whether a turn is an event of the crowd: a call, its end, and a load that changes nothing are
--- none
+-- whether a turn is an event of the crowd: a call, its end, and a load that changes nothing are none
 abbrev pub is_event : BothTurn → Bool
 is_event (OnPlaces t) = true
 is_event (OnLock i u) = is_made (event_of i u)
 is_event (Calls i j) = false
 is_event (Ends i) = false
+is_event (Glances i) = false
 is_event (WakesUp i) = true
 
 -- some turn of the list is an event that the thread i makes
 abbrev pub MakesEvent : ℕ → List BothTurn → Type 0
 MakesEvent i [] = ⊥
 MakesEvent i (t ∷ ts) = ((thread_of t ≡ i) × (is_event t ≡ true)) ⊎ MakesEvent i ts
+
+-- whether a turn is an access that a thread makes on its way: a call and its end are none, and a
+-- front is no part of it
+abbrev pub is_access : BothTurn → Bool
+is_access (OnPlaces t) = true
+is_access (OnLock i (Fronts j)) = false
+is_access (OnLock i u) = true
+is_access (Calls i j) = false
+is_access (Ends i) = false
+is_access (Glances i) = true
+is_access (WakesUp i) = false
+
+-- some turn of the list is an access that the thread i makes
+abbrev pub MakesAccess : ℕ → List BothTurn → Type 0
+MakesAccess i [] = ⊥
+MakesAccess i (t ∷ ts) = ((thread_of t ≡ i) × (is_access t ≡ true)) ⊎ MakesAccess i ts
 
 module _ {M C R : Type 0} where
   -- a round: each thread that is neither idle nor asleep makes an event
@@ -156,6 +179,16 @@ module _ {M C R : Type 0} where
   BothLeadInRounds b [] c = c ≡ b
   BothLeadInRounds b (r ∷ rs) c =
       (m : Both M C R) × BothLead b r m × IsRoundOfBoth b r × BothLeadInRounds m rs c
+
+  -- the same of accesses
+  abbrev pub IsRoundOfAccesses : Both M C R → List BothTurn → Type 0
+  IsRoundOfAccesses b turns =
+      (i : ℕ) → is_still (b.hall.crowd.phase i) ≡ false → MakesAccess i turns
+
+  abbrev pub BothLeadByAccesses : Both M C R → List (List BothTurn) → Both M C R → Type 0
+  BothLeadByAccesses b [] c = c ≡ b
+  BothLeadByAccesses b (r ∷ rs) c =
+      (m : Both M C R) × BothLead b r m × IsRoundOfAccesses b r × BothLeadByAccesses m rs c
 
   -- the crowd has the lock's two numbers: the next ticket to be drawn, and the one that is served
   abbrev pub HasNumbers : Both M C R → Type 0
@@ -178,3 +211,13 @@ BothServeDrawnTickets M C R = (seats words calls : ℕ) (turns : List BothTurn)
     → ticket < slice_index b.lock.words 0
     → 17 * (ticket + 1 - slice_index b.lock.words 1) ≤ length rounds
     → BothLeadInRounds b rounds c → ticket < slice_index c.lock.words 1
+
+-- In each ticket one access is no event: the load by which the seat inside notes its call. So
+-- eighteen rounds of accesses do what seventeen rounds of events do.
+abbrev pub AccessesServeDrawnTickets : (M C R : Type 0) → Type 0
+AccessesServeDrawnTickets M C R = (seats words calls : ℕ) (turns : List BothTurn)
+    (rounds : List (List BothTurn)) (b c : Both M C R) (ticket : ℕ)
+    → seats ≤ words → BothLead (opened_both seats words calls) turns b
+    → ticket < slice_index b.lock.words 0
+    → 18 * (ticket + 1 - slice_index b.lock.words 1) ≤ length rounds
+    → BothLeadByAccesses b rounds c → ticket < slice_index c.lock.words 1

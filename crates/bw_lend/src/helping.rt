@@ -155,8 +155,6 @@ fn return_one<M: Machine, V: Visit>(
 
 // Makes the calls of the next tickets, as long as their seats are lent. After 64 calls the next
 // seat goes back as it is. Its owner makes its call, and helps on.
-// in a function of its own, so that a call with no later ticket has the registers
-#[inline(never)]
 fn help<M: Machine, R: Wait + Clock, V: Visit>(
     rt: &R,
     lock: &TicketLock<M>,
@@ -183,26 +181,29 @@ fn help<M: Machine, R: Wait + Clock, V: Visit>(
     return_one(lock, table, token, visit);
 }
 
-// Makes the pending call of the seat. Returns whether the next ticket was drawn then.
-fn leave_with<M: Machine, R: Wait + Clock, V: Visit>(
+// Makes the calls of the next tickets that are lent, and ends the visit: all their owners are woken.
+// in a function of its own and with the visit by value, so that a call with no later ticket has both
+// in registers
+#[inline(never)]
+fn help_and_wake<M: Machine, R: Wait + Clock, V: Visit>(
     rt: &R,
     lock: &TicketLock<M>,
-    seat: &mut Visitor<M>,
-    visit: &mut V,
-) -> (Answer<M::Reply>, bool)
-    requires lock { seat.old.lock_id ≡ lock.now.lock_id }
-    requires pending { IsSome seat.old.pending }
-    requires ticket { HasTicket seat.old (V.state visit.old).ticket }
-    requires task { (V.state visit.old).task ≡ ToEnter }
-    ensures finished { IsFinished seat.old result.0 seat.new }
-    ensures left { MatchBool result.1
-        (V.state visit.new ≡ gone (V.state visit.old) ToPeek)
-        (V.state visit.new ≡ gone (V.state visit.old) (ToWakeFrom 0)) }
-    ensures small { (V.state visit.old).ticket + 1 < TICKETS }
+    table: &Shared<M>,
+    token: &mut Token<M>,
+    visit: V,
+)
+    requires table { (token.old.table_id ≡ table.now.table_id) × IsTable table.now.table_id }
+    requires visit { (V.state visit).table ≡ table.now.table_id }
+    requires owner { (mine : _) × IsOwner lock.now.lock_id mine token.old.me }
+    requires task { (V.state visit).task ≡ ToPeek }
+    requires small { (V.state visit).ticket < TICKETS }
+    requires later { 0 < (V.state visit).ticket }
+    ensures table { token.new.table_id ≡ token.old.table_id }
+    ensures same { token.new.me ≡ token.old.me }
 {
-    let (answer, behind) = seat.finish_and_look(rt, lock, visit);
-    let later = visit.leave(behind);
-    (answer, later)
+    let mut visit = visit;
+    help(rt, lock, table, token, &mut visit);
+    wake_all(token, visit);
 }
 
 /// Makes the pending call of the seat, then those of the next tickets that are lent, and then wakes
@@ -230,10 +231,10 @@ pub(crate) fn finish_visit<M: Machine, R: Wait + Clock, V: Visit>(
     ensures finished { IsFinished seat.old result seat.new }
 {
     let mut visit = visit;
-    let (answer, later) = leave_with(rt, lock, seat, &mut visit);
+    let (answer, behind) = seat.finish_and_look(rt, lock, &visit);
+    let later = visit.leave(behind);
     if later {
-        help(rt, lock, table, token, &mut visit);
-        wake_all(token, visit);
+        help_and_wake(rt, lock, table, token, visit);
         return answer;
     }
     wake_all(token, visit);

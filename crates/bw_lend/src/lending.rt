@@ -29,6 +29,8 @@ const NEAR: u64 = 1;
 
 /// Looks whether the seat's ticket is served, some times while it is the next one. If it is, the
 /// seat enters. Otherwise it may lend itself.
+// in its caller, so that the visit stays in registers
+#[inline(always)]
 pub(crate) fn is_soon<M: Machine, V: Visit>(lock: &TicketLock<M>, visit: &mut V) -> bool
     requires task { (V.state visit.old).task ≡ ToLook }
     ensures soon { MatchBool result (V.state visit.new ≡ to (V.state visit.old) ToEnter)
@@ -135,8 +137,6 @@ fn go_on<M: Machine, R: Wait + Clock, V: Visit>(
 }
 
 /// Lends the seat until a helper has made its pending call, or it has to make that itself.
-// in a function of its own, so that a call that need not wait has the registers
-#[inline(never)]
 pub(crate) fn finish_lent<M: Machine, R: Wait + Clock, V: Visit>(
     rt: &R,
     lock: &TicketLock<M>,

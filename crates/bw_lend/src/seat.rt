@@ -4,7 +4,9 @@ ghost use Rattle.std.specs.Prelude.{All, None, Some, length};
 ghost use Rattle.std.specs.Prelude.{IfOk, IfErr, IsSome, MatchOption};
 ghost use Rattle.bw_machine.specs.History.{made};
 ghost use Rattle.bw_ticket.specs.Holder.{ticket_pending};
-ghost use Rattle.bw_lend.specs.Parts.{IsTable};
+ghost use Rattle.bw_lend.specs.declared.task.Task.TheVariants.{ToLook};
+ghost use Rattle.bw_lend.specs.Lent.{HasTicket, IsFinished};
+ghost use Rattle.bw_lend.specs.Parts.{IsTable, IsOwner};
 ghost use Rattle.bw_lend.specs.Rule.{Each, stakes_from};
 ghost use Rattle.std.specs.Arc.{arc_value};
 ghost use Rattle.bw_ticket.specs.declared.limits.TheConstants.{MAX_SEATS};
@@ -13,9 +15,9 @@ use crate::helping::finish_visit;
 use crate::lending::{finish_lent, is_soon};
 use crate::plays::HandOut;
 use crate::steps::open_place;
-use crate::table::{Content, PLACES, Place, Places, Token, WORDS};
+use crate::table::{Content, PLACES, Place, Places, Shared, Token, WORDS};
 use crate::visitor::{Visitor, move_home};
-use crate::visits::TableVisit;
+use crate::visits::{TableVisit, Visit};
 use atomic_table::Table;
 use bw_machine::Machine;
 use bw_ticket::{Answer, CallsSpent, Seat, TicketLock};
@@ -72,6 +74,43 @@ impl<M: Machine> Model for Berth<M> {
     ghost invariant = { λ b. IsTable b.token.table_id ×
         (b.token.table_id ≡ (arc_value b.places).shared.table_id) × (b.place < 64) ×
         IsOwner (arc_value b.places).shared.key.value.lock_id b.place b.token.me };
+}
+
+// Lends the seat until its pending call is made. Afterwards it is at hand again.
+// in a function of its own, so that a call that need not wait has the registers
+#[inline(never)]
+fn finish_away<M: Machine, R: Wait + Clock, V: Visit>(
+    rt: &R,
+    lock: &TicketLock<M>,
+    table: &Shared<M>,
+    token: &mut Token<M>,
+    place: usize,
+    home: &mut Option<Visitor<M>>,
+    lent: &Snapshot<Visitor<M>>,
+    visit: V,
+) -> Answer<M::Reply>
+    requires table { (token.old.table_id ≡ table.now.table_id) × IsTable table.now.table_id }
+    requires visit { (V.state visit).table ≡ table.now.table_id }
+    requires owner { IsOwner lock.now.lock_id place token.old.me }
+    requires place { place < 64 }
+    requires home { home.old ≡ Some lent.now.value }
+    requires lock { lent.now.value.lock_id ≡ lock.now.lock_id }
+    requires pending { IsSome lent.now.value.pending }
+    requires ticket { HasTicket lent.now.value (V.state visit).ticket }
+    requires task { (V.state visit).task ≡ ToLook }
+    requires nobody { (V.state visit).owed ≡ 0 }
+    ensures table { token.new.table_id ≡ token.old.table_id }
+    ensures owner { IsOwner lock.now.lock_id place token.new.me }
+    ensures finished { (seat : _) × (home.new ≡ Some seat) ×
+        IsFinished lent.now.value result seat }
+{
+    let _ = lent;
+    let Some(seat) = home.take() else {
+        unreachable!()
+    };
+    let (seat, answer) = finish_lent(rt, lock, table, token, place, seat, visit);
+    *home = Some(seat);
+    answer
 }
 
 impl<M: Machine> LendingSeat<M> {
@@ -192,20 +231,17 @@ impl<M: Machine> LendingSeat<M> {
         if is_soon(lock, &mut visit) {
             return finish_visit(rt, lock, &self.places.shared, &mut self.token, seat, visit);
         }
-        let Some(seat) = self.seat.take() else {
-            unreachable!()
-        };
-        let (seat, answer) = finish_lent(
+        let lent = Snapshot::of(&*seat);
+        finish_away(
             rt,
             lock,
             &self.places.shared,
             &mut self.token,
             self.place,
-            seat,
+            &mut self.seat,
+            &lent,
             visit,
-        );
-        self.seat = Some(seat);
-        answer
+        )
     }
 
     /// One call: `take`, then `finish`.

@@ -220,8 +220,8 @@ pub(crate) struct TableVisit<'a, M: Machine> {
     ticket: u64,
     // a bit for each place whose owner is owed a wake
     owed: u64,
-    // the last hint: nothing reads it at run time
-    hint: u64,
+    // the last hint
+    hint: Snapshot<u64>,
     task: Snapshot<Task>,
     looks: Count,
 }
@@ -242,7 +242,7 @@ impl<'a, M: Machine> TableVisit<'a, M> {
             table,
             ticket: drawn,
             owed: 0,
-            hint: 0,
+            hint: Snapshot::of(&0),
             task: Snapshot::of(&Task::ToLook),
             looks: Count::none(),
         }
@@ -257,7 +257,7 @@ impl<'a, M: Machine> Visit for TableVisit<'a, M> {
       task = v.task.value;
     } };
 
-    ghost hint = { λ v. v.hint };
+    ghost hint = { λ v. v.hint.value };
 
     ghost looks = { λ v. v.looks.steps };
 
@@ -317,7 +317,7 @@ impl<'a, M: Machine> Visit for TableVisit<'a, M> {
 
     fn peek(&mut self) -> Option<usize> {
         let hint = self.table.peek(hint_word_of(self.ticket));
-        self.hint = hint;
+        self.hint = Snapshot::of(&hint);
         match hinted_place(hint, self.ticket) {
             Some(place) => {
                 self.task = Snapshot::of(&Task::ToClaim(place as u64));

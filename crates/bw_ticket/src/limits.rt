@@ -21,8 +21,9 @@ pub const MOST_SPUN: u64 = 2 * LOOKS;
 
 /// Greatest number of looks, spins and yields of a seat that yields. Each yield has a look before
 /// it, and looks and spins after it.
-pub const MOST_YIELDED: u64 = 1 + YIELDS * (2 + MOST_SPUN);
+pub const MOST_YIELDED: u64 = YIELDS * (2 + MOST_SPUN);
 
 /// Greatest number of looks, spins and yields of a waiting seat between two sleeps, before the
-/// first and after the last. It looks once before it stores its mark, and once after.
-pub const MOST_AWAKE: u64 = MOST_YIELDED + MOST_SPUN + 2;
+/// first and after the last. It looks once before it yields, once before it stores its mark, and once
+/// after.
+pub const MOST_AWAKE: u64 = 1 + MOST_YIELDED + MOST_SPUN + 2;

@@ -36,8 +36,10 @@ impl Patience {
     // Yields once, and returns whether the yield was short. After a long yield the seat's next
     // waits have no yield: 64 of them, and twice as many after each further long yield.
     pub(crate) fn yields<R: Clock>(&mut self, rt: &R, awake: &mut Awake) -> bool
-        requires { awake.old.steps < MOST_AWAKE }
-        ensures { awake.new.steps ≤ awake.old.steps + 1 }
+        requires few { awake.old.steps < MOST_AWAKE }
+        requires looked { 0 < awake.old.looks }
+        ensures few { awake.new.steps ≤ awake.old.steps + 1 }
+        ensures looked { 0 < awake.new.looks }
     {
         if self.without_yield > 0 {
             self.without_yield -= 1;
@@ -54,8 +56,10 @@ impl Patience {
 
 // Yields once, and returns whether the yield was short. If the clock cannot be read, it was long.
 fn is_short_yield<R: Clock>(rt: &R, awake: &mut Awake) -> bool
-    requires { awake.old.steps < MOST_AWAKE }
-    ensures { awake.new.steps ≤ awake.old.steps + 1 }
+    requires few { awake.old.steps < MOST_AWAKE }
+    requires looked { 0 < awake.old.looks }
+    ensures few { awake.new.steps ≤ awake.old.steps + 1 }
+    ensures looked { 0 < awake.new.looks }
 {
     let Ok(before) = Instant::now(rt) else {
         return false;

@@ -58,10 +58,11 @@ impl Awake {
         }
     }
 
-    /// Counts one more, of which there may be [`MOST_AWAKE`].
-    pub(crate) fn add(&mut self)
+    // Counts one more, of which there may be [`MOST_AWAKE`].
+    fn add(&mut self)
         requires { self.old.steps < MOST_AWAKE }
-        ensures { self.new.steps ≡ self.old.steps + 1 }
+        ensures steps { self.new.steps ≡ self.old.steps + 1 }
+        ensures looks { self.new.looks ≡ self.old.looks }
     {
         self.count = self.count.one_more();
     }
@@ -112,11 +113,14 @@ pub(crate) fn look<M: Machine>(
     false
 }
 
-/// The ticket that is served, by one load that is no step of the table. It is counted.
+/// The ticket that is served, by one load that is no step of the table. It is counted. The seat has
+/// looked since it last slept.
 pub(crate) fn glance<M: Machine>(board: &Board<M>, awake: &mut Awake) -> u64
     requires table { IsBoard board.now.shared.table_id }
     requires few { awake.old.steps < MOST_AWAKE }
-    ensures { awake.new.steps ≡ awake.old.steps + 1 }
+    requires looked { 0 < awake.old.looks }
+    ensures counted { awake.new.steps ≡ awake.old.steps + 1 }
+    ensures looks { awake.new.looks ≡ awake.old.looks }
 {
     awake.add();
     board.shared.peek(SERVING)
@@ -155,26 +159,32 @@ pub(crate) fn tickets_served<M: Machine>(board: &Board<M>) -> Sighting
     }
 }
 
-/// Spins once, and counts it.
+/// Spins once, and counts it. The seat has looked since it last slept.
 pub(crate) fn spin(awake: &mut Awake)
-    requires { awake.old.steps < MOST_AWAKE }
-    ensures { awake.new.steps ≡ awake.old.steps + 1 }
+    requires few { awake.old.steps < MOST_AWAKE }
+    requires looked { 0 < awake.old.looks }
+    ensures counted { awake.new.steps ≡ awake.old.steps + 1 }
+    ensures looks { awake.new.looks ≡ awake.old.looks }
 {
     awake.add();
     spin_loop();
 }
 
-/// Yields the processor once, and counts it.
+/// Yields the processor once, and counts it. The seat has looked since it last slept.
 pub(crate) fn give_way(awake: &mut Awake)
-    requires { awake.old.steps < MOST_AWAKE }
-    ensures { awake.new.steps ≡ awake.old.steps + 1 }
+    requires few { awake.old.steps < MOST_AWAKE }
+    requires looked { 0 < awake.old.looks }
+    ensures counted { awake.new.steps ≡ awake.old.steps + 1 }
+    ensures looks { awake.new.looks ≡ awake.old.looks }
 {
     awake.add();
     yield_now();
 }
 
-/// Waits until the seat's own ticket is served, and then has the slot. Between two sleeps it does
-/// not look, spin and yield more than [`MOST_AWAKE`] times: the count begins here.
+/// Waits until the seat's own ticket is served, and then has the slot. It looks before all else.
+/// Between two sleeps it does not look, spin and yield more than [`MOST_AWAKE`] times: the count
+/// begins here.
+#[inline(always)]
 pub(crate) fn enter<M: Machine, R: Wait + Clock>(
     rt: &R,
     board: &Board<M>,
@@ -190,7 +200,12 @@ pub(crate) fn enter<M: Machine, R: Wait + Clock>(
     ensures inside { (y : _) × (seat.new.me ≡ (map (entered ticket y) seat.old.me.0, (0, y) ∷ [])) ×
         (length y.history.items ≡ ticket) × (ticket < vec_capacity y.history) }
 {
-    wait_turn(rt, board, seat, patience, ticket, &mut Awake::none());
+    let mut awake = Awake::none();
+    let is_served = look(board, seat, ticket, &mut awake);
+    if is_served {
+        return;
+    }
+    wait_turn(rt, board, seat, patience, ticket, &mut awake);
 }
 
 // The step woken: a load of `serving` after a wake. A view changes only at a step on a word.
