@@ -1,4 +1,4 @@
--- What calls of a loop that holds a plan answer, and the numbers that refuse them.
+-- Answers of the calls of a loop that holds a plan, and the numbers that refuse them.
 use Rattle.std.specs.Prelude.{◌≡◌, ◌≢◌, ◌⊎◌, ◌<◌, ℕ, List, Bool, false, ◌∷◌, [], ◌&&◌, length}
 use Rattle.std.specs.Prelude.{if◌then◌else◌}
 use Rattle.bw_columns.specs.Asked.{are_of_length}
@@ -26,7 +26,7 @@ IsJudgedRefused free_used free_planned held_used held_planned sure guesses answe
     ⊎ ((answer ≡ 9)
     × IsSumTooGreat free_used free_planned held_used held_planned sure guesses)
 
--- what the rest of a host is given beside a plan
+-- the slices of the rest of a host beside a plan
 abbrev pub rest_told : ℕ → ℕ → RestShare
 rest_told amount guarantee = record { amount = amount; guarantee = guarantee }
 
