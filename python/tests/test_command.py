@@ -11,6 +11,7 @@ from pathlib import Path
 
 import pytest
 import trees
+import warm
 from arbiter_host.base import plain_files
 from places import PACKAGE
 
@@ -452,3 +453,13 @@ def test_csv_has_its_unit_by_the_option(ctl):
         page = (ROOT / f"share/man/arbiterctl-{each}.1").read_text(encoding="utf-8")
         page = " ".join(page.split())
         assert "are in the unit of" in page and "heads are the same in each unit" in page
+
+
+def test_a_run_that_is_late_ends_no_other(monkeypatch):
+    """With --checked, where one process begins all."""
+    runs = warm.Warm({**os.environ})
+    with monkeypatch.context() as patch, pytest.raises(subprocess.TimeoutExpired):
+        patch.setattr(warm, "SECONDS", 1e-6)
+        runs.ended(["--help"], b"", runs.environment)
+    assert runs.ended(["--help"], b"", runs.environment).returncode == 0
+    runs.end()

@@ -67,11 +67,13 @@ class Warm:
 def answer(ours, words):
     """The status of a run. One that does not end in time is killed."""
     ours.settimeout(SECONDS)
-    number = int.from_bytes(ours.recv(4), "big")
+    number = 0
     try:
+        number = int.from_bytes(ours.recv(4), "big")
         return int.from_bytes(ours.recv(4), "big", signed=True)
     except TimeoutError:
-        os.kill(number, signal.SIGKILL)
+        if number:
+            os.kill(number, signal.SIGKILL)
         raise subprocess.TimeoutExpired(words, SECONDS) from None
 
 
@@ -116,6 +118,12 @@ def begin(asked, files, run):
     os._exit(ended_with(run) & 255)
 
 
+def say(asked, number):
+    """Tells a number of a run, unless nobody waits for that any more."""
+    with contextlib.suppress(BrokenPipeError):
+        asked.sendall(number.to_bytes(4, "big", signed=True))
+
+
 class Runs:
     """The runs that are under way, each by a handle that is ready when it has ended."""
 
@@ -134,7 +142,7 @@ class Runs:
             begin(asked, files[1:], self.run)
         for file in files[1:]:
             os.close(file)
-        asked.sendall(number.to_bytes(4, "big"))
+        say(asked, number)
         handle = os.pidfd_open(number)
         self.under[handle] = number, asked
         self.looks.register(handle, select.POLLIN)
@@ -147,7 +155,7 @@ class Runs:
         os.close(handle)
         status = os.waitstatus_to_exitcode(os.waitpid(number, 0)[1])
         with asked:
-            asked.sendall(status.to_bytes(4, "big", signed=True))
+            say(asked, status)
 
 
 def serve(listener):
