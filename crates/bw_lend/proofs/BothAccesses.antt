@@ -1,11 +1,11 @@
 -- Rounds of accesses: each is a round of events, or a seat has noted its call in it. Then the next
 -- round raises the ticket that is served.
-use Rattle.std.proofs.Common.{◌≡◌, ◌≢◌, ℕ, zero, suc, ◌+◌, ◌-◌, ◌*◌, ◌<◌, ◌≤◌, ◌⊎◌, true, false}
-use Rattle.std.proofs.Common.{List, [], ◌∷◌, length, refl, sym, ap, ◌∙◌, subst, arith, inl, inr}
+use Rattle.std.proofs.Common.{◌≡◌, ℕ, zero, suc, ◌+◌, ◌-◌, ◌*◌, ◌<◌, ◌≤◌, ◌⊎◌, true, false}
+use Rattle.std.proofs.Common.{List, [], ◌∷◌, length, refl, sym, ap, subst, arith, inl, inr}
 use Rattle.std.proofs.Common.{⊎_elim, slice_index}
 use mathlib.Core.Logic.{dite}
 use native.Mathlib.Decide.{dec_le}
-use Rattle.bw_lend.specs.Crowd.{Crowd, Event, Inside, Helping, Phase, Has, Leaves, run}
+use Rattle.bw_lend.specs.Crowd.{Crowd, Event, Inside, Helping, Phase, Has, Leaves}
 use Rattle.bw_lend.specs.CrowdLaws.{is_still}
 use Rattle.bw_lend.specs.CrowdRounds.{AreRounds, run_rounds}
 use Rattle.bw_lend.specs.BothTables.{Both, BothTurn, BothLead, thread_of, is_access, is_event}

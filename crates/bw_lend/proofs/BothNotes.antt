@@ -1,5 +1,5 @@
 -- A seat that has noted its call serves next, and no other thread changes that.
-use Rattle.std.proofs.Common.{◌≡◌, ◌≢◌, ℕ, ◌+◌, ◌<◌, ◌⊎◌, Bool, true, false, List, [], ◌∷◌}
+use Rattle.std.proofs.Common.{◌≡◌, ◌≢◌, ℕ, ◌+◌, ◌<◌, ◌⊎◌, Bool, true, false, List, []}
 use Rattle.std.proofs.Common.{Option, Some, None, refl, sym, ap, ◌∙◌, subst, arith, inl, inr}
 use Rattle.std.proofs.Common.{slice_get, slice_set}
 use mathlib.Core.Logic.{dite}
@@ -18,8 +18,7 @@ use Rattle.bw_ticket.specs.Turns.Turn.{Records, Serves, PeeksNext, PeeksWord, Ta
 use Rattle.bw_ticket.specs.Turns.Turn.{Sleeps as SleepsIn, SleepsInVain, Returns as ReturnsIn}
 use Rattle.bw_ticket.specs.Turns.Turn.{Rings, RingsNobody, NotesWake}
 use Rattle.bw_ticket.specs.Turns.Doing.{IsUp}
-use Rattle.bw_lend.specs.Crowd.{Leave, or_same}
-use Rattle.bw_lend.specs.Turns.{maker}
+use Rattle.bw_lend.specs.Crowd.{or_same}
 use Rattle.bw_lend.specs.BothTables.{Both, BothTurn, OnPlaces, OnLock, Calls, Ends, Glances}
 use Rattle.bw_lend.specs.BothTables.{WakesUp, IsBothTurn, MayMake, made, event_of, thread_of}
 use Rattle.bw_lend.specs.BothTables.{is_access, is_event}
@@ -37,10 +36,6 @@ module _ {M C R : Type 0} where
       → k.seats ≡ slice_set l.seats i x → slice_get k.seats j ≡ slice_get l.seats j
   kept l k j i x ne is = ap (λ (xs : List (Sitter M C R)). slice_get xs j) is
       ∙ get_other l.seats i j x ne
-
-  seats_of : (k : LockHall M C R) (ws : List ℕ) (xs : List (Sitter M C R))
-      → k ≡ record { words = ws; seats = xs } → k.seats ≡ xs
-  seats_of k ws xs is = ap (λ (y : LockHall M C R). y.seats) is
 
   abbrev phase_or : ViewPhase M C R → Option (Sitter M C R) → ViewPhase M C R
   phase_or f (Some x) = x.view.phase

@@ -23,9 +23,10 @@ mod visitor;
 mod visits;
 
 pub use crowd_laws::{
-    accesses_serve_drawn_tickets, at_most_one_is_inside, awake_lent_seats_can_step, both_tables_are_events,
-    both_tables_serve_drawn_tickets, codes_of_places, drawn_tickets_are_left,
-    no_lent_seat_is_stuck, no_lent_wake_is_lost, only_the_served_ticket_is_inside,
-    seventeen_rounds_raise_serving, tickets_fit, turns_are_events, turns_leave_drawn_tickets,
+    accesses_serve_drawn_tickets, at_most_one_is_inside, awake_lent_seats_can_step,
+    both_tables_are_events, both_tables_serve_drawn_tickets, codes_of_places,
+    drawn_tickets_are_left, no_lent_seat_is_stuck, no_lent_wake_is_lost,
+    only_the_served_ticket_is_inside, seventeen_rounds_raise_serving, tickets_fit,
+    turns_are_events, turns_leave_drawn_tickets,
 };
 pub use seat::{LendingSeat, lend, take_home};
