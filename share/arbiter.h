@@ -241,6 +241,32 @@ uint32_t arbiter_least_processors(uint64_t processors, uint64_t period_us, uint6
                                   const uint64_t *demands, size_t demands_length, uint32_t group, uint64_t amount,
                                   uint64_t *least);
 
+/* The least number that an owner can set with which the plan gives a group at least `amount` slices: a request, shares or a
+ * weight. The weights of some rows follow it, each by its formula. A row's own number is the owner's and that of `bases`, and
+ * no less than that of `floors`. So a request of a container makes the weights of the container, of its pod and of the pod's
+ * class. All else is as the rows say. A greater number gives the group no less. One plan, and one for each halving of the
+ * range.
+ * Reads:
+ *   group     the row of the group
+ *   amount    the slices that it is to get at least
+ *   formulas  the formula of arbiter_owned_weight by which the row's weight follows; 0 or any other number where it stays, as
+ *             that of row 0 does
+ *   floors    the least number of the row
+ *   bases     what the row's number has beside the owner's
+ *   first     the least number that may be set
+ *   last      the greatest number that may be set
+ * Writes:
+ *   least  the number; ARBITER_NO_LIMIT where no number does, or logarithms do not tell a weight, which is of no number of
+ *          shares
+ * Answers 0, or 50 where columns differ in length; 1 to 3 where the host is refused; 4 to 10 where the rows are refused; 20
+ *   where the group is no row, or a row that follows is neither it nor above it nor below it. */
+uint32_t arbiter_least_setting(uint64_t processors, uint64_t period_us, uint64_t slice_us,
+                               const uint32_t *parents, size_t parents_length, const uint64_t *weights, size_t weights_length,
+                               const uint64_t *limits, size_t limits_length, const uint64_t *demands, size_t demands_length,
+                               uint32_t group, uint64_t amount, const uint32_t *formulas, size_t formulas_length,
+                               const uint64_t *floors, size_t floors_length, const uint64_t *bases, size_t bases_length,
+                               uint64_t first, uint64_t last, uint64_t *least);
+
 /* Weights under which each row has its goal. Goals may be of groups with children, of rows inside one another, and of rows
  * whose weight stays. A weight is the goals' own if a goal is at its row or below it. Own weights are the least from the root
  * down: of all that agree with them at each row above a row, and at the siblings of these, theirs of that row is the least.

@@ -167,6 +167,10 @@ int main(void)
         return 27;
     if (arbiter_least_weight(1, 100000, 5000, parents, 3, alike, 3, limits, 3, demands, 3, 1, 21, &least) != 0 || least != 0)
         return 28;
+    uint32_t by_weight[3] = {0, ARBITER_UNIT_WEIGHT, 0};
+    uint64_t nothing[3] = {0};
+    if (arbiter_least_setting(1, 100000, 5000, parents, 3, alike, 3, limits, 3, demands, 3, 1, 14, by_weight, 3, nothing, 3, nothing, 3, 1, 10000, &least) != 0 || least != 208)
+        return 74;
     if (arbiter_least_limit(1, 100000, 5000, parents, 3, alike, 3, limits, 3, demands, 3, 1, 10, &least) != 0 || least != 10)
         return 29;
     if (arbiter_least_limit(1, 100000, 5000, parents, 3, alike, 3, limits, 3, demands, 3, 1, 11, &least) != 0 || least != ARBITER_NO_LIMIT)

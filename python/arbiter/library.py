@@ -5,8 +5,8 @@ import ctypes
 import enum
 import os
 from array import array
-from collections.abc import Sequence
-from typing import TYPE_CHECKING, Any, TypeAlias
+from collections.abc import Mapping, Sequence
+from typing import TYPE_CHECKING, Any, NamedTuple, TypeAlias
 
 from arbiter import c, found
 from arbiter.columns import (U8, U32, U64, Certificate, Columns, Counters, Figures, Host, Kind,
@@ -40,6 +40,15 @@ JUDGED_ROUNDS = 60
 REASONS = tuple(map(Reason, Kind))
 # The numbers of faults that speak of a row of the tree.
 OF_ROWS = range(4, 11)
+
+
+class Follower(NamedTuple):
+    """A row whose weight follows a number that an owner sets: by which formula, the least number of
+    the row, and what its number has beside the owner's."""
+
+    formula: WeightFormula
+    floor: int = 0
+    base: int = 0
 
 
 class Refused(Exception):
@@ -317,6 +326,23 @@ class Library:
         20 NotFound if the group is no row.
         """
         return self.ask("least_processors", host, rows, group, amount)[0] or None
+
+    def least_setting(self, host: Host, rows: Rows, group: int, amount: int,
+                      followers: Mapping[int, Follower], first: int, last: int) -> int | None:
+        """The least number from `first` to `last` that an owner can set with which a group gets at
+        least `amount` slices of one period, None if no such number does.
+
+        The weights of `followers` follow the number: they are at the group, above it or below it.
+        All else is as the rows say. Refused as a plan is, then 20 NotFound if the group is no row
+        or a follower is none of these.
+        """
+        columns = Columns.of(rows)
+        formulas, floors, bases = (zeros(kind, len(columns)) for kind in (U32, U64, U64))
+        for row, each in followers.items():
+            formulas[row], floors[row], bases[row] = each
+        least, = self.ask("least_setting", host, columns, group, amount, formulas, floors, bases,
+                          first, last)
+        return None if least == c.NO_LIMIT else int(least)
 
     def script(self, host: Host, text: bytes) -> Script:
         """The reading of a script on a host: the groups at its end, and the lines that it refuses.

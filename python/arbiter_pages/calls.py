@@ -273,6 +273,26 @@ QUESTIONS = (
          " most 7 plans.",
          (HOST, ROWS, GROUP, AMOUNT, result("least", U64, "1 to 64", "0", "no number does")),
          (*OF_PLAN, NO_ROW), is_plain=True),
+    Call("least_setting", "the least number that an owner sets that does",
+         "The least number that an owner can set with which the plan gives a group at least"
+         " `amount` slices: a request, shares or a weight. The weights of some rows follow it, each"
+         " by its formula. A row's own number is the owner's and that of `bases`, and no less than"
+         " that of `floors`. So a request of a container makes the weights of the container, of its"
+         " pod and of the pod's class. All else is as the rows say. A greater number gives the"
+         " group no less. One plan, and one for each halving of the range.",
+         (HOST, ROWS, GROUP, AMOUNT,
+          column("formulas", U32, "the formula of arbiter_owned_weight by which the row's weight"
+                                  " follows; 0 or any other number where it stays, as that of row"
+                                  " 0 does"),
+          column("floors", U64, "the least number of the row"),
+          column("bases", U64, "what the row's number has beside the owner's"),
+          CallWord("first", U64, "the least number that may be set"),
+          CallWord("last", U64, "the greatest number that may be set"),
+          result("least", U64, "the number", NO_LIMIT,
+                 "no number does, or logarithms do not tell a weight, which is of no number of"
+                 " shares")),
+         (*OF_PLAN, Refusal("20", "the group is no row, or a row that follows is neither it nor"
+                                  " above it nor below it")), is_plain=True),
     Call("tune", "weights that meet goals of any rows",
          "Weights under which each row has its goal. Goals may be of groups with children, of rows"
          " inside one another, and of rows whose weight stays. A weight is the goals' own if a goal"

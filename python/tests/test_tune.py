@@ -200,8 +200,8 @@ def test_what_children_ask_is_asked_by_a_group(engine):
 
 
 def test_settings_are_tried_once(calls):
-    """A request alone is searched where all settings are. Limits of 64 others are looked at, and
-    these are looked through without a model of all pods."""
+    """A request is found by a call, so that few plans are made: as it stands, and with it. Limits of
+    64 others are looked at, and these are looked through without a model of all pods."""
     engine = Counted(calls)
     before = plan(engine, pods_of(calls, 80, want="busy"))
     tune.tune(before, ["*p3/c=40m"])
@@ -210,7 +210,7 @@ def test_settings_are_tried_once(calls):
     tune_settings.by_settings(asked_, Clash(before.root, asked_.goals))
     again, engine.plans = engine.plans, 0
     single_settings.each_of(asked_)
-    assert engine.plans < again < first and engine.plans <= 14
+    assert again <= 2 and engine.plans <= 8 and first <= 8
     built = []
     with pytest.MonkeyPatch.context() as patch:
         patch.setattr(kubernetes.PodBuilder, "classes", lambda _: built.append(1))
@@ -563,7 +563,7 @@ def test_requests(ctl, folder):
     assert found["met"] and found["weights"] is None and found["conflict"]["group"] == "."
     assert changes(way) == {path: ("100m", "182m")} and way["set"] == [f"{path}.request=182m"]
     assert way["then_millicpu"] == [400, 600]
-    assert way["told"] == tune_settings.RAISED + goals_.NEEDED
+    assert way["told"] == tune_settings.LEAST + goals_.NEEDED
     out, _ = ctl.run("tune", node_of(folder), "--want", "busy", "--goal", "x/a=400m")
     assert ["request", "100m", "182m", path] in [line.split() for line in out.split("\n")]
 

@@ -254,6 +254,35 @@ uint32_t arbiter_least_processors(uint64_t processors, uint64_t period_us, uint6
     return answer;
 }
 
+uint32_t arbiter_least_setting(uint64_t processors, uint64_t period_us, uint64_t slice_us,
+                               const uint32_t *parents, size_t parents_length, const uint64_t *weights, size_t weights_length,
+                               const uint64_t *limits, size_t limits_length, const uint64_t *demands, size_t demands_length,
+                               uint32_t group, uint64_t amount, const uint32_t *formulas, size_t formulas_length,
+                               const uint64_t *floors, size_t floors_length, const uint64_t *bases, size_t bases_length,
+                               uint64_t first, uint64_t last, uint64_t *least)
+{
+    begin("least_setting");
+    put(' ', processors);
+    put(' ', period_us);
+    put(' ', slice_us);
+    COLUMN(parents, parents_length);
+    COLUMN(weights, weights_length);
+    COLUMN(limits, limits_length);
+    COLUMN(demands, demands_length);
+    put(' ', group);
+    put(' ', amount);
+    COLUMN(formulas, formulas_length);
+    COLUMN(floors, floors_length);
+    COLUMN(bases, bases_length);
+    put(' ', first);
+    put(' ', last);
+    put(' ', *least);
+    uint32_t answer = (uint32_t)sent_line();
+    *least = (uint64_t)get();
+    pthread_mutex_unlock(&lock);
+    return answer;
+}
+
 uint32_t arbiter_tune(uint64_t processors, uint64_t period_us, uint64_t slice_us,
                       const uint32_t *parents, size_t parents_length, const uint64_t *weights, size_t weights_length,
                       const uint64_t *limits, size_t limits_length, const uint64_t *demands, size_t demands_length,

@@ -8,5 +8,6 @@ pub mod PlannedHosts
 pub mod RefusedRow
 pub mod Script
 pub mod ScriptTold
+pub mod Settings
 pub mod Texts
 pub mod Units

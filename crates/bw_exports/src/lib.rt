@@ -20,6 +20,7 @@ mod leaf_reading_call;
 mod least_limit_call;
 mod least_owned_call;
 mod least_processors_call;
+mod least_setting_call;
 mod least_weight_call;
 mod let_go_call;
 mod limit_others_call;

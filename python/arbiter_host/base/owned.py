@@ -14,7 +14,7 @@ from dataclasses import dataclass, field, replace
 from fractions import Fraction
 from typing import NamedTuple
 
-from arbiter import Host, WeightFormula
+from arbiter import Follower, Host, WeightFormula
 from arbiter_host.base import demands, names, units
 from arbiter_host.base.demands import Use
 from arbiter_host.base.faults import HostFault
@@ -108,6 +108,11 @@ class Owned:
     def formula(self) -> WeightFormula:
         """The formula by which the setting that weighs a group makes its weight."""
         raise NotImplementedError
+
+    def followers(self, path: str) -> dict[str, Follower]:
+        """The groups whose weights follow the setting that weighs a group, while it stays within
+        one part of its range."""
+        return {path: Follower(self.formula)}
 
     @property
     def rule(self) -> str:

@@ -18,6 +18,14 @@ def least(low: int, high: int, reaches: Callable[[int], bool]) -> int:
     return low + bisect.bisect_left(range(low, high), True, key=reaches)
 
 
+def least_near(low: int, high: int, guess: int, reaches: Callable[[int], bool]) -> int | None:
+    """The least number from `low` to `high` that reaches, or None where none does. A guess that is
+    right is found by two tries."""
+    if not reaches(guess):
+        return least(guess + 1, high, reaches) if guess < high and reaches(high) else None
+    return guess if guess == low or not reaches(guess - 1) else least(low, guess - 1, reaches)
+
+
 def least_of(parts: Sequence[tuple[int, int]], reaches: Callable[[int], bool]) -> int | None:
     """The least number of some parts that reaches, where in each part a greater one does too."""
     return next((least(low, high, reaches) for low, high in parts if reaches(high)), None)

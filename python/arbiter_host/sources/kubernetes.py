@@ -16,7 +16,7 @@ from dataclasses import dataclass, replace
 from fractions import Fraction
 from typing import Any
 
-from arbiter import Library, LimitFormula
+from arbiter import Follower, Library, LimitFormula
 from arbiter_host.base import demands, names, units
 from arbiter_host.base.demands import Measured, Place, Values
 from arbiter_host.base.faults import HostFault, NoHost, naming
@@ -44,6 +44,8 @@ SCALER = "HorizontalPodAutoscaler"
 COMMON = ("memory", "ephemeral-storage")
 # Pods that one template may make at once.
 MOST_REPLICAS = 10000
+# Thousandths that are more than all other containers of a pod request.
+ABOVE_ALL = 1 << 60
 # A request of so many thousandths has the greatest shares; no greater one weighs more.
 MOST_REQUEST = units.MAX_SHARES * 1000 // 1024
 
@@ -254,7 +256,7 @@ class PodBuilder:
         allocatable, driver = self.source.allocatable, self.options.driver
         self.add(".", TOP, 100 if allocatable is None else self.weight(
             allocatable, self.options.kubelet), folder_at([TOP], driver))
-        burstable = requested_by([pod for pod in self.source.pods if pod.quality == "Burstable"])
+        burstable = self.source.requested_in("Burstable")
         for quality, request in (("burstable", burstable), ("besteffort", 0)):
             path = self.add(TOP, quality, self.weight(request, self.options.kubelet),
                             folder_at([TOP, quality], driver))
@@ -499,6 +501,29 @@ class PodSource(Measurable):
     def weighs(self) -> Sequence[object]:
         return [(pod.quality, pod.amounts.request, *(pod.given(each).request for each in pod.parts))
                 for pod in self.pods]
+
+    def followers(self, path: str) -> dict[str, Follower]:
+        """The container, its pod and the pod's class. A pod that requests an amount itself keeps
+        it, and a class of pods that request nothing has no sum."""
+        pod, number, amounts = self.part(path)
+        by_runtime, by_kubelet = (units.OF_REQUESTS[each] for each in (
+            self.options.runtime, self.options.kubelet))
+        followers = {path: Follower(by_runtime)}
+        if pod.own.request is not None or pod.quality == "BestEffort":
+            return followers
+        least, most = (pod.with_amounts(number, Amounts(each, amounts.limit)).amounts.request or 0
+                       for each in (0, ABOVE_ALL))
+        parent, beside = names.parent_path(path), most - ABOVE_ALL
+        followers[parent] = Follower(by_kubelet, least, beside)
+        if pod.quality == "Burstable":
+            others = self.requested_in(pod.quality) - (pod.amounts.request or 0)
+            followers[names.parent_path(parent)] = Follower(by_kubelet, others + least,
+                                                            others + beside)
+        return followers
+
+    def requested_in(self, quality: str) -> int:
+        """Thousandths that the pods of a class request."""
+        return requested_by([pod for pod in self.pods if pod.quality == quality])
 
     def ranges(self, path: str) -> list[Range]:
         amounts = self.now(path)

@@ -8,7 +8,7 @@ from dataclasses import dataclass
 from fractions import Fraction
 from typing import NamedTuple
 
-from arbiter import Columns
+from arbiter import Columns, Row
 from arbiter_host.base import demands, search, units
 from arbiter_host.base.faults import HostFault, UsageFault, naming
 from arbiter_host.base.model import Model
@@ -164,9 +164,25 @@ class Goals:
                          if asked[goal.group.row] < goal.amount)
 
     @functools.cached_property
-    def tried(self) -> dict[tuple[int, frozenset[Setting]], int]:
-        """The amounts of groups under settings of the source that were tried, by their rows."""
+    def made(self) -> dict[frozenset[Setting], Plan]:
+        """Plans under settings of the source."""
         return {}
+
+    @functools.cached_property
+    def found(self) -> dict[tuple[int, int, frozenset[Setting]], int | None]:
+        """The least values that were asked for: by the row of the goal's group, that of the
+        setting, and the other settings."""
+        return {}
+
+    def asking_beside(self, rows: Sequence[Row], goal: Goal) -> Sequence[Row]:
+        """Rows of groups under which a goal is to be met. Whatever others ask for, a group gets no
+        less than where all that are not under it ask for the most, but pause containers."""
+        if not self.is_guaranteed:
+            return rows
+        inside = {each.row for each in walk([goal.group])}
+        return [each if at in inside or group.children else each._replace(
+            demand=0 if group.group is not None and group.group.is_pause else units.MAX_DEMAND)
+            for at, (each, group) in enumerate(zip(rows, self.before.groups))]
 
     def amount(self, after: Plan, row: int) -> int:
         """The measure of a group's goal in a plan."""

@@ -71,7 +71,8 @@ def of_call(goals: Goals, name: str, now: int | None, host: Host,
 
 def of_owner(goals: Goals, known: Raised, row: int, of: Range) -> SingleSetting:
     """The least of a setting that people own of a group, which is the goal's or below it."""
-    value = known.least(goals.goals[0], row, of)
+    find = known.least if of.key == known.source.keys[0] else known.least_limit
+    value = find(goals.goals[0], row, of)
     if value is None:
         return SingleSetting(of.key, of.now, None, None, of.most, True)
     after = known.with_value(row, of, value).plan()

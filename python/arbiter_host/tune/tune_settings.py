@@ -1,8 +1,8 @@
 """Settings that people own, such as requests, with which goals are met.
 
-They are raised one after another over accepted plans. A limit that is in the way is raised with
-what weighs its group. Where that is not enough, requests of others are lowered, unless demands are
-requests.
+They are raised one after another, each to the least value by a call of the library, whose contract
+is exact. A limit that is in the way is raised with what weighs its group. Where that is not enough,
+requests of others are lowered, unless demands are requests.
 """
 from __future__ import annotations
 
@@ -13,12 +13,16 @@ from arbiter_host.base import owned, search, units
 from arbiter_host.base.model import Model
 from arbiter_host.base.names import few, last_name, shown
 from arbiter_host.base.owned import Owned, Range, Setting
-from arbiter_host.base.plan import Plan
+from arbiter_host.base.plan import Plan, asking
 from arbiter_host.tune.goals import MOST_LEFT, Clash, Goal, Goals, NewSetting, Way
 
 # At most so many settings are raised one by one.
 MOST_RAISES = 200
+# The last plans that are kept.
+MOST_PLANS = 8
 RAISED = "one after another, each the least beside the others; not proved to be the least"
+LEAST = "proved: the least with which the goal is met"
+BESIDE = "proved: each is the least for its goal beside the others"
 LIFTED = "; a limit that is in the way is raised too"
 LOWERED = ("; requests of others are lowered to one level, the greatest that was found beside these"
            " raises; not proved to be the greatest")
@@ -43,7 +47,13 @@ class Raised:
         return owned.remade(self.goals.before.model, self.source, self.every)
 
     def plan(self) -> Plan:
-        return self.goals.plan_of(self.model)
+        """Their accepted plan. The last ones are kept."""
+        made, key = self.goals.made, frozenset(self.every)
+        if key not in made:
+            if len(made) == MOST_PLANS:
+                made.clear()
+            made[key] = self.goals.plan_of(self.model)
+        return made[key]
 
     def only(self, rows: Sequence[int]) -> Raised:
         return replace(self, settings={row: self.settings[row] for row in rows})
@@ -77,18 +87,55 @@ class Raised:
         return changed.ranges(list(changed.plain.groups)[row - 1])
 
     def least(self, goal: Goal, row: int, of: Range) -> int | None:
-        """The least value of a setting of a row that meets one goal."""
+        """The least value of what weighs a row that meets one goal: by the library's call, which
+        is exact, for each part of its values. Each is asked for once."""
+        others, found = (each for each in self.every if each.path != self.goals.before.groups[
+            row].path or each.key != of.key), self.goals.found
+        key = (goal.group.row, row, frozenset(others))
+        if key not in found and goal.group.row not in self.goals.beyond:
+            found[key] = next((value for first, last in of.parts if (value := self.with_value(
+                row, of, first).least_from(goal, row, first, last)) is not None), None)
+        return found.get(key)
+
+    def least_from(self, goal: Goal, row: int, first: int, last: int) -> int | None:
+        """The least value of one part of what weighs a row, of which these have the first."""
+        model, before = self.model, self.goals.before
+        assert model.owned is not None, "the model is that of a source"
+        paths = [".", *model.groups]
+        rows, followers = {path: at for at, path in enumerate(paths)}, model.owned.followers(
+            paths[row])
+        library = before.engine.library
+        with asking("least setting"):
+            return library.least_setting(
+                before.planned_host, self.goals.asking_beside(model.rows(library), goal),
+                goal.group.row, goal.amount,
+                {rows[path]: each for path, each in followers.items()}, first, last)
+
+    def least_limit(self, goal: Goal, row: int, of: Range) -> int | None:
+        """The least value of a limit of a row that meets one goal, by plans. It is guessed to be
+        the goal itself."""
         if goal.group.row in self.goals.beyond:
             return None
-        return search.least_of(of.parts, lambda each: self.with_value(row, of, each).amount(
-            goal.group.row) >= goal.amount)
+        asked = self.goals.before.thousandths(goal.amount)
+        return next((value for first, last in of.parts if (value := search.least_near(
+            first, last, search.least(first, last, lambda each: units.parse_cpu(
+                of.written(each)) >= asked),
+            lambda each: self.reaches(goal, row, of, each))) is not None), None)
+
+    def is_least(self, goal: Goal, row: int) -> bool:
+        """Whether what weighs a row is all that is set of it, and the least that meets a goal."""
+        of = self.ranges(row)[0]
+        value = self.least(goal, row, of)
+        return value is not None and self.settings[row] == self.only([]).with_value(
+            row, of, value).settings[row]
+
+    def reaches(self, goal: Goal, row: int, of: Range, value: int) -> bool:
+        """Whether the plan with a value of a setting meets one goal."""
+        return self.with_value(row, of, value).amount(goal.group.row) >= goal.amount
 
     def amount(self, row: int) -> int:
-        """The amount that the group of a row gets. Each plan for it is made once."""
-        key, tried = (row, frozenset(self.every)), self.goals.tried
-        if key not in tried:
-            tried[key] = self.goals.amount(self.plan(), row)
-        return tried[key]
+        """The amount that the group of a row gets."""
+        return self.goals.amount(self.plan(), row)
 
     def row_of(self, goal: Goal) -> int | str:
         """The row of the setting that a goal can be met by, or why there is none."""
@@ -134,7 +181,7 @@ class Raised:
                 return None
             wide = wide.with_value(row, of, value)
         limit = wide.ranges(row)[1]
-        most = wide.least(goal, row, limit)
+        most = wide.least_limit(goal, row, limit)
         return None if most is None else wide.with_value(row, limit, most)
 
     def weighed(self, weights: Sequence[int]) -> Raised | None:
@@ -205,6 +252,17 @@ def lowered(start: Raised, why: str) -> Raised | str:
         most - 1) else why + NOR
 
 
+def raises_told(known: Raised) -> str:
+    """What is known of raised settings: where the library's calls say so, that each is the least
+    for its goal."""
+    by_row = {row: goal for goal in known.goals.goals
+              if isinstance(row := known.row_of(goal), int) and row in known.settings}
+    if len(by_row) < len(known.settings) or not all(
+            known.is_least(goal, row) for row, goal in by_row.items()):
+        return RAISED
+    return LEAST if len(by_row) == 1 else BESIDE
+
+
 def followers(goals: Goals, source: Owned, after: Plan) -> list[str]:
     """The names of the groups without such settings whose weights are others in a plan."""
     return [shown(last_name(now.path)) for now, then in zip(goals.before.groups, after.groups)
@@ -229,7 +287,7 @@ def by_settings(goals: Goals, weights: Way | Clash) -> Way | str | None:
                               "settings")
     known = known.only(rows)
     after, is_lifted = known.plan(), source.keys[1] in {each.key for each in known.every}
-    told = RAISED + more + (LIFTED if is_lifted else "")
+    told = raises_told(known) + more + (LIFTED if is_lifted else "")
     if not known.settings.keys().isdisjoint(lowerable(goals, source)):
         follow = followers(goals, source, after)
         told += LOWERED + (FOLLOW.format(few(follow)) if follow else "")
