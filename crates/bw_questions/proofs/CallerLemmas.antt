@@ -3,3 +3,6 @@ pub use Rattle.bw_questions.proofs.Rows.{one_each}
 pub use Rattle.bw_questions.proofs.ServedRounds.{part_le, beside_le, served_le}
 pub use Rattle.bw_questions.proofs.TimeSlices.{div-mono}
 pub use Rattle.bw_questions.proofs.Levels.{part_le_sum}
+pub use Rattle.bw_questions.proofs.changes.Lists.{outside}
+pub use Rattle.bw_questions.proofs.changes.Trees.{children_same, planned, from_the_root}
+pub use Rattle.bw_questions.proofs.changes.Trees.{under_same, want_same, split_over}

@@ -14,10 +14,10 @@ use Rattle.bw_model.proofs.CallerLemmas.{from_the_last, capped, mosts, mosts-cap
 use Rattle.bw_model.proofs.CallerLemmas.{parent_lt, parent_not_leaf, listed_child, get_or-map}
 use Rattle.bw_model.proofs.CallerLemmas.{is_under-step, is_under-self}
 use Rattle.bw_plan.proofs.CallerLemmas.{weights_in_range}
-use Rattle.bw_change_laws.specs.OneSplit.{AreWeighted, LighterHasNoMore}
-use Rattle.bw_change_laws.specs.Tree.{IsSameTree}
-use Rattle.bw_change_laws.proofs.CallerLemmas.{want_same, split_over, planned, from_the_root}
-use Rattle.bw_change_laws.proofs.CallerLemmas.{children_same, outside}
+use Rattle.bw_questions.specs.changes.OneSplit.{AreWeighted, LighterHasNoMore}
+use Rattle.bw_questions.specs.changes.Tree.{IsSameTree}
+use Rattle.bw_questions.proofs.CallerLemmas.{want_same, split_over, planned, from_the_root}
+use Rattle.bw_questions.proofs.CallerLemmas.{children_same, outside}
 use Rattle.bw_settings.proofs.Ways.{above_parent, sibling_not_above, sibling_not_below}
 
 -- Two instances of one tree, with equal demands and limits.

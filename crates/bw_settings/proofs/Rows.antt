@@ -11,9 +11,9 @@ use Rattle.bw_model.specs.Groups.{Groups, IsInstance, parent_of, weight_of, dema
 use Rattle.bw_model.specs.Groups.{is_under, row_of, no_row}
 use Rattle.bw_model.specs.OneRow.{with_row}
 use Rattle.bw_model.specs.Plan.{IsPlan}
-use Rattle.bw_change_laws.specs.OneSplit.{LighterHasNoMore}
-use Rattle.bw_change_laws.specs.Tree.{IsSameTree}
-use Rattle.bw_change_laws.proofs.CallerLemmas.{under_same}
+use Rattle.bw_questions.specs.changes.OneSplit.{LighterHasNoMore}
+use Rattle.bw_questions.specs.changes.Tree.{IsSameTree}
+use Rattle.bw_questions.proofs.CallerLemmas.{under_same}
 use Rattle.bw_owned.specs.Laws.{WeightsGrow}
 use Rattle.bw_settings.specs.Following.{Follows, AreOneEach, AreOnPath, IsNumbered, IsNumberedTo}
 use Rattle.bw_settings.specs.Following.{IsWeightBy, number_at}

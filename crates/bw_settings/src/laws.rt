@@ -1,8 +1,8 @@
 //! Law of what owners set for goals, the contract of a function that does nothing.
 ghost use Rattle.bw_settings.specs.Settings.{GreaterSettingsGiveNoLess};
 
-use bw_change_laws::lighter_has_no_more;
 use bw_owned::weights_grow;
+use bw_questions::laws::lighter_has_no_more;
 
 /// Law: with a greater number, whose weights are at a group, above it or below it, the group gets
 /// no less.
