@@ -1,11 +1,11 @@
 -- The goals of `setting_of` that are answered by hand.
 use Rattle.std.proofs.Common.{◌≡◌, ℕ, List, Result, Ok, Err, IfOk, IfErr, length, ap, sym, ◌∙◌, inr}
 use Rattle.std.proofs.Common.{subst}
-use Rattle.std.proofs.lemmas.List.FromFn.{length-map-range_with_len}
 use Rattle.bw_model.specs.Groups.{Groups}
-use Rattle.bw_columns.specs.Asked.{groups_asked, refusal_where, row_in, table_of}
+use Rattle.bw_columns.specs.Asked.{groups_asked, refusal_where, table_of}
 use Rattle.bw_columns.specs.Numbers.{number_of_refusal}
 use Rattle.bw_columns.specs.declared.refusal.Refusal.{Refusal}
+use Rattle.bw_columns.proofs.CallerLemmas.{rows_length}
 use Rattle.bw_settings.specs.declared.least.Setting.{Setting}
 use Rattle.bw_settings.specs.Following.{follows_of}
 use Rattle.bw_exports.specs.Settings.{IsGoalRefused, IsSettingOf, IsSettingRefused}
@@ -23,12 +23,9 @@ carried (Err e) groups asked formulas group refused same none told =
 
 pub setting_in-requires : goal.setting_in-requires
 setting_in-requires c =
-    let rows : length (groups_asked c.args.host c.args.columns.now).rows
-    ≡ length c.args.columns.now.parents.now =
-    length-map-range_with_len (row_in (table_of c.args.columns.now)) 0
-    (length c.args.columns.now.parents.now) in
     let long : length c.args.columns.now.parents.now ≡ length c.in_ok-instance.instance.rows =
-    sym rows ∙ ap (λ (g : Groups). length g.rows) (sym c.in_ok-instance.ensures.groups) in
+    sym (rows_length (table_of c.args.columns.now))
+    ∙ ap (λ (g : Groups). length g.rows) (sym c.in_ok-instance.ensures.groups) in
     record {
       formulas = c.requires.formulas c.in_ok-instance.ensures.fit ∙ long;
       floors = c.requires.floors c.in_ok-instance.ensures.fit ∙ long;
