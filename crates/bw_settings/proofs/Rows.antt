@@ -112,18 +112,6 @@ settings_rise lighter grow groups follows group number more a b xs ys valid each
     beside lighter grow groups follows group number more a b valid path le one two h h_in above
     below)
 
--- The groups themselves, of which no row follows yet.
-pub none_followed : (groups : Groups) (follows : Follows) (number : ℕ) (others : Groups)
-    → others ≡ groups → IsNumberedTo groups follows number 1 others
-none_followed groups follows number others same = rw same (record {
-  shape = refl;
-  as_many = refl;
-  alike = λ h. refl;
-  root = refl;
-  weights = λ h above below. absurd (omega (arith, above, below));
-  later = λ h past. refl;
-})
-
 -- One more row follows.
 module _ (groups : Groups) (follows : Follows) (number h weight : ℕ) (others : Groups)
     (is : IsNumberedTo groups follows number h others) (below_root : 0 < h)

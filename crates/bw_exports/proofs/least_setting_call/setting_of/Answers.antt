@@ -18,8 +18,10 @@ carried : (result : Result Setting Refusal) (groups asked : Groups) (formulas : 
     → IfErr result (λ e. IsSettingRefused refused asked formulas group (number_of_refusal e))
 carried (Ok setting) groups asked formulas group refused same none told = told
 carried (Err e) groups asked formulas group refused same none told =
-    inr (none,
-    subst (λ (g : Groups). IsGoalRefused g formulas group (number_of_refusal e)) same told)
+    inr (
+      none,
+      subst (λ (g : Groups). IsGoalRefused g formulas group (number_of_refusal e)) same told,
+    )
 
 pub setting_in-requires : goal.setting_in-requires
 setting_in-requires c =
