@@ -6,6 +6,7 @@ import random
 import pytest
 
 import arbiter
+from arbiter import columns as columns_
 from arbiter import Follower, Host, PartKind, Row, WeightFormula, c
 from owned_model import WEIGHTS, pod_amount
 from plan_model import Instance
@@ -123,14 +124,15 @@ def test_refusals(calls):
     by = {2: Follower(WeightFormula.UNIT_WEIGHT)}
     same(number_of(calls.least_setting, HOST, SMALL, 5, 1, {}, 0, 9), (20, None))
     same(number_of(calls.least_setting, HOST, SMALL, 4, 1, by, 0, 9), (20, None))
-    same(calls.least_setting(HOST, SMALL, 2, 10, by, 1, 10000), 100)
+    # (its slice 10 costs 19/w, and slice 11 of row 1 21/100)
+    same(calls.least_setting(HOST, SMALL, 2, 10, by, 1, 10000), 91)
     same(calls.least_setting(HOST, SMALL, 0, 20, by, 1, 10000), 1)
     least = c.U64(7)
     columns = arbiter.Columns.of(SMALL)
-    words = [word for each in columns.all for word in arbiter.library.given(each)]
+    words = [word for each in columns.all for word in columns_.given(each)]
     for lengths in ((4, 5, 5), (5, 4, 5), (5, 5, 6)):
-        more = [word for each, kind in zip(lengths, (arbiter.library.U32, *[arbiter.library.U64] * 2))
-                for word in arbiter.library.given(arbiter.library.zeros(kind, each))]
+        more = [word for each, kind in zip(lengths, (columns_.U32, columns_.U64, columns_.U64))
+                for word in columns_.given(columns_.zeros(kind, each))]
         same(calls.calls.arbiter_least_setting(
             *map(c.U64, arbiter.Library.host(HOST)), *words, c.U32(4), c.U64(1), *more, c.U64(0),
             c.U64(9), ctypes.byref(least)), 50)

@@ -1,8 +1,8 @@
 -- A group whose weights on its way are raised gets no less.
 use Rattle.std.proofs.Common.{◌≡◌, ◌≢◌, ℕ, ◌<◌, ◌≤◌, List, true, false, Some, length, get_or, refl}
-use Rattle.std.proofs.Common.{ap, sym, ◌∙◌, arith, inl, inr, eqb}
+use Rattle.std.proofs.Common.{ap, sym, ◌∙◌, arith, inl, inr}
 use Rattle.std.specs.Prelude.{map, slice_index}
-use Rattle.std.proofs.lemmas.Bool.{cases_lt, cases_eq, or_right}
+use Rattle.std.proofs.lemmas.Bool.{cases_lt}
 use Rattle.std.proofs.lemmas.List.{length-map}
 use Rattle.bw_model.specs.Groups.{Groups, IsInstance, parent_of, children_of, is_leaf, weight_of}
 use Rattle.bw_model.specs.Groups.{demand_of, limit_of, is_under}
@@ -12,7 +12,7 @@ use Rattle.bw_model.specs.Plan.{IsPlan, child_weights}
 use Rattle.bw_model.specs.Split.{IsBestSplit}
 use Rattle.bw_model.proofs.CallerLemmas.{from_the_last, capped, mosts, mosts-capped, child_at}
 use Rattle.bw_model.proofs.CallerLemmas.{parent_lt, parent_not_leaf, listed_child, get_or-map}
-use Rattle.bw_model.proofs.CallerLemmas.{is_under-step, is_under-self}
+use Rattle.bw_model.proofs.CallerLemmas.{is_under-self}
 use Rattle.bw_plan.proofs.CallerLemmas.{weights_in_range}
 use Rattle.bw_questions.specs.changes.OneSplit.{AreWeighted, LighterHasNoMore}
 use Rattle.bw_questions.specs.changes.Tree.{IsSameTree}

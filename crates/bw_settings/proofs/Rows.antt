@@ -1,21 +1,20 @@
 -- The instances of two numbers that an owner may set.
-use Rattle.std.proofs.Common.{◌≡◌, ℕ, zero, suc, ◌+◌, ◌-◌, ◌^◌, ◌<◌, ◌≤◌, false, true, length, get_or}
-use Rattle.std.proofs.Common.{◌≢◌, refl, ap, sym, ◌∙◌, arith, inl, inr, Some}
+use Rattle.std.proofs.Common.{◌≡◌, ℕ, zero, suc, ◌+◌, ◌-◌, ◌^◌, ◌<◌, ◌≤◌, false, length}
+use Rattle.std.proofs.Common.{◌≢◌, ap, sym, ◌∙◌, arith, inl, inr, Some}
 use Rattle.std.proofs.Common.{get_or-set_same, get_or-set_other}
 use Rattle.std.specs.Prelude.{min, max, slice_index}
 use Rattle.std.proofs.lemmas.Bool.{cases_eq}
 use Rattle.std.proofs.lemmas.List.{length-set}
 use Rattle.bw_model.specs.declared.row.Row.{Row}
 use Rattle.bw_model.specs.Host.{capacity_of}
-use Rattle.bw_model.specs.Groups.{Groups, IsInstance, parent_of, weight_of, demand_of, limit_of}
+use Rattle.bw_model.specs.Groups.{Groups, IsInstance, weight_of, demand_of, limit_of}
 use Rattle.bw_model.specs.Groups.{is_under, row_of, no_row}
 use Rattle.bw_model.specs.OneRow.{with_row}
-use Rattle.bw_model.specs.Plan.{IsPlan}
 use Rattle.bw_questions.specs.changes.OneSplit.{LighterHasNoMore}
 use Rattle.bw_questions.specs.changes.Tree.{IsSameTree}
 use Rattle.bw_questions.proofs.CallerLemmas.{under_same}
 use Rattle.bw_owned.specs.Laws.{WeightsGrow}
-use Rattle.bw_settings.specs.Following.{Follows, AreOneEach, AreOnPath, IsNumbered, IsNumberedTo}
+use Rattle.bw_settings.specs.Following.{Follows, AreOnPath, IsNumbered, IsNumberedTo}
 use Rattle.bw_settings.specs.Following.{IsWeightBy, number_at}
 use Rattle.bw_settings.specs.Settings.{GreaterSettingsGiveNoLess}
 use Rattle.bw_settings.proofs.Formulas.{weights_by_grow}

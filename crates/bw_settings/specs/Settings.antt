@@ -1,5 +1,5 @@
 -- The least number that an owner sets with which a group gets so much.
-use Rattle.std.specs.Prelude.{◌≡◌, ℕ, ◌<◌, ◌≤◌, List, length, slice_index}
+use Rattle.std.specs.Prelude.{ℕ, ◌<◌, ◌≤◌, List, length, slice_index}
 use Rattle.bw_model.specs.Groups.{Groups, IsInstance}
 use Rattle.bw_model.specs.Plan.{IsPlan}
 use Rattle.bw_settings.specs.declared.numbered.Numbered.{Numbered}
