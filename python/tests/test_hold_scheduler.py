@@ -148,6 +148,46 @@ def test_limits_are_of_the_whole_path(folder, begun):
     assert nearest[0] == {x: x, q: top} and nearest[-1] == {x: x, q: top, r: top}
 
 
+def weighed(folder, weight, events="populated 1\nfrozen 0\n"):
+    """A group of a tree, with a weight; None where the controller is not enabled."""
+    folder.mkdir()
+    (folder / "cgroup.events").write_text(events)
+    if weight is not None:
+        (folder / "cpu.weight").write_text(f"{weight}\n")
+    return folder
+
+
+def test_weights_beside_a_top(monkeypatch, folder):
+    """Those of each level up to the root, of groups that have tasks. A level without the controller
+    is none. Of the root itself all its groups count, and beside a tree of the host none."""
+    monkeypatch.setattr(scheduler.readings, "HOST_TREE", str(folder / "host"))
+    host = folder / "host"
+    host.mkdir()
+    for name, weight, *events in (("a", 300), ("b", 50, "populated 0\n"), ("c", 0), ("d", None)):
+        weighed(host / name, weight, *events)
+    for name, weight in (("x", 100), ("y", 200), ("z", 25)):
+        weighed(host / "a" / name, weight)
+    below = weighed(host / "a/x/deep", None)
+    (host / "a/link").symlink_to(host / "a/y")
+    assert scheduler.weights_above(str(host / "a")) == ([300], [0])
+    assert scheduler.weights_above(str(host / "a/x")) == ([100, 300], [225, 0])
+    assert scheduler.weights_above(str(below)) == ([100, 300], [225, 0])
+    assert scheduler.weights_above(str(host / "c")) == ([0], [300])
+    assert scheduler.weights_above(str(host)) == ([300], [0])
+    assert scheduler.weights_above(str(weighed(folder / "else", 9))) == ([], [])
+
+
+def test_the_rest_is_given_its_part(folder, begun, monkeypatch):
+    """Of a host whose top weighs 100 beside 100 of others and the root's tasks: twice the plan's
+    slices, as its amount and its guarantee."""
+    world, loop = begun(GROUPS, "", "")
+    monkeypatch.setattr(scheduler.readings, "HOST_TREE", str(folder))
+    (world.tree / "cpu.weight").write_text("100\n")
+    weighed(folder / "other", 100)
+    world.run(loop, lambda: None)
+    assert commands(folder)[3:5] == ["plan 200", "rest 400 400"]
+
+
 def test_a_group_has_no_more_than_its_cpus(folder, begun, capsys):
     """One that keeps to one CPU of two is guaranteed no more, and the round's line has that as its
     limit. It is told once. One that is freed has its part by weights."""
