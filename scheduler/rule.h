@@ -41,8 +41,9 @@ struct on_cpu cpus[MOST_CPUS];
 GUARDED struct bpf_spin_lock lock;
 /* The time of the rule: it never goes back. */
 GUARDED u64 time_ns;
-/* The greatest clock at the end of a slice, and the level at a new plan: a charge and an amount. */
-GUARDED u64 greatest_charge, greatest_amount, level_charge, level_amount;
+/* The greatest clock at the end of a slice, the level that was found last, and that at a new plan:
+ * a charge and an amount. (Who wakes while a plan is taken finds another one.) */
+GUARDED u64 greatest_charge, greatest_amount, level_charge, level_amount, plan_charge, plan_amount;
 /* The number of steps of the rule. */
 GUARDED u64 steps;
 /* Steps that a trace lacks. */
@@ -562,7 +563,7 @@ static __always_inline u32 spent_above(struct leaf *leaf)
         struct budget *budget = budget_of(number);
         if (!number)
             break;
-        if (budget->left_ns <= 0)
+        if (budget->limit_ns && budget->left_ns <= 0)
             found = number;
         number = budget->above;
     }
@@ -579,7 +580,7 @@ static __always_inline u64 left_above(struct leaf *leaf)
         struct budget *budget = budget_of(number);
         if (!number)
             break;
-        if (budget->left_ns < left)
+        if (budget->limit_ns && budget->left_ns < left)
             left = budget->left_ns;
         number = budget->above;
     }
@@ -678,7 +679,8 @@ static __always_inline u32 free_first(struct on_cpu *here, u32 number)
     return row;
 }
 
-/* A new period of a group with a limit. Returns whether it has something left. */
+/* A new period of a group with a limit. Returns whether it has something left. (A number whose
+ * limit has gone stops nobody.) */
 static __always_inline bool refill(u32 number)
 {
     struct budget *budget = budget_of(number);
@@ -686,7 +688,7 @@ static __always_inline bool refill(u32 number)
     budget->left_ns += budget->limit_ns;
     if (budget->left_ns > (s64)(budget->limit_ns + budget->burst_ns))
         budget->left_ns = budget->limit_ns + budget->burst_ns;
-    return budget->left_ns > 0;
+    return !budget->limit_ns || budget->left_ns > 0;
 }
 
 /* The greatest settled clock of all leaves: after a new plan. */
@@ -710,6 +712,8 @@ static __noinline int find_greatest(u32 rows)
 static __always_inline void take_level(struct on_cpu *here)
 {
     find_level();
+    plan_charge = level_charge;
+    plan_amount = level_amount;
     note(here, EVENT_LEVEL, 0, 0, 0, 0);
 }
 
@@ -718,7 +722,7 @@ static __always_inline void take_level(struct on_cpu *here)
 static __always_inline void give(struct on_cpu *here, u32 row, u64 amount, u64 guarantee)
 {
     struct leaf *leaf = leaf_of(row);
-    u64 level = as_charge(leaf->amount, level_charge, level_amount);
+    u64 level = as_charge(leaf->amount, plan_charge, plan_amount);
     u64 lead = leaf->charged > level ? leaf->charged - level : 0;
 
     /* (a row that had none is owed nothing) */
@@ -727,7 +731,7 @@ static __always_inline void give(struct on_cpu *here, u32 row, u64 amount, u64 g
     bring_up(here, row);
     if (lead > MOST_LEAD_NS)
         lead = MOST_LEAD_NS;
-    leaf->charged = as_charge(amount, level_charge, level_amount) + lead;
+    leaf->charged = as_charge(amount, plan_charge, plan_amount) + lead;
     leaf->amount = amount;
     leaf->guarantee = guarantee;
     note_more(here, EVENT_GIVE, row, 0, amount, 0, guarantee);
@@ -741,7 +745,9 @@ static __noinline int set_back(u32 rows)
 
     find_level();
     by = level_charge / level_amount;
-    greatest_charge -= by * greatest_amount;
+    greatest_charge -= greatest_charge < by * greatest_amount ? greatest_charge
+                                                              : by * greatest_amount;
+    plan_charge -= plan_charge < by * plan_amount ? plan_charge : by * plan_amount;
     bpf_for(row, 0, rows) {
         struct leaf *leaf = leaf_of(row);
         leaf->charged -= leaf->charged < by * leaf->amount ? leaf->charged : by * leaf->amount;

@@ -22,31 +22,43 @@ enum stage {
     CUT,
 };
 
+/* A CPU that has picked a task, and waits for it, looks again where the task does not come. */
+static __always_inline void look_again(struct on_cpu *here, struct task *task)
+{
+    if (task->state == RUNS && task->cpu != here->cpu)
+        here->picked_for = task->cpu;
+}
+
 /* A stage does what it is named for, sets the next one, and returns the row of the leaf that has
  * changed: `NOBODY` if none has. */
 static __always_inline u32 do_leave(struct on_cpu *here)
 {
     struct task *task = task_at(here->about);
 
-    /* (a CPU that has picked it already, since its slice ended, looks again) */
-    if (task->is_passing && task->state == RUNS)
-        here->kick = task->cpu;
+    look_again(here, task);
     leave_leaf(here, here->about, here->runtime);
     here->stage = DONE;
     return task->row;
 }
 
-/* The kernel takes a task back: it waits nowhere, and is counted still. One that was picked for
- * another CPU has used nothing. */
+/* Whether a CPU that has picked a task has not got it yet. */
+static __always_inline bool is_awaited(struct on_cpu *on, u32 number)
+{
+    return on->handed == number || (on->task == number && task_at(number)->is_passing);
+}
+
+/* The kernel takes a task back: it waits nowhere, and is counted still. One that its CPU has not
+ * got yet has used nothing. */
 static __always_inline u32 do_withdraw(struct on_cpu *here)
 {
     struct task *task = task_at(here->about);
+    bool is_due = is_awaited(on_cpu(task->cpu), here->about);
 
     here->stage = DONE;
     task->is_passing = 0;
     if (task->state == QUEUED) {
         take_out(here, here->about);
-    } else if (task->state == RUNS && on_cpu(task->cpu)->handed == here->about) {
+    } else if (task->state == RUNS && is_due) {
         end(here, here->about, 0, true);
         count_waiting(leaf_of(task->row), 1);
         task->state = ARRIVING;
@@ -66,6 +78,7 @@ static __always_inline u32 do_arrive(struct on_cpu *here)
     struct leaf *leaf = leaf_of(here->about_row);
     u32 row = task->row;
 
+    look_again(here, task);
     if (row != here->about_row && task->state != AWAY) {
         leave_leaf(here, here->about, here->runtime);
         return row;
@@ -201,8 +214,12 @@ static __always_inline u32 do_run(struct on_cpu *here, u32 own)
     }
     run(here, number, cpu, here->chosen_due, here->chosen_late);
     here->stage = DONE;
-    if (here->then == RUN || (here->then == CHOOSE && cpu == own))
+    if (here->then == RUN || (here->then == CHOOSE && cpu == own)) {
+        /* (it goes on where it is: the kernel hands nothing over) */
+        if (number == here->about)
+            task_at(number)->is_passing = 0;
         return task_at(number)->row;
+    }
     if (number == here->ended) {
         task_at(number)->is_passing = 0;
     } else if (here->ended) {
@@ -335,10 +352,14 @@ static __always_inline void withdraw(struct on_cpu *here, u32 number)
  * one. */
 static __always_inline bool put_back(struct on_cpu *here, u32 cpu)
 {
-    u32 number = on_cpu(cpu)->handed;
+    struct on_cpu *on = on_cpu(cpu);
+    u32 number = on->handed ? on->handed : on->task;
 
+    if (!is_awaited(on, number))
+        number = 0;
     here->about = number;
-    here->tree = task_at(number)->tree;
+    /* (the tree in which it waited may have another mask by now) */
+    here->tree = task_at(number)->has_mask ? tree_for(number) : task_at(number)->tree;
     here->stage = number ? WITHDRAW : DONE;
     return number;
 }
@@ -395,8 +416,11 @@ static __noinline u32 came(struct on_cpu *here, u32 cpu, u64 wakes)
 {
     struct task *task = task_at(here->about);
 
-    if (task->state == RUNS)
+    if (task->state == RUNS) {
+        /* (it is on its way now) */
+        on_cpu(task->cpu)->handed = 0;
         return task->cpu;
+    }
     here->kick = idle_for(here->about, cpu);
     if (here->kick >= MOST_CPUS && wakes) {
         here->kick = ahead_of(here->about);
@@ -405,9 +429,12 @@ static __noinline u32 came(struct on_cpu *here, u32 cpu, u64 wakes)
     return MOST_CPUS;
 }
 
-/* A task runs that was not picked: it ran already when the scheduler was loaded. */
+/* A task runs that was not picked: it ran already when the scheduler was loaded, or was changed.
+ * One whose slice has ended leaves in a moment, where another one was picked already. */
 static __always_inline void start_on(struct on_cpu *here, u32 number, u32 row, u32 cpu, u64 runtime)
 {
+    if (on_cpu(cpu)->task)
+        return;
     here->about = here->chosen = number;
     here->about_row = row;
     here->runtime = runtime;

@@ -7,7 +7,7 @@ import re
 import shutil
 import subprocess
 from collections.abc import Iterable
-from dataclasses import dataclass, field
+from dataclasses import dataclass, field, replace
 from pathlib import Path
 
 import pytest
@@ -18,7 +18,8 @@ TOP = Path(__file__).resolve().parents[2]
 SOURCE = TOP / "tests/kernel/simulated.c"
 SECONDS = 5
 # Lines of what was seen, beside the steps.
-FOUND = ("used ", "lacks ", "over ", "delay ", "inside ", "task ", "moves ", "switches ", "stalled ")
+FOUND = ("used ", "lacks ", "over ", "delay ", "inside ", "task ", "moves ", "switches ",
+         "stalled ", "lost ", "forbidden ")
 # CPUs, groups, the hundredths of a CPU that each should have, and how far it may be off. Turns of
 # 100 ms begin as long after a tick as the name says. Without a charge at a waking c is 4 short.
 ALWAYS = "0,0,0,-1"
@@ -262,6 +263,26 @@ CASES = {
     "4095 leaves": Case(
         2, (f"a,100000,0,2,{ALWAYS}:g=1000", *(f"a,24,0,1,{ALWAYS}:g=0.244" for _ in range(4094))),
         {1: (100, 0.5)}, {1: 60}, seconds=10, options=("-p", "5000")),
+    # who is changed while it is on its way: the CPU that waits for it looks again
+    "tasks are changed while CPUs wait for them": Case(
+        4, (f"a,100,0,6,{ALWAYS}:g=1000", f"a,100,0,5,{ALWAYS}:g=1000",
+            "w,100,0,4,1000,2000,0,-1:g=1500", "c,1,97", "c,2,211"),
+        lacks={1: 6, 2: 6, 3: 6}, seconds=10, options=("-p", "1000", "-w", "100000")),
+    # the loop itself: a tenth of a CPU beside a crowd in the rest
+    "the loop beside a crowd": Case(
+        2, ("p,2,0,1,20000,980000,0,-1:g=100", f"a,100,0,4000,{ALWAYS}:g=900",
+            f"a,100,0,2,{ALWAYS}:g=1000"), {1: (2, 0.1), 3: (100, 1)}, delay={1: 8},
+        longest={1: 16}),
+    # a loop that hangs: no plan comes
+    "no plan comes, a web server": replace(ROWS["four-web"], options=()),
+    "no plan comes, 400 light groups": Case(
+        4, (f"a,10000,0,4,{ALWAYS}:g=3846.15", *lights(400, 0.3846)), {1: (384.6, 0.5)}, {1: 120},
+        options=()),
+    # a burst: what three periods leave is used in the next one, up to it, and no more
+    **{f"a limit of 20 with a burst of {burst}": Case(
+        2, (f"l,20000,0,{1000 * burst}", "t,100,0,2,90000,210000,5000,-1:g=200:in=1",
+            f"a,100,0,2,{ALWAYS}:g=900"), {1: (part, 0.7)}, inside={1: most})
+       for burst, part, most in ((0, 6.7, 28), (20, 13.3, 48), (50, 20, 68))},
     # limits of groups above leaves
     "four containers of a pod at its limit wake": Case(
         4, ("l,100000,0", *pod(4), "w,300,0,1,2000,8000,0,-1:g=3000"), {5: (20, 0.5)},
@@ -320,6 +341,9 @@ def broken(case: Case, found: dict[str, list[list[int]]]) -> list[str]:
     says += [f"{all_of / case.seconds:.0f} moves a second of row {row}"
              for row, all_of, _ in found.get("moves", [])
              if all_of > case.moves.get(row, math.inf) * case.seconds]
+    says += [f"CPU {cpu} idles for {ns / 10**6:.0f} ms" for cpu, ns in found.get("lost", [])]
+    says += [f"row {row} is on CPU {cpu}, which it may not use"
+             for row, cpu in found.get("forbidden", [])]
     each_second = found["switches"][0][0] / case.seconds / case.cpus
     says += [f"{each_second:.0f} switches a second"] * (0 < case.switches < each_second)
     return says + [f"the watchdog ends it after {ns / 10**9:.1f} s"
@@ -426,6 +450,34 @@ def test_random_hosts(program, seed):
     trace = "".join(line for line in lines if not line.startswith(FOUND))
     replay = outside.Replay(trace)
     assert not replay.found[outside.WRONG], (options, cpus, groups)
+    if traced.DISPATCH.is_file():
+        assert traced.replayed(trace) == f"allowed: {replay.text.count('pick ')} picks"
+
+
+# Hosts in which an interrupt and a task take up to so long from one CPU to another.
+WINDOW = 20000
+SLOW = (*ROWS, "a CPU goes and comes", "CPUs go in turn, with tasks that are bound to them",
+        "two of four CPUs are taken for a moment, again and again",
+        "a real-time task holds a CPU up")
+
+
+@pytest.mark.parametrize("name", SLOW)
+def test_a_task_is_on_its_way_for_a_while(program, name):
+    """No CPU idles while a task waits that it may take, and each group has its part."""
+    case = CASES[name]
+    lines = lines_of(program, ["-q", *case.options, "-w", WINDOW], 1, case.seconds, case.cpus,
+                     case.groups)
+    assert broken(replace(case, delay={}, longest={}), found_in(lines)) == []
+
+
+@pytest.mark.parametrize("seed", [0, 3, 5, 9])
+def test_who_wakes_while_a_plan_is_taken(program, seed):
+    """Leaves keep their leads over the level at which the plan began."""
+    options, cpus, groups = random_host(seed)
+    lines = lines_of(program, [*options, "-w", 50000], seed, 1.5, cpus, groups)
+    trace = "".join(line for line in lines if not line.startswith(FOUND))
+    replay = outside.Replay(trace)
+    assert "-p" in options and not replay.found[outside.WRONG], (options, cpus, groups)
     if traced.DISPATCH.is_file():
         assert traced.replayed(trace) == f"allowed: {replay.text.count('pick ')} picks"
 

@@ -1,7 +1,7 @@
 /* The scheduler's rule, queues and sections (rule.h, queues.h, sections.h of scheduler/), compiled for
    this machine, over a model of CPUs with ticks and of tasks that work, sleep and wake.
 
-       simulated [-q] [-p MS] [-j PERCENT] [-o US] SEED MS CPUS GROUP..
+       simulated [-q] [-p MS] [-j PERCENT] [-o US] [-w NS] SEED MS CPUS GROUP..
 
    A GROUP is `KIND,AMOUNT,LIMIT_US,TASKS,ON_US,OFF_US,PHASE_US,CPU` and words behind colons: the
    next row. Its tasks always want (`a`), work for ON_US of a CPU and sleep for OFF_US (`w`), do so
@@ -9,13 +9,17 @@
    Or they work for ON_US of each such period, and what it did not serve is dropped (`p`).
    They keep to a CPU, to the CPUs of a mask (`mHEX`), or to none if it is -1. The limit is in 100
    ms, 0 for none. Words are `g=` the guarantee in thousandths of a CPU, `nice=`, and `in=`: the
-   group with a limit that it is in. Such a one is `l,LIMIT_US,IN`, the first of them number 1.
+   group with a limit that it is in. Such a one is `l,LIMIT_US,IN,BURST_US`, the first of them
+   number 1.
    A GROUP that begins with `+` has more tasks of the row before. `r,CPU,ON_US,OFF_US` is a real-time
    task: it has a CPU for ON_US, after OFF_US without it, and so on. By `h,CPU,ON_US,OFF_US` the CPU
-   goes for ON_US, and comes back.
+   goes for ON_US, and comes back. By `c,ROW,US` the kernel takes a task of the row back each US, as
+   where somebody sets its niceness.
 
    -q tells no steps; -p gives a plan each MS, of amounts that are up to -j PERCENT off; -o holds the
-   end of each slice up by up to US, as work of the kernel does.
+   end of each slice up by up to US, as work of the kernel does. By -w the kernel hands a task over
+   up to NS after its slice has ended, an interrupt takes as much longer, and a plan is taken row by
+   row, as long after one another. Others act meanwhile.
 
    Prints the steps as `arbiter-scheduler --trace` does. Then of each row `used ROW NS`, `lacks ROW
    NS`: the most that a window lacked of the guarantee, or of a CPU for each task that wants;
@@ -23,7 +27,9 @@
    woke waited, and 99 of 100. `inside GROUP NS NS` has the use and the excess of a group with a
    limit, `task ROW AT NS` the use of a task. `moves ROW ALL MOST` is how often tasks of a row were
    moved to another CPU, and the most that one was; `switches COUNT` how often a CPU took another task
-   than it had last. `stalled ROW NS` is the end by the kernel's watchdog.
+   than it had last. `lost CPU NS` is how long a CPU idled while a task waited that it may take, by
+   ticks. `stalled ROW NS` is the end by the kernel's watchdog; it ends a scheduler also for
+   `forbidden ROW CPU`, a task on a CPU that it may not use.
  */
 #define _GNU_SOURCE
 #include <stdbool.h>
@@ -88,6 +94,13 @@ struct core {
     struct job *job, *last;
     s64 slice;
     u64 since, tick, kick;
+    /* The job that leaves it still, when the kernel hands that over, and the number that it took.
+     */
+    struct job *leaving;
+    u64 leaves_at;
+    u32 taken;
+    /* How long it idled while a task waited that it may take.  */
+    u64 lost;
     /* Whether a real-time task has it, or it has gone, and when that changes; how long it is so, and
        is not.  */
     bool is_taken, goes;
@@ -101,7 +114,9 @@ struct window {
 
 /* A row, or a group with a limit, as it was asked for, and what was seen of it.  */
 struct seen {
-    u64 amount, limit, used;
+    u64 amount, limit, burst, used;
+    /* How often the kernel takes a task of it back, and when that is next.  */
+    u64 changes_each, changes_at;
     /* The group that it is in; 0 for none. The number of the nearest limit.  */
     u32 in, budget;
     s32 wants;
@@ -118,8 +133,11 @@ static u32 job_count, core_count, row_count = 1, group_count = 1, budget_count =
 static struct job *unnumbered[MOST_JOBS];
 static u32 first_unnumbered, unnumbered_count;
 static u64 now, counted, seed, first_wake = NONE, first_due = NONE, switches;
-/* The options -p, -j, -o.  */
-static u64 plan_every = NONE, jitter, overrun;
+/* The options -p, -j, -o, -w.  */
+static u64 plan_every = NONE, jitter, overrun, window;
+/* The next row of a plan that is taken row by row, and when that is.  */
+static u32 plan_row;
+static u64 plan_at = NONE;
 
 static u64 chance(u64 below) {
     seed = seed * 6364136223846793005ULL + 1442695040888963407ULL;
@@ -161,8 +179,10 @@ static void tell_steps(struct on_cpu *here) {
 
 /* A CPU looks for another task, soon.  */
 static void kick(u32 cpu) {
-    if (now + SIGNAL < cores[cpu].kick)
-        cores[cpu].kick = now + SIGNAL;
+    u64 at = now + SIGNAL + (window ? chance(window) : 0);
+
+    if (at < cores[cpu].kick)
+        cores[cpu].kick = at;
 }
 
 /* A CPU that another one noted has to look.  */
@@ -187,10 +207,17 @@ static void note_delay(struct job *job) {
     job->woke = 0;
 }
 
+/* Whether a task may use a CPU.  */
+static bool may_use(struct job *job, u32 cpu) {
+    return job->mask ? job->mask >> cpu & 1 : !job->is_bound || job->cpu == cpu;
+}
+
 /* A task is on a CPU for a slice.  */
 static void set_on_for(u32 cpu, struct job *job, u64 slice) {
     struct core *core = &cores[cpu];
 
+    if (!may_use(job, cpu))
+        printf("forbidden %u %u\n", job->row, cpu);
     note_delay(job);
     job->moves += job->cpu != cpu;
     switches += core->last != job;
@@ -230,6 +257,22 @@ static bool take_unplanned(u32 cpu) {
     return true;
 }
 
+static void enqueue(struct job *job, u32 cpu, bool wakes);
+
+/* A CPU gets the task that it picked, or that was picked for it. One that it has still waits.  */
+static void deliver(struct job *job, u32 cpu) {
+    struct core *core = &cores[cpu];
+    struct job *last = core->job;
+
+    if (core->leaving) {
+        core->taken = job->number;
+        return;
+    }
+    set_on(cpu, job);
+    if (last && last != job)
+        enqueue(last, cpu, false);
+}
+
 /* As plan_enqueue.  */
 static void enqueue(struct job *job, u32 cpu, bool wakes) {
     struct on_cpu *here = on_cpu(cpu);
@@ -247,7 +290,7 @@ static void enqueue(struct job *job, u32 cpu, bool wakes) {
     found = came(here, job->cpu, wakes);
     tell_steps(here);
     if (found < MOST_CPUS)
-        set_on(found, job);
+        deliver(job, found);
     else
         kick_noted(here);
 }
@@ -272,12 +315,39 @@ static void dispatch(u32 cpu, bool goes) {
     tell_steps(on);
     kick_noted(on);
     core->job = NULL;
+    if (window && before && found != before) {
+        last->way = READY;
+        last->ready = now;
+        core->leaving = last;
+        core->leaves_at = now + 1 + chance(window);
+        core->taken = found;
+        return;
+    }
     if (goes && (found != before || !before))
         enqueue(last, cpu, false);
-    if (found && !task_at(found)->is_passing)
+    if (found && (found == before || !task_at(found)->is_passing))
         set_on(cpu, &jobs[found - 1]);
     else if (!found)
         take_unplanned(cpu);
+}
+
+/* The kernel hands a task over whose slice has ended, and the CPU gets the one that it took. Where
+   that was taken back meanwhile it looks again.  */
+static void end_leaving(u32 cpu) {
+    struct core *core = &cores[cpu];
+    struct job *last = core->leaving;
+    struct task *taken = task_at(core->taken);
+
+    core->leaving = NULL;
+    enqueue(last, cpu, false);
+    if (core->job || core->is_taken)
+        return;
+    if (!core->taken)
+        take_unplanned(cpu);
+    else if (taken->state != RUNS || taken->cpu != cpu)
+        kick(cpu);
+    else if (!taken->is_passing)
+        set_on(cpu, &jobs[core->taken - 1]);
 }
 
 /* Where a task of turns is in its turn.  */
@@ -402,28 +472,47 @@ static bool is_stalled(void) {
     return false;
 }
 
-/* As `take_plan`: each row's amount, up to `jitter` hundredths off, and guarantee.  */
-static void give_plan(void) {
-    struct on_cpu *here = on_cpu(0);
+/* What is no call of the kernel's scheduler has places of its own for its notes.  */
+static struct on_cpu of_plan, of_change;
 
+/* A row's amount, up to `jitter` hundredths off, and guarantee.  */
+static void give_row(u32 row) {
+    struct seen *each = &rows_seen[row];
+    struct given given = { .amount = each->amount * (100 - jitter + chance(2 * jitter + 1)) / 100,
+                           .guarantee = each->guarantee * ONE_CPU, .budget = each->budget };
+
+    play_leaf(take_given(&of_plan, &given, row));
+    tell_steps(&of_plan);
+}
+
+/* As `take_plan`: where there is a window one row after another, else all at once.  */
+static void give_plan(void) {
     pass(now);
-    take_level(here);
-    for (u32 row = 0; row < row_count; row++) {
-        struct seen *each = &rows_seen[row];
-        struct given given = { .amount = each->amount * (100 - jitter + chance(2 * jitter + 1)) / 100,
-                               .guarantee = each->guarantee * ONE_CPU, .budget = each->budget };
-        play_leaf(take_given(here, &given, row));
-        tell_steps(here);
+    for (; plan_row < row_count; plan_row++) {
+        if (plan_row == 0)
+            take_level(&of_plan);
+        give_row(plan_row);
+        plan_at = now + 1 + chance(window + 1);
+        if (window && plan_row + 1 < row_count) {
+            plan_row++;
+            return;
+        }
     }
     find_greatest(row_count);
+    plan_row = 0;
+    plan_at = NONE;
 }
 
 static u64 next_event(u64 beat) {
     u64 next = beat < first_wake ? beat : first_wake;
     next = first_due < next ? first_due : next;
+    next = plan_at < next ? plan_at : next;
+    for (u32 row = 0; row < row_count; row++)
+        next = rows_seen[row].changes_at < next ? rows_seen[row].changes_at : next;
     for (u32 cpu = 0; cpu < core_count; cpu++) {
         struct core *core = &cores[cpu];
-        u64 kick = core->is_taken ? NONE : core->kick;
+        u64 kick = core->is_taken || core->leaving ? NONE : core->kick;
+        next = core->leaving && core->leaves_at < next ? core->leaves_at : next;
         u64 ends = ends_at(core), first = core->tick < kick ? core->tick : kick;
         first = ends < first ? ends : first;
         first = core->changes < first ? core->changes : first;
@@ -480,12 +569,33 @@ static void wake_jobs(void) {
     }
 }
 
+/* Whether a task waits that a CPU may take, for a moment already.  */
+static bool is_lacking(u32 cpu) {
+    for (u32 at = 0; at < job_count; at++) {
+        struct job *job = &jobs[at];
+        struct leaf *leaf = leaf_of(job->row);
+        if (job->way == READY && job->number && now > job->ready + MILLI && may_use(job, cpu)
+            && !leaf->is_aside && !spent_above(leaf))
+            return true;
+    }
+    return false;
+}
+
+/* Notes at a tick whether a CPU idles while a task waits that it may take.  */
+static void note_lost(u32 cpu) {
+    struct core *core = &cores[cpu];
+
+    if (!core->job && !core->is_taken && !core->leaving && core->kick == NONE && is_lacking(cpu))
+        core->lost += TICK;
+}
+
 static void ticks(void) {
     for (u32 cpu = 0; cpu < core_count; cpu++) {
         struct core *core = &cores[cpu];
         if (core->tick > now)
             continue;
         core->tick += TICK;
+        note_lost(cpu);
         if (!core->job || core->slice > 0)
             continue;
         if (overrun && core->kick == NONE)
@@ -515,6 +625,51 @@ static void dequeue(struct job *job) {
     tell_steps(here);
 }
 
+/* The kernel takes a task back and gives it again, to change it. One that a CPU has goes on there.
+   */
+static void change(struct job *job, u32 by) {
+    struct on_cpu *here = on_cpu(by);
+    u32 cpu = job->cpu;
+
+    if (job->way == READY && cores[cpu].leaving != job) {
+        dequeue(job);
+        enqueue(job, by, false);
+        return;
+    }
+    begin(here, by, now);
+    come(here, job->number, job->row, tree_of(job), job->runtime);
+    work(here, by);
+    if (came(here, cpu, false) >= MOST_CPUS) {
+        kick_noted(here);
+        dequeue(job);
+    }
+    tell_steps(here);
+    if (task_at(job->number)->state == RUNS || task_at(job->number)->is_passing)
+        return;
+    begin(on_cpu(cpu), cpu, now);
+    start_on(on_cpu(cpu), job->number, job->row, cpu, job->runtime);
+    work(on_cpu(cpu), cpu);
+    tell_steps(on_cpu(cpu));
+}
+
+/* A task of a row is changed, if one wants to run.  */
+static void change_jobs(void) {
+    for (u32 row = 0; row < row_count; row++) {
+        struct seen *each = &rows_seen[row];
+        u32 from = chance(job_count);
+        if (each->changes_at > now)
+            continue;
+        each->changes_at += each->changes_each;
+        for (u32 at = 0; at < job_count; at++) {
+            struct job *job = &jobs[(from + at) % job_count];
+            if (job->row != row || job->way == ASLEEP || !job->number)
+                continue;
+            change(job, chance(core_count));
+            break;
+        }
+    }
+}
+
 /* Tasks that may run on no CPU any more may run on each: so the kernel does.  */
 static void free_jobs(void) {
     u64 there = 0;
@@ -537,8 +692,6 @@ static void free_jobs(void) {
 
 /* As plan_cpu_offline.  */
 static void go_away(u32 cpu) {
-    static struct on_cpu of_change;
-
     for (;;) {
         begin(&of_change, cpu, now);
         if (!go(&of_change, cpu))
@@ -562,15 +715,18 @@ static void release(u32 cpu) {
 static void take_cores(void) {
     for (u32 cpu = 0; cpu < core_count; cpu++) {
         struct core *core = &cores[cpu];
-        struct job *job = core->job;
+        struct job *job;
         if (core->changes > now)
             continue;
+        if (core->leaving)
+            end_leaving(cpu);
         core->is_taken = !core->is_taken;
         core->changes += core->is_taken ? core->on : core->off;
         if (!core->is_taken) {
             kick(cpu);
             continue;
         }
+        job = core->job;
         if (core->goes)
             go_away(cpu);
         else
@@ -587,9 +743,11 @@ static void run_cores(void) {
         struct core *core = &cores[cpu];
         if (core->is_taken)
             continue;
+        if (core->leaving && core->leaves_at <= now)
+            end_leaving(cpu);
         if (ends_at(core) <= now)
             end_work(cpu);
-        if (core->kick > now)
+        if (core->kick > now || core->leaving)
             continue;
         core->kick = NONE;
         if (!core->job || core->slice <= 0)
@@ -603,10 +761,11 @@ static void simulate(u64 until) {
     while ((now = next_event(beat < plan ? beat : plan)) < until) {
         bool is_tick_first = chance(2);
         count();
-        if (now >= plan) {
+        if (now >= plan || plan_at <= now) {
+            plan += now >= plan ? plan_every : 0;
             give_plan();
-            plan += plan_every;
         }
+        change_jobs();
         if (is_tick_first)
             ticks();
         renew_jobs();
@@ -637,6 +796,8 @@ static bool read_words(char *words, struct seen *row, int *nice) {
             row->guarantee = strtod(value, NULL) / 1000;
         else if (strcmp(word, "in") == 0)
             row->in = atoi(value);
+        else if (strcmp(word, "burst") == 0)
+            row->burst = strtoull(value, NULL, 10) * MICRO;
         else if (strcmp(word, "nice") == 0)
             *nice = atoi(value);
         else
@@ -654,13 +815,25 @@ static u64 weight_of(int nice) {
 }
 
 static bool add_limited(const char *text) {
-    unsigned long long limit;
+    unsigned long long limit, burst = 0;
     u32 in;
 
-    if (sscanf(text, "l,%llu,%u", &limit, &in) != 2 || group_count == MOST_GROUPS)
+    if (sscanf(text, "l,%llu,%u,%llu", &limit, &in, &burst) < 2 || group_count == MOST_GROUPS)
         return false;
     groups_seen[group_count].limit = limit * MICRO;
+    groups_seen[group_count].burst = burst * MICRO;
     groups_seen[group_count++].in = in;
+    return true;
+}
+
+/* A row whose tasks are changed.  */
+static bool add_changes(const char *text) {
+    unsigned long long each;
+    u32 row;
+
+    if (sscanf(text, "c,%u,%llu", &row, &each) != 2 || row >= row_count || !each)
+        return false;
+    rows_seen[row].changes_each = rows_seen[row].changes_at = each * MICRO;
     return true;
 }
 
@@ -714,6 +887,8 @@ static bool add_group(char *text) {
         return add_limited(text);
     if (*text == 'r' || *text == 'h')
         return add_taker(text);
+    if (*text == 'c')
+        return add_changes(text);
     if (colon)
         *colon++ = 0;
     if (sscanf(text + is_more, "%c,%llu,%llu,%llu,%llu,%llu,%llu,%31s", &kind, &amount, &limit,
@@ -721,7 +896,8 @@ static bool add_group(char *text) {
         || job_count + tasks > MOST_JOBS || row == MOST_ROWS)
         return false;
     if (!is_more)
-        rows_seen[row] = (struct seen){ .amount = amount, .limit = limit * MICRO };
+        rows_seen[row] = (struct seen){ .amount = amount, .limit = limit * MICRO,
+                                        .changes_at = NONE };
     if (colon && !read_words(colon, &rows_seen[row], &nice))
         return false;
     model.kind = kind;
@@ -781,12 +957,16 @@ static void tell_found(void) {
     for (u32 row = 1; row < row_count && job_count <= MOST_TOLD; row++)
         tell_moves(row);
     printf("switches %llu\n", (unsigned long long)switches);
+    for (u32 cpu = 0; cpu < core_count; cpu++)
+        if (cores[cpu].lost)
+            printf("lost %u %llu\n", cpu, (unsigned long long)cores[cpu].lost);
 }
 
 /* The numbers of groups with a limit, and of leaves: those above first.  */
 static void set_budgets(void) {
     for (u32 group = 1; group < group_count; group++)
         budgets[budget_count++] = (struct budget){ .limit_ns = groups_seen[group].limit,
+                                                   .burst_ns = groups_seen[group].burst,
                                                    .left_ns = groups_seen[group].limit,
                                                    .above = groups_seen[group].in };
     for (u32 row = 0; row < row_count; row++) {
@@ -795,7 +975,7 @@ static void set_budgets(void) {
         if (!each->limit)
             continue;
         budgets[budget_count] = (struct budget){ .limit_ns = each->limit, .left_ns = each->limit,
-                                                 .above = each->in };
+                                                 .burst_ns = each->burst, .above = each->in };
         each->budget = budget_count++;
     }
 }
@@ -803,19 +983,21 @@ static void set_budgets(void) {
 /* The first plan: no step of the trace, whose head has it.  */
 static void give_first(void) {
     u64 off = jitter;
+    u64 length = window;
     bool is_told = has_trace;
 
-    jitter = 0;
+    jitter = window = 0;
     has_trace = false;
     give_plan();
     has_trace = is_told;
     jitter = off;
+    window = length;
 }
 
 /* Sets the options. Returns the first word after them; 0 if one is unknown.  */
 static int set_options(int count_of_words, char **words) {
     has_trace = true;
-    for (int option; (option = getopt(count_of_words, words, "+qp:j:o:")) >= 0;) {
+    for (int option; (option = getopt(count_of_words, words, "+qp:j:o:w:")) >= 0;) {
         if (option == 'q')
             has_trace = false;
         else if (option == 'p')
@@ -824,6 +1006,8 @@ static int set_options(int count_of_words, char **words) {
             jitter = strtoull(optarg, NULL, 10);
         else if (option == 'o')
             overrun = strtoull(optarg, NULL, 10) * MICRO;
+        else if (option == 'w')
+            window = strtoull(optarg, NULL, 10);
         else
             return 0;
     }
@@ -844,6 +1028,7 @@ int main(int count_of_words, char **words) {
     cpus_there = core_count;
     clear_trees();
     rows_seen[0].amount = 1;
+    rows_seen[0].changes_at = NONE;
     for (u32 cpu = 0; cpu < core_count; cpu++) {
         cores[cpu] = (struct core){ .tick = TICK + cpu * MICRO, .kick = NONE, .changes = NONE };
         set_idle(on_cpu(cpu), true);
