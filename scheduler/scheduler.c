@@ -72,10 +72,13 @@ struct row {
     struct leaf read;
 };
 
-/* A group with a limit as the last plan had it. */
+/* A group with a limit as the last plan had it: the number of the limit that binds, its own or one
+ * above, and how many such limits are above one another up to it. */
 struct limited_group {
     u64 group;
     u64 plan;
+    u32 number;
+    u32 nested;
 };
 
 static struct plan *program;
@@ -230,7 +233,7 @@ static u32 limit_of(u64 group)
 {
     for (u32 at = 1; group && at < limit_count; at++)
         if (limited[at].group == group && limited[at].plan == plans)
-            return at;
+            return limited[at].number;
     return 0;
 }
 
@@ -250,8 +253,24 @@ static u32 new_limit(u64 group)
         fail("more than %d limits", MOST_BUDGETS - 1);
     if (!found)
         found = limit_count++;
-    limited[found] = (struct limited_group){ group, plans };
+    limited[found] = (struct limited_group){ .group = group, .plan = plans };
     return found;
+}
+
+/* A group's limit. The kernel's part goes up so many limits: those further below are left out, or
+ * who makes groups in groups would leave the limits above. */
+static void set_limit(u64 group, u64 limit, u64 burst, u64 above)
+{
+    u32 at = new_limit(group), number = limit_of(above);
+    u32 nested = number ? limited[number].nested : 0;
+    bool is_kept = nested < MOST_NESTED;
+    limited[at].number = is_kept ? at : number;
+    limited[at].nested = nested + is_kept;
+    program->bss->limits[at] = (struct limited){ 0 };
+    if (is_kept)
+        program->bss->limits[at] = (struct limited){ .limit_ns = limit ? limit : 1,
+                                 .burst_ns = burst,
+                                 .above = number };
 }
 
 /* The limits of the last plan that are in none now: their numbers are free. */
@@ -264,14 +283,15 @@ static void drop_old_limits(void)
         }
 }
 
-/* The leaves of the last plan that are in none now: their rows are free. */
+/* The leaves of the last plan that are in none now: their rows are free, and have no guarantee.
+ * Tasks that wait there have its amount still. */
 static bool drop_old(void)
 {
     bool has_dropped = false;
     for (u32 row = 1; row < rows; row++)
         if (table[row].group && table[row].plan != plans) {
             bpf_map_delete_elem(bpf_map__fd(program->maps.rows_of_groups), &table[row].group);
-            table[row].group = 0;
+            table[row].group = table[row].plan = 0;
             program->bss->given[row] = (struct given){ .amount = 1 };
             has_dropped = true;
         }
@@ -279,15 +299,20 @@ static bool drop_old(void)
 }
 
 /* Guarantees of leaves are slices of the plan. They are made parts of a CPU, so that all CPUs are those
- * of the plan and of the rest together. */
+ * of the plan and of the rest together. The loader's own is of the rest's, and what that lacks of the
+ * plan's: all add up to the CPUs at most. */
 static void give_guarantees(u64 slices)
 {
-    u64 cpus = sysconf(_SC_NPROCESSORS_ONLN), whole = slices + program->bss->given[0].guarantee;
-    for (u32 row = 0; row < rows && whole; row++) {
+    u64 all = sysconf(_SC_NPROCESSORS_ONLN) * ONE_CPU;
+    u64 whole = slices + program->bss->given[0].guarantee;
+    u64 rest = whole ? all * program->bss->given[0].guarantee / whole : 0;
+    u64 own = own_group ? OWN_GUARANTEE : 0, lacks = own > rest ? own - rest : 0;
+    for (u32 row = 1; row < rows; row++) {
         struct given *each = &program->bss->given[row];
-        if (!row || (table[row].plan == plans && table[row].group != own_group))
-            each->guarantee = each->guarantee * cpus * ONE_CPU / whole;
+        if (slices && table[row].plan == plans && table[row].group != own_group)
+            each->guarantee = each->guarantee * (all - rest - lacks) / slices;
     }
+    program->bss->given[0].guarantee = own > rest ? 0 : rest - own;
 }
 
 /* A leaf of this program's own group, so that no crowd beside it keeps plans back. */
@@ -439,11 +464,7 @@ static void obey(char *line)
         u64 group = number(strsep(&rest, " "), ~0ULL);
         u64 limit = number(strsep(&rest, " "), LIMIT_PERIOD_NS * MOST_CPUS);
         u64 burst = number(strsep(&rest, " "), LIMIT_PERIOD_NS * MOST_CPUS);
-        u64 above = number(rest, ~0ULL);
-        u32 at = new_limit(group);
-        program->bss->limits[at] = (struct limited){ .limit_ns = limit ? limit : 1,
-                                 .burst_ns = burst,
-                                 .above = limit_of(above) };
+        set_limit(group, limit, burst, number(rest, ~0ULL));
     } else if (strcmp(word, "end") == 0 && is_open) {
         is_open = false;
         take_plan(slices, is_new);

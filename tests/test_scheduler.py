@@ -5,6 +5,7 @@ A guest that runs it is in bench/kernel/test_scheduled.py.
 import os
 import shutil
 import subprocess
+from collections import Counter
 from pathlib import Path
 
 import pytest
@@ -143,3 +144,83 @@ def test_a_build_with_old_tools(tools, tmp_path):
                            env={**os.environ, **tools})
     assert (found.returncode, found.stdout, made.exists()) == (0, "", False)
     assert found.stderr.startswith("build: no arbiter-scheduler: clang 9.0 is older than 14.0: ")
+
+
+ONE_CPU = 1 << 20
+# Headers of libbpf and the skeleton, in place of which tests/kernel/loaded.c has functions.
+EMPTY = ("bpf/bpf.h", "bpf/libbpf.h", "plan.skel.h")
+
+
+@pytest.fixture(scope="module", name="given")
+def given_by(tmp_path_factory):
+    """What the loader would give the kernel's part for some plans, without a kernel: of each the
+    rows by group, less than 0 for a free one, the limits, and the version of the tree."""
+    if not shutil.which("gcc"):
+        pytest.skip("no gcc")
+    folder = tmp_path_factory.mktemp("loaded")
+    for name in EMPTY:
+        (folder / name).parent.mkdir(exist_ok=True)
+        (folder / name).touch()
+    subprocess.run(["gcc", "-O2", "-Wall", "-Wextra", "-Werror", f"-I{ROOT / 'scheduler'}",
+                    f"-I{folder}", "-o", folder / "loaded", ROOT / "tests/kernel/loaded.c"],
+                   check=True, timeout=300)
+
+    def give(cpus, own, *plans):
+        text = "\n".join(line for plan in plans for line in (f"plan {100 * cpus}", *plan, "end"))
+        said = subprocess.run([folder / "loaded", str(cpus), str(own)], input=f"{text}\n",
+                              check=True, capture_output=True, text=True, timeout=60).stdout
+        found = []
+        for name, *numbers in map(str.split, said.splitlines()):
+            if name == "plan":
+                found.append(({}, {}, []))
+            elif name == "given":
+                row, group, *rest = map(int, numbers)
+                found[-1][0][group or -row] = rest
+            elif name == "limited":
+                found[-1][1][int(numbers[0])] = tuple(map(int, numbers[1:]))
+            else:
+                found[-1][2].append(int(numbers[0]))
+        return [(rows, limits, version) for rows, limits, (version,) in found]
+
+    return give
+
+
+def test_a_group_that_gets_a_free_row_is_looked_for(given):
+    """Tasks of a group that came were counted in the group above it, where its row had been that of
+    a group that went one plan before."""
+    one, two = "leaf 11 100 100 0", "leaf 12 100 100 0"
+    versions = [version for *_, version in given(2, 0, [one, two], [two], [two],
+                                                 [two, "leaf 13 100 100 0"])]
+    assert versions[1] == versions[2] and versions[0] < versions[1] < versions[3]
+
+
+@pytest.mark.parametrize("own", [0, 9])
+def test_guarantees_are_no_more_than_the_cpus(given, own):
+    """The loader's own guarantee is none beside these, and a group that went has none. (It had a
+    thousand times as much in each plan.)"""
+    one, two = "leaf 11 100 100 0", "leaf 12 300 300 0"
+    for rows, _, _ in given(4, own, [one, two], [two], [two], [two]):
+        guarantees = [guarantee for _, guarantee, _ in rows.values()]
+        assert 3 * ONE_CPU - ONE_CPU // 10 <= sum(guarantees) <= 4 * ONE_CPU
+        assert not own or rows[own][1] == ONE_CPU // 10
+
+
+def test_limits_of_groups_in_groups(given):
+    """The kernel's part looks at 16 limits from a leaf up. Of 20 in one another those at the top
+    are kept, or a tenant who makes groups in groups left the owner's."""
+    chain = [f"limit {at} {1000 * at} 0 {at - 1}" for at in range(1, 21)]
+    (rows, limits, _), = given(4, 0, [*chain, "leaf 50 100 100 20", "leaf 51 100 100 3"])
+    for group, wanted in ((50, range(1, 17)), (51, range(1, 4))):
+        at, found = rows[group][2], Counter[int]()
+        while at:
+            found[limits[at][0] // 1000] += 1
+            at = limits[at][2]
+        assert found == Counter(wanted)
+
+
+def test_a_limit_that_went_binds_nobody(given):
+    """Its number has none until another group gets it."""
+    bound, free = ["limit 7 5000 2000 0", "leaf 11 100 100 7"], ["leaf 11 100 100 0"]
+    found = given(2, 0, bound, free, ["limit 8 6000 0 0", "leaf 11 100 100 8"])
+    assert [limits[1] for _, limits, _ in found] == [(5000, 2000, 0), (0, 0, 0), (6000, 0, 0)]
+    assert [rows[11][2] for rows, *_ in found] == [1, 0, 1]
