@@ -29,7 +29,8 @@ char _license[] SEC("license") = "GPL";
 /* The compiler tells a type whole only if there is one. */
 struct cpumask no_cpus SEC(".bss.types") __attribute__((visibility("hidden")));
 
-/* Levels of groups that are looked at from a task's group up. */
+/* Of the groups above a task's group the levels that are looked at: those next to the root, or who
+ * makes groups in groups would leave its row. */
 #define MOST_DEPTH 64
 /* A number that is given again is the first of a list. */
 GUARDED u32 first_free, numbers;
@@ -151,17 +152,18 @@ static __noinline u32 row_of_group(struct cgroup *group)
 {
     struct place *known = bpf_cgrp_storage_get(&places, group, 0, 0);
     u32 now = tree, found = 0, level;
-    int top = group->level;
+    int top = group->level, most = top < MOST_DEPTH ? top : MOST_DEPTH;
 
     if (known && known->tree == now)
         return known->row;
-    bpf_for(level, 0, MOST_DEPTH) {
+    bpf_for(level, 0, MOST_DEPTH + 1) {
+        int at = level ? most - (int)level : top;
         struct cgroup *above;
         u64 number;
         u32 *row;
-        if ((int)level > top)
+        if (at < 0)
             break;
-        above = bpf_cgroup_ancestor(group, top - (int)level);
+        above = bpf_cgroup_ancestor(group, at);
         if (!above)
             break;
         number = BPF_CORE_READ(above, kn, id);
