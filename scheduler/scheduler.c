@@ -292,7 +292,7 @@ static bool drop_old(void)
         if (table[row].group && table[row].plan != plans) {
             bpf_map_delete_elem(bpf_map__fd(program->maps.rows_of_groups), &table[row].group);
             table[row].group = table[row].plan = 0;
-            program->bss->given[row] = (struct given){ .amount = 1 };
+            program->bss->given[row].guarantee = 0;
             has_dropped = true;
         }
     return has_dropped;
