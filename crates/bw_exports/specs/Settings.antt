@@ -19,7 +19,7 @@ setting_number (Least number) = number
 setting_number NoNumber = NO_LIMIT
 setting_number Untold = NO_LIMIT
 
--- what an owner sets for a goal of a group on whose way the weights follow
+-- the setting of an owner for a goal of a group on whose way the weights follow
 pub record IsSettingOf (groups : Groups) (follows : Follows) (group amount first last : ℕ)
     (setting : Setting) : Type 0 where
   pub within : group < length groups.rows

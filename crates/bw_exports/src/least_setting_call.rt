@@ -29,7 +29,7 @@ fn setting_number(setting: Setting) -> u64
     }
 }
 
-// What an owner sets for a goal of a group of an instance.
+// The setting of an owner for a goal of a group of an instance.
 fn setting_in(
     alloc: Global,
     instance: &Instance,

@@ -6,15 +6,15 @@ use Rattle.bw_owned.specs.declared.judged.TheConstants.{JUDGED_ROUNDS}
 use Rattle.bw_owned.specs.declared.release.LetGoReason.{LetGoReason}
 use Rattle.bw_owned.specs.declared.release.LetGoReason.TheVariants.{Nothing, Swings, Losses, Guesses}
 
--- what a group counts for: its slices, and one at least
+-- the slices that a group counts for: its own, and one at least
 abbrev pub counted : ℕ → ℕ
 counted slices = max slices 1
 
--- what a group counts for if it goes
+-- those that it counts for if it goes, else 0
 abbrev pub counted_gone : List ℕ → List ℕ → ℕ → ℕ
 counted_gone slices go k = if slice_index go k == 0 then 0 else counted (slice_index slices k)
 
--- what the groups that go count for together
+-- those of all groups that go
 abbrev pub gone : List ℕ → List ℕ → ℕ
 gone slices go = sum_by (counted_gone slices go) (range_with_len 0 (length slices))
 

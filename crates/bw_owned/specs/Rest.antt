@@ -1,4 +1,4 @@
--- What the rest of a host is given beside a plan, by weights.
+-- Shares of the rest of a host beside a plan, by weights.
 use Rattle.std.specs.Prelude.{◌≡◌, ℕ, zero, suc, ◌+◌, ◌-◌, ◌*◌, ◌==◌, List, length, slice_index}
 use Rattle.std.specs.Prelude.{min, max, if◌then◌else◌}
 use Rattle.std.specs.Int.{div_ceil}

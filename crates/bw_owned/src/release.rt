@@ -32,7 +32,7 @@ impl LetGoReason {
     }
 }
 
-// What a group counts for: its slices, and one at least.
+// The slices that a group counts for: its own, and one at least.
 fn counted(slices: u64) -> u128
     ensures { result ≡ counted slices }
 {

@@ -1,4 +1,4 @@
-//! What the rest of a host is given beside a plan, by weights.
+//! Shares of the rest of a host beside a plan, by weights.
 ghost use Rattle.std.specs.Prelude.{◌≡◌, ◌+◌, ◌*◌, ◌^◌, ◌<◌, ◌≤◌, length, slice_index, min};
 ghost use Rattle.bw_owned.specs.Rest.{root_weight, weight_beside, beside, IsRestShare};
 
@@ -8,12 +8,12 @@ pub const MOST_TOLD: u64 = 1_000_000_000;
 /// Weight of the tasks of a host's root, which are one group beside the others.
 pub const ROOT_WEIGHT: u64 = 100;
 
-/// What the rest of a host is given beside a plan, in slices.
+/// The share of the rest of a host beside a plan, in slices.
 #[derive(Clone, Copy, Debug, PartialEq, Eq)]
 pub struct RestShare {
-    /// What it has of what all have.
+    /// Its amount, beside those of the leaves of the plan.
     pub amount: u64,
-    /// What it has at least, beside the slices of the planned groups.
+    /// Its guarantee, beside the slices of the planned groups.
     pub guarantee: u64,
 }
 
@@ -56,7 +56,7 @@ fn above(own: u64, others: u128, slices: u64) -> u64
     all.min(u128::from(MOST_TOLD)) as u64
 }
 
-/// What the rest of a host is given beside a plan of so many slices, from weights up the tree.
+/// The share of the rest of a host beside a plan of so many slices, from weights up the tree.
 ///
 /// `own` has the weight of the planned groups' top, then of each group above it but the root, and
 /// `others` those of the groups beside each. 0 in `own` is an idle group, and counts as 1. Tasks of
