@@ -58,7 +58,7 @@ fn setting_in(
     }
 }
 
-// What an owner sets for a goal of a group of a host and its rows.
+// The setting of an owner for a goal of a group of a host and its rows.
 fn setting_of(
     alloc: Global,
     fit: bool,

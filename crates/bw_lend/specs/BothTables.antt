@@ -180,7 +180,7 @@ module _ {M C R : Type 0} where
   BothLeadInRounds b (r ∷ rs) c =
       (m : Both M C R) × BothLead b r m × IsRoundOfBoth b r × BothLeadInRounds m rs c
 
-  -- the same of accesses
+  -- a round of accesses: at least one of each seat that is not still
   abbrev pub IsRoundOfAccesses : Both M C R → List BothTurn → Type 0
   IsRoundOfAccesses b turns =
       (i : ℕ) → is_still (b.hall.crowd.phase i) ≡ false → MakesAccess i turns

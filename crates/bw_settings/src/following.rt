@@ -5,8 +5,8 @@ ghost use Rattle.bw_settings.specs.Following.{follows_of, number_at, IsWeightBy,
 
 use bw_owned::{WeightFormula, owned_weight};
 
-/// How the weights of rows follow one number that an owner sets, by column: one entry in each for
-/// each row.
+/// Ways in which weights of rows follow one number that an owner sets, by column: one entry in
+/// each for each row.
 #[derive(Clone, Copy)]
 pub struct Following<'a> {
     /// The number of the formula that makes the row's weight. The weight stays where no formula has
@@ -14,7 +14,7 @@ pub struct Following<'a> {
     pub formulas: &'a [u32],
     /// The least number that the row has.
     pub floors: &'a [u64],
-    /// What the row's number has beside the owner's.
+    /// The part of the row's number beside the owner's.
     pub bases: &'a [u64],
 }
 

@@ -8,7 +8,7 @@ use crate::given::{Answer, answer_at};
 use bw_model::Instance;
 use std::alloc::{AllocError, Global};
 
-/// What an owner sets for a goal.
+/// The setting of an owner for a goal.
 #[derive(Clone, Copy, Debug, PartialEq, Eq)]
 pub enum Setting {
     /// The least number with which the group gets the amount.
