@@ -251,6 +251,11 @@ CASES = {
         4, ("h,1,300000,400000", "h,2,300000,700000", "h,3,500000,1100000", "a,50,0,2,0,0,0,1:g=300",
             "w,30,0,1,3000,7000,0,2:g=300", "a,100,0,3,0,0,0,mc:g=400"),
         {2: (30, 0.5)}, tasks={0: 4, 1: 4}, lacks={1: 40, 3: 60}),
+    # the kernel schedules by itself for 0.3 s, as where the host is suspended, and then goes on
+    "the host is suspended for a while": Case(
+        4, ("s,1003100,300000", f"a,100,0,6,{ALWAYS}:g=1200", f"a,200,0,5,{ALWAYS}:g=2400",
+            "w,40,0,1,3000,7000,0,-1:g=400"), {1: (126, 3), 2: (244, 3), 3: (30, 1)},
+        {1: 120, 2: 300, 3: 60}),
     # more masks than trees, so tasks wait at one of their CPUs
     "a CPU goes for which some of a hundred masks wait": Case(
         8, ("h,7,100000000,500000", *each_bound(masks(100, 8))),

@@ -14,7 +14,8 @@
    A GROUP that begins with `+` has more tasks of the row before. `r,CPU,ON_US,OFF_US` is a real-time
    task: it has a CPU for ON_US, after OFF_US without it, and so on. By `h,CPU,ON_US,OFF_US` the CPU
    goes for ON_US, and comes back. By `c,ROW,US` the kernel takes a task of the row back each US, as
-   where somebody sets its niceness.
+   where somebody sets its niceness. By `s,AT_US,FOR_US` it schedules by itself for a while, as
+   where the host is suspended.
 
    -q tells no steps; -p gives a plan each MS, of amounts that are up to -j PERCENT off; -o holds the
    end of each slice up by up to US, as work of the kernel does. By -w the kernel hands a task over
@@ -135,6 +136,9 @@ static u32 first_unnumbered, unnumbered_count;
 static u64 now, counted, seed, first_wake = NONE, first_due = NONE, switches;
 /* The options -p, -j, -o, -w.  */
 static u64 plan_every = NONE, jitter, overrun, window;
+/* Whether the kernel schedules by itself, when that changes, and how long it does.  */
+static bool is_bypassed;
+static u64 bypass_at = NONE, bypass_for;
 /* The next row of a plan that is taken row by row, and when that is.  */
 static u32 plan_row;
 static u64 plan_at = NONE;
@@ -280,6 +284,10 @@ static void enqueue(struct job *job, u32 cpu, bool wakes) {
 
     job->ready = now;
     job->way = READY;
+    if (is_bypassed) {
+        kick(cpu);
+        return;
+    }
     if (!job->number) {
         wait_unplanned(job);
         return;
@@ -295,6 +303,35 @@ static void enqueue(struct job *job, u32 cpu, bool wakes) {
         kick_noted(here);
 }
 
+/* As plan_running.  */
+static void run_unpicked(struct job *job, u32 cpu) {
+    if (task_at(job->number)->state == RUNS || task_at(job->number)->is_passing)
+        return;
+    begin(on_cpu(cpu), cpu, now);
+    start_on(on_cpu(cpu), job->number, job->row, cpu, job->runtime);
+    work(on_cpu(cpu), cpu);
+    tell_steps(on_cpu(cpu));
+}
+
+/* A CPU takes the task that waits for longest, whatever the plan.  */
+static void dispatch_bypassed(u32 cpu) {
+    struct core *core = &cores[cpu];
+    struct job *found = NULL;
+
+    if (core->job)
+        core->job->way = READY;
+    core->job = NULL;
+    for (u32 at = 0; at < job_count; at++)
+        if (jobs[at].way == READY && may_use(&jobs[at], cpu)
+            && (!found || jobs[at].ready < found->ready))
+            found = &jobs[at];
+    if (!found)
+        return;
+    found->ready = now;
+    set_on_for(cpu, found, 5 * MILLI);
+    run_unpicked(found, cpu);
+}
+
 /* As plan_dispatch, and what the kernel does then.  */
 static void dispatch(u32 cpu, bool goes) {
     struct core *core = &cores[cpu];
@@ -302,6 +339,10 @@ static void dispatch(u32 cpu, bool goes) {
     struct on_cpu *on = on_cpu(cpu);
     u32 before = goes ? last->number : 0, found;
 
+    if (is_bypassed) {
+        dispatch_bypassed(cpu);
+        return;
+    }
     if (is_unplanned_next(on, now) && unnumbered_count) {
         take_unplanned(cpu);
         if (goes)
@@ -507,6 +548,7 @@ static u64 next_event(u64 beat) {
     u64 next = beat < first_wake ? beat : first_wake;
     next = first_due < next ? first_due : next;
     next = plan_at < next ? plan_at : next;
+    next = bypass_at < next ? bypass_at : next;
     for (u32 row = 0; row < row_count; row++)
         next = rows_seen[row].changes_at < next ? rows_seen[row].changes_at : next;
     for (u32 cpu = 0; cpu < core_count; cpu++) {
@@ -644,12 +686,36 @@ static void change(struct job *job, u32 by) {
         dequeue(job);
     }
     tell_steps(here);
-    if (task_at(job->number)->state == RUNS || task_at(job->number)->is_passing)
-        return;
-    begin(on_cpu(cpu), cpu, now);
-    start_on(on_cpu(cpu), job->number, job->row, cpu, job->runtime);
-    work(on_cpu(cpu), cpu);
-    tell_steps(on_cpu(cpu));
+    run_unpicked(job, cpu);
+}
+
+/* The kernel takes all tasks back, and schedules by itself.  */
+static void begin_bypass(void) {
+    for (u32 cpu = 0; cpu < core_count; cpu++)
+        if (cores[cpu].leaving)
+            end_leaving(cpu);
+    for (u32 at = 0; at < job_count; at++)
+        if (jobs[at].way == READY)
+            dequeue(&jobs[at]);
+    is_bypassed = true;
+    bypass_at = now + bypass_for;
+    for (u32 cpu = 0; cpu < core_count; cpu++)
+        kick(cpu);
+}
+
+/* It gives them back, one CPU after another, and each looks then.  */
+static void end_bypass(void) {
+    is_bypassed = false;
+    bypass_at = NONE;
+    for (u32 cpu = 0; cpu < core_count; cpu++) {
+        for (u32 at = 0; at < job_count; at++)
+            if (jobs[at].way == READY && jobs[at].cpu == cpu)
+                enqueue(&jobs[at], cpu, false);
+        if (cores[cpu].job)
+            change(cores[cpu].job, cpu);
+        cores[cpu].slice = 0;
+        dispatch(cpu, cores[cpu].job != NULL);
+    }
 }
 
 /* A task of a row is changed, if one wants to run.  */
@@ -766,6 +832,10 @@ static void simulate(u64 until) {
             give_plan();
         }
         change_jobs();
+        if (bypass_at <= now && is_bypassed)
+            end_bypass();
+        else if (bypass_at <= now)
+            begin_bypass();
         if (is_tick_first)
             ticks();
         renew_jobs();
@@ -837,6 +907,17 @@ static bool add_changes(const char *text) {
     return true;
 }
 
+/* A while in which the kernel schedules by itself.  */
+static bool add_bypass(const char *text) {
+    unsigned long long at, length;
+
+    if (sscanf(text, "s,%llu,%llu", &at, &length) != 2 || !at)
+        return false;
+    bypass_at = at * MICRO;
+    bypass_for = length * MICRO;
+    return true;
+}
+
 static bool add_taker(const char *text) {
     unsigned long long on, off;
     u32 cpu;
@@ -889,6 +970,8 @@ static bool add_group(char *text) {
         return add_taker(text);
     if (*text == 'c')
         return add_changes(text);
+    if (*text == 's')
+        return add_bypass(text);
     if (colon)
         *colon++ = 0;
     if (sscanf(text + is_more, "%c,%llu,%llu,%llu,%llu,%llu,%llu,%31s", &kind, &amount, &limit,
