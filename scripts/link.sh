@@ -2,7 +2,17 @@
 # Links what `of_program` or `of_library` chose, over what was proved. For ./build and ./test.
 
 link_made() {
-  "link_$crate"
+  check_first && "link_$crate"
+}
+
+# Checks the crate in several processes, each of which may take 2 GB: what links it would prove it in
+# one, and takes over what was checked.
+check_first() {
+  local free jobs processors
+  free=$(sed -nE 's/^MemAvailable: +([0-9]+) kB$/\1/p' /proc/meminfo) jobs=$((free / 2097152))
+  processors=$(grep -c '^processor' /proc/cpuinfo)
+  [ "$jobs" -le "$processors" ] || jobs=$processors
+  (cd "crates/$crate" && rt check --jobs "$((jobs > 1 ? jobs : 1))" </dev/null)
 }
 
 # `rt run` also runs the program: help prints its text and changes nothing.
