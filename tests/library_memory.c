@@ -47,6 +47,8 @@ static const uint64_t asks_too_much[5] = {0, 7, 0, 0, 14};
 static const uint8_t may[5] = {0, 1, 1, 1, 1};
 static const uint64_t just_one[5] = {0, 0, 0, 0, 15}, lowest[5];
 static const uint8_t none[5];
+/* The third row's weight follows. */
+static const uint32_t by_weight[5] = {0, 0, 0, ARBITER_UNIT_WEIGHT, 0};
 static uint64_t tuned[5], unmet;
 static uint32_t met;
 static uint32_t places[5], groups[5], blamed[5], actives[5], count, row;
@@ -65,7 +67,7 @@ static uint64_t carried[5], cells[9][10];
 
 #define ROWS 1, 100000, 5000, parents, 5, weights, 5, limits, 5, demands, 5
 /* The calls before the check. */
-#define CALLS 20
+#define CALLS 21
 
 static void mark(void)
 {
@@ -140,6 +142,7 @@ static uint32_t call(int which)
     case 17: return arbiter_limit_others(ROWS, just_one, 5, none, 5, lowest, 5, 0, tuned, 5, &met);
     case 18: return arbiter_serve(ROWS, hungry, 5, asks, 5, caps, 5);
     case 19: return arbiter_goals(ROWS, just_one, 5, 1, tuned, 5, caps, 5);
+    case 20: return arbiter_least_setting(ROWS, 3, 9, by_weight, 5, lowest, 5, lowest, 5, 1, 10000, &rest);
     default: return arbiter_check(ROWS, amounts, 5, flags, 5, nums, 5, dens, 5, places, 5, &row);
     }
 }

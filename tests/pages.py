@@ -99,8 +99,9 @@ def write_answers(results) -> None:
 NUMBERED = re.compile(r"pub fn (number|name)\(&?self\)[^{]*?\n(.*?)\n    }\n", re.S)
 ARM = re.compile(r'::(\w+)(?:\(.*?\))? => (?:"(\w+)"|(\d+)),')
 ALONE = re.compile(r'^        (?:"(\w+)"|(\d+))$', re.M)
-# Has numbers of faults of other crates, which have their names.
-WITHOUT_NAMES = ROOT / "crates/bw_columns/src/refusal.rt"
+# One has numbers of faults of other crates, which have their names. The other has those of reasons,
+# which are no faults.
+WITHOUT_NAMES = (ROOT / "crates/bw_columns/src/refusal.rt", ROOT / "crates/bw_owned/src/release.rt")
 
 
 def names_in(path: Path) -> set:
@@ -121,7 +122,7 @@ def names_in(path: Path) -> set:
 def code_names() -> set:
     """The pairs of a number and a name that the code gives."""
     paths = sorted(ROOT.glob("crates/*/src/**/*.rt"))
-    return {pair for path in paths if path != WITHOUT_NAMES for pair in names_in(path)}
+    return {pair for path in paths if path not in WITHOUT_NAMES for pair in names_in(path)}
 
 
 def table_rows() -> list:

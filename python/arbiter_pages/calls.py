@@ -466,8 +466,8 @@ ROUNDS = (
           CallWord("lost", U64, "that of arbiter_judged"),
           CallWord("guesses", U64, "`guessed` of arbiter_judged"),
           room("go", U8, "1 for a group that goes, else 0"),
-          result("reason", U32, "the first that holds. 1: a limit went back for 60 rounds. 2: slices"
-                 " were lost. 3: hunger was guessed. 0: none, and nobody goes")),
+          result("reason", U32, "the first that holds. 1: a limit went back for 60 rounds. 2:"
+                 " slices were lost. 3: hunger was guessed. 0: none, and nobody goes")),
          (LENGTHS,), allocates=False),
     Call("rest", "what the rest of a host is given beside a plan",
          "What a scheduler gives the rest of a host beside a plan, by weights. At each level up the"

@@ -116,13 +116,18 @@ def value_type(word: CallWord) -> str:
     return f"Vec<{plain}>" if word.is_column else plain
 
 
+def given_type(word: CallWord) -> str:
+    """The type of a word that is given to a plain function: a column is borrowed."""
+    return f"&[{kind(word)}]" if word.is_column else value_type(word)
+
+
 def plain(call: Call) -> str:
     """The public function of a plain call, which writes one number or one column."""
     (answer,) = (word for word in call.words if word.way != READ)
     is_tree, is_of_host = ROWS in call.parts, HOST in call.parts
     words = [word for word in call.own if word.way == READ]
     parameters = [*["host: Host"] * is_of_host, *["rows: &[Row]"] * is_tree,
-                  *(f"{word.name}: {value_type(word)}" for word in words)]
+                  *(f"{word.name}: {given_type(word)}" for word in words)]
     asked = [*["host"] * is_of_host, *["&columns"] * is_tree,
              *(f"number_of({word.name})" if word.none else word.name for word in words),
              f"&mut {answer.name}"]

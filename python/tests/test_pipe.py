@@ -123,6 +123,8 @@ def of_tree(library, host, rows, chance):
     yield "guarantee", (host, rows, group)
     for call in ("least_weight", "least_limit", "least_processors"):
         yield call, (host, rows, group, amount)
+    for followers in ({}, {len(rows) - 1: arbiter.Follower(arbiter.WeightFormula.UNIT_WEIGHT)}):
+        yield "least_setting", (host, rows, group, amount, followers, 1, 10000)
 
 
 def of_owned():
@@ -206,7 +208,7 @@ def test_random_trees(both):
         rows = some_rows(chance)
         more = compare(both, of_tree(both[0], host, rows, chance))
         met, refused = met + more[0], refused + more[1]
-    assert met == 31 * TREES and met / 4 < refused < met * 3 / 4
+    assert met == 33 * TREES and met / 4 < refused < met * 3 / 4
 
 
 def test_no_tree(both):

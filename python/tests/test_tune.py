@@ -200,8 +200,8 @@ def test_what_children_ask_is_asked_by_a_group(engine):
 
 
 def test_settings_are_tried_once(calls):
-    """A request is found by a call, so that few plans are made: as it stands, and with it. Limits of
-    64 others are looked at, and these are looked through without a model of all pods."""
+    """A request is found by a call, so that few plans are made: as it stands, and with it. Limits
+    of 64 others are looked at, and these are looked through without a model of all pods."""
     engine = Counted(calls)
     before = plan(engine, pods_of(calls, 80, want="busy"))
     tune.tune(before, ["*p3/c=40m"])

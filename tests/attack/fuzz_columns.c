@@ -490,6 +490,20 @@ static void hold_periods(struct host host, struct rows rows, const uint64_t *amo
     guard_drop(quotas), guard_drop(own), guard_drop(bursts), guard_drop(carries);
 }
 
+/* The least number of a row that follows it as a unit's weight is the row's least weight. */
+static void hold_setting(struct host host, struct rows rows, uint32_t group, uint64_t amount, uint64_t weight)
+{
+    size_t n = rows.parents_length;
+    uint32_t *formulas = guard_block(n * 4, 0);
+    uint64_t *none = guard_block(n * 8, 1), least = 77;
+
+    memset(formulas, 0, n * 4), memset(none, 0, n * 8);
+    formulas[group] = ARBITER_UNIT_WEIGHT;
+    demand(counted(arbiter_least_setting(HOST(host), ROWS(rows), group, amount, formulas, n, none, n, none, n, 1, 10000, &least)) == 0, "no least setting");
+    demand(least == (weight ? weight : NONE), "a least setting that is no least weight");
+    guard_drop(formulas), guard_drop(none);
+}
+
 /* The least value reaches the amount, and one less does not. */
 static void hold_least(struct host host, struct rows rows, uint32_t group, uint64_t amount)
 {
@@ -498,6 +512,7 @@ static void hold_least(struct host host, struct rows rows, uint32_t group, uint6
     demand(counted(arbiter_guarantee(HOST(host), ROWS(rows), group, &least)) == 0, "no guarantee");
     demand(least <= planned(host, rows, group), "a guarantee above the plan");
     demand(counted(arbiter_least_weight(HOST(host), ROWS(rows), group, amount, &least)) == 0 && least <= 10000, "no least weight");
+    hold_setting(host, rows, group, amount, least);
     before = rows.weights[group];
     rows.weights[group] = least ? least : 10000;
     demand((planned(host, rows, group) >= amount) == (least != 0), "a least weight that is none");

@@ -11,14 +11,14 @@
 
 #define THREADS 16
 #define MOST 200
-#define CALLS 20
+#define CALLS 21
 #define NONE ARBITER_NO_LIMIT
 #define TEXT 4000
 #define LINES 90
 
 struct answers {
     uint64_t carries[MOST], sums[6][MOST], left[MOST], cells[9][MOST];
-    uint64_t amounts[MOST], nums[MOST], dens[MOST], wants[MOST], mosts[MOST], weights[MOST], withheld[MOST], rest, least[4];
+    uint64_t amounts[MOST], nums[MOST], dens[MOST], wants[MOST], mosts[MOST], weights[MOST], withheld[MOST], rest, least[5];
     uint32_t places[MOST], groups[MOST], blamed[MOST], actives[MOST], count, met, row, numbers[CALLS];
     uint8_t flags[MOST], reasons[MOST], tights[MOST];
     /* of a round and its scheduler, of goals, and of a script */
@@ -38,6 +38,7 @@ struct tree {
     struct answers alone;
 };
 
+static const uint32_t no_formulas[MOST];
 static atomic_ulong calls, wrong;
 static atomic_int is_over;
 
@@ -97,6 +98,7 @@ static void ask(const struct tree *tree, struct answers *found)
     numbers[17] = arbiter_limit_others(HOST, ROWS, found->amounts, n, tree->hungry, n, found->amounts, n, 0, found->limited, n, &found->met);
     numbers[18] = arbiter_serve(HOST, ROWS, tree->hungry, n, found->served, n, found->parts, n);
     numbers[19] = arbiter_goals(HOST, ROWS, found->amounts, n, 1, found->halves, n, found->come_to, n);
+    numbers[20] = arbiter_least_setting(HOST, ROWS, last, 3, no_formulas, n, tree->demands, n, tree->demands, n, 1, 10000, &found->least[4]);
     atomic_fetch_add(&calls, CALLS);
 }
 

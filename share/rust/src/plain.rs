@@ -128,8 +128,8 @@ pub fn least_processors(host: Host, rows: &[Row], group: u32, amount: u64) -> Re
 /// - 4 to 10: the rows are refused.
 /// - 20: the group is no row, or a row that follows is neither it nor above it nor below it.
 /// - 71: memory was refused.
-pub fn least_setting(host: Host, rows: &[Row], group: u32, amount: u64, formulas: Vec<u32>, floors: Vec<u64>,
-                     bases: Vec<u64>, first: u64, last: u64) -> Result<Option<u64>, Fault> {
+pub fn least_setting(host: Host, rows: &[Row], group: u32, amount: u64, formulas: &[u32], floors: &[u64], bases: &[u64],
+                     first: u64, last: u64) -> Result<Option<u64>, Fault> {
     let columns = Columns::of(rows);
     let mut least = 0;
     of_rows(raw::least_setting(host, &columns, group, amount, formulas, floors, bases, first, last, &mut least), &columns)?;
