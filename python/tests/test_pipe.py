@@ -235,7 +235,7 @@ def test_examples(both, path):
     told = both[0].script(host, text)
     assert len(told.names) > 1
     asked = [("script", (host, text)), *of_tree(both[0], host, told.columns, random.Random(SEED))]
-    assert compare(both, asked)[0] == 32
+    assert compare(both, asked)[0] == 34
 
 
 def test_many_groups(both):

@@ -253,7 +253,7 @@ def lowered(start: Raised, why: str) -> Raised | str:
 
 
 def raises_told(known: Raised) -> str:
-    """What is known of raised settings: where the library's calls say so, that each is the least
+    """Words on raised settings: where the library's calls say so, that each is the least
     for its goal."""
     by_row = {row: goal for goal in known.goals.goals
               if isinstance(row := known.row_of(goal), int) and row in known.settings}
