@@ -138,7 +138,7 @@ abbrev pub is_made : Option Event → Bool
 is_made None = false
 is_made (Some e) = true
 
--- whether a turn is an event of the crowd: a call, its end, and a load that changes nothing are none
+-- whether a turn is an event of the crowd: a call, its end, a load that changes nothing are none
 abbrev pub is_event : BothTurn → Bool
 is_event (OnPlaces t) = true
 is_event (OnLock i u) = is_made (event_of i u)

@@ -181,9 +181,9 @@ fn help<M: Machine, R: Wait + Clock, V: Visit>(
     return_one(lock, table, token, visit);
 }
 
-// Makes the calls of the next tickets that are lent, and ends the visit: all their owners are woken.
-// in a function of its own and with the visit by value, so that a call with no later ticket has both
-// in registers
+// Makes the calls of the next tickets that are lent, and ends the visit: all their owners are
+// woken. It is a function of its own and takes the visit by value, so that a call with no later
+// ticket has both in registers.
 #[inline(never)]
 fn help_and_wake<M: Machine, R: Wait + Clock, V: Visit>(
     rt: &R,

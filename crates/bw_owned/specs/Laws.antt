@@ -179,7 +179,8 @@ abbrev pub LevelsHaveTheirParts : Type 0
 LevelsHaveTheirParts = (slices : ℕ) (own others : List ℕ) (k : ℕ)
     → slices * all_parts own others k ≤ up_to slices own others k * own_parts own k
 
--- With no greater weights of the planned groups, and no lesser ones of others, the rest has no less.
+-- With no greater weights of the planned groups, and no lesser ones of others, the rest has no
+-- less.
 abbrev pub RestGrows : Type 0
 RestGrows = (slices planned : ℕ) (own others lesser more : List ℕ) (share greater : RestShare)
     → IsRestShare slices planned own others share → IsRestShare slices planned lesser more greater

@@ -4,7 +4,8 @@ use Rattle.std.specs.Prelude.{length, max, nat_le, slice_index, sum_by, if◌the
 use Rattle.std.specs.List.{list_any, range_with_len}
 use Rattle.bw_owned.specs.declared.judged.TheConstants.{JUDGED_ROUNDS}
 use Rattle.bw_owned.specs.declared.release.LetGoReason.{LetGoReason}
-use Rattle.bw_owned.specs.declared.release.LetGoReason.TheVariants.{Nothing, Swings, Losses, Guesses}
+use Rattle.bw_owned.specs.declared.release.LetGoReason.TheVariants.{Nothing, Swings}
+use Rattle.bw_owned.specs.declared.release.LetGoReason.TheVariants.{Losses, Guesses}
 
 -- the slices that a group counts for: its own, and one at least
 abbrev pub counted : ℕ → ℕ
@@ -24,8 +25,8 @@ GoesBefore slices k other =
     (slice_index slices other < slice_index slices k)
     ⊎ ((slice_index slices other ≡ slice_index slices k) × (k < other))
 
--- Of the groups in question, whose counts are a number or more, those with most slices go: as few as
--- count for what is needed together, or all.
+-- Of the groups in question, whose counts are a number or more, those with most slices go: as few
+-- as count for what is needed together, or all.
 pub record AreLetGo (needed least : ℕ) (counts slices go : List ℕ) : Type 0 where
   pub only : (k : ℕ) → k < length slices → 0 < slice_index go k → least ≤ slice_index counts k
   pub most : (k other : ℕ) → k < length slices → other < length slices → 0 < slice_index go k

@@ -21,8 +21,8 @@ weight_beside others k = slice_index others k + root_weight k (length others)
 abbrev pub beside : ℕ → ℕ → ℕ → ℕ
 beside own others slices = div_ceil (others * slices) own
 
--- The slices of a group, then of the group above it, and so on up the first levels. Each group above
--- has those of the one below and those of the others beside that one.
+-- The slices of a group, then of the group above it, and so on up the first levels. Each group
+-- above has those of the one below and those of the others beside that one.
 abbrev pub up_to : ℕ → List ℕ → List ℕ → ℕ → ℕ
 up_to slices own others zero = slices
 up_to slices own others (suc k) =

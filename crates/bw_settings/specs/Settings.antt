@@ -46,7 +46,8 @@ IsLeastSetting groups follows group amount first last NoNumber =
     (number : ℕ) → first ≤ number → number ≤ last → ¬ GivesAt groups follows group amount number
 IsLeastSetting groups follows group amount first last Untold = IsUntold
 
--- With a greater number, whose weights are at a group, above it or below it, the group gets no less.
+-- With a greater number, whose weights are at a group, above it or below it, the group gets no
+-- less.
 abbrev pub GreaterSettingsGiveNoLess : Type 0
 GreaterSettingsGiveNoLess = (groups : Groups) (follows : Follows)
     (group number more : ℕ) (one other : Groups) (amounts others : List ℕ)

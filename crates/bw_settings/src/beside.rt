@@ -1,5 +1,6 @@
 //! Rows that follow an owner's number and are not on the way of a group.
-ghost use Rattle.std.specs.Prelude.{◌≡◌, ◌<◌, ◌==◌, length, true, false, IfSome, IfNone, slice_index};
+ghost use Rattle.std.specs.Prelude.{◌≡◌, ◌<◌, ◌==◌, length, true, false, IfSome, IfNone};
+ghost use Rattle.std.specs.Prelude.{slice_index};
 ghost use Rattle.std.specs.List.{list_any};
 ghost use Rattle.bw_model.specs.Groups.{is_under};
 ghost use Rattle.bw_settings.specs.Following.{AreOnPath, IsBeside};
