@@ -9,7 +9,7 @@ use Rattle.bw_lend.specs.Crowd.{Crowd, Event, Inside, Helping, Phase, Has, Leave
 use Rattle.bw_lend.specs.CrowdLaws.{is_still}
 use Rattle.bw_lend.specs.CrowdRounds.{AreRounds, run_rounds}
 use Rattle.bw_lend.specs.BothTables.{Both, BothTurn, BothLead, thread_of, is_access, is_event}
-use Rattle.bw_lend.specs.BothTables.{MakesEvent, MakesAccess, opened_both, BothLeadByAccesses}
+use Rattle.bw_lend.specs.BothTables.{MakesPicked, opened_both, LeadInRoundsOf}
 use Rattle.bw_lend.specs.BothTables.{AccessesServeDrawnTickets}
 use Rattle.bw_lend.proofs.CrowdStages.{run_le, run_drawn}
 use Rattle.bw_lend.proofs.CrowdRises.{seventeen_rounds}
@@ -38,7 +38,7 @@ module _ {M C R : Type 0} where
   -- what the turns of a thread lead to that has noted its call: it makes no access, or serves
   noted_led : (b c : Both M C R) (ts : List BothTurn) (i j : ℕ) → Joined b → BothLead b ts c
       → IsNoted b i j → (b.hall.crowd.serving < c.hall.crowd.serving)
-      ⊎ (IsNoted c i j × (MakesAccess i ts → ⊥))
+      ⊎ (IsNoted c i j × (MakesPicked is_access i ts → ⊥))
   noted_led b c [] i j m l at =
       inr (subst (λ (x : Both M C R). IsNoted x i j) (sym l) at, λ h. h)
   noted_led b c (t ∷ ts) i j m l at =
@@ -48,10 +48,10 @@ module _ {M C R : Type 0} where
       (λ (k : IsNoted l.0 i j × (thread_of t ≡ i → is_access t ≡ true → ⊥)).
       let first = serving_le b l.0 (t ∷ []) m (l.0, l.1, refl) in
       ⊎_elim (λ (up : l.0.hall.crowd.serving < c.hall.crowd.serving). inl (omega arith))
-      (λ (r : IsNoted c i j × (MakesAccess i ts → ⊥)). inr (
+      (λ (r : IsNoted c i j × (MakesPicked is_access i ts → ⊥)). inr (
         r.0,
         λ h. ⊎_elim (λ (own : (thread_of t ≡ i) × (is_access t ≡ true)). k.1 own.0 own.1)
-            (λ (later : MakesAccess i ts). r.1 later) h,
+            (λ (later : MakesPicked is_access i ts). r.1 later) h,
       ))
       (noted_led l.0 c ts i j joined l.2 k.0))
       (goes_on b l.0 m i j at t l.1)
@@ -59,7 +59,7 @@ module _ {M C R : Type 0} where
   -- what a list of turns leads to: each access is an event, or the served ticket has been raised, or
   -- a seat has noted its call
   abbrev Ahead : Both M C R → List BothTurn → Both M C R → Type 0
-  Ahead b ts c = ((i : ℕ) → MakesAccess i ts → MakesEvent i ts)
+  Ahead b ts c = ((i : ℕ) → MakesPicked is_access i ts → MakesPicked is_event i ts)
       ⊎ ((b.hall.crowd.serving < c.hall.crowd.serving) ⊎ ((i : ℕ) × (j : ℕ) × IsNoted c i j))
 
   ahead : (b c : Both M C R) (ts : List BothTurn) → Joined b → BothLead b ts c → Ahead b ts c
@@ -68,9 +68,9 @@ module _ {M C R : Type 0} where
       let joined = (one_both b l.0 m t l.1).1 in
       let first = serving_le b l.0 (t ∷ []) m (l.0, l.1, refl) in
       ⊎_elim (λ (is : is_access t ≡ true → is_event t ≡ true).
-      ⊎_elim (λ (k : (i : ℕ) → MakesAccess i ts → MakesEvent i ts).
+      ⊎_elim (λ (k : (i : ℕ) → MakesPicked is_access i ts → MakesPicked is_event i ts).
       inl (λ i h. ⊎_elim (λ (own : (thread_of t ≡ i) × (is_access t ≡ true)).
-      inl (own.0, is own.1)) (λ (later : MakesAccess i ts). inr (k i later)) h))
+      inl (own.0, is own.1)) (λ (later : MakesPicked is_access i ts). inr (k i later)) h))
       (λ z. ⊎_elim (λ (up : l.0.hall.crowd.serving < c.hall.crowd.serving).
       inr (inl (omega arith)))
       (λ (n : (i : ℕ) × (j : ℕ) × IsNoted c i j). inr (inr n)) z)
@@ -78,12 +78,12 @@ module _ {M C R : Type 0} where
       (λ (n : (i : ℕ) × (j : ℕ) × IsNoted l.0 i j).
       ⊎_elim (λ (up : l.0.hall.crowd.serving < c.hall.crowd.serving).
       inr (inl (omega arith)))
-      (λ (r : IsNoted c n.0 n.1 × (MakesAccess n.0 ts → ⊥)). inr (inr (n.0, n.1, r.0)))
+      (λ (r : IsNoted c n.0 n.1 × (MakesPicked is_access n.0 ts → ⊥)). inr (inr (n.0, n.1, r.0)))
       (noted_led l.0 c ts n.0 n.1 joined l.2 n.2))
       (accesses b l.0 m t l.1)
 
   -- the same of rounds
-  rounds_le : (b c : Both M C R) (rs : List (List BothTurn)) → Joined b → BothLeadByAccesses b rs c
+  rounds_le : (b c : Both M C R) (rs : List (List BothTurn)) → Joined b → LeadInRoundsOf is_access b rs c
       → b.hall.crowd.serving ≤ c.hall.crowd.serving
   rounds_le b c [] m l = subst (λ (x : Both M C R). b.hall.crowd.serving ≤ x.hall.crowd.serving)
       (sym l) (let same : b.hall.crowd.serving ≤ b.hall.crowd.serving = omega arith in same)
@@ -93,7 +93,7 @@ module _ {M C R : Type 0} where
   -- So many rounds of events, and one more of accesses: where a seat notes its call, the round after
   -- that is enough.
   events_or_up : (n : ℕ) (b c : Both M C R) (rs : List (List BothTurn)) → Joined b
-      → n + 1 ≤ length rs → BothLeadByAccesses b rs c
+      → n + 1 ≤ length rs → LeadInRoundsOf is_access b rs c
       → (b.hall.crowd.serving < c.hall.crowd.serving)
       ⊎ ((lists : List (List Event)) × (length lists ≡ n) × AreRounds b.hall.crowd lists
       × ((run_rounds b.hall.crowd lists).serving ≤ c.hall.crowd.serving))
@@ -104,7 +104,7 @@ module _ {M C R : Type 0} where
       let a = led b l.0 r m l.1 in let s = b.hall.crowd in
       let first = serving_le b l.0 r m l.1 in
       let others = rounds_le l.0 c (q ∷ rs) a.1 l.3 in
-      ⊎_elim (λ (k : (i : ℕ) → MakesAccess i r → MakesEvent i r).
+      ⊎_elim (λ (k : (i : ℕ) → MakesPicked is_access i r → MakesPicked is_event i r).
       ⊎_elim (λ (up : l.0.hall.crowd.serving < c.hall.crowd.serving). inl (omega arith))
       (λ (d : (lists : List (List Event)) × (length lists ≡ n) × AreRounds l.0.hall.crowd lists
       × ((run_rounds l.0.hall.crowd lists).serving ≤ c.hall.crowd.serving)). inr (
@@ -121,14 +121,14 @@ module _ {M C R : Type 0} where
       (λ (at : (i : ℕ) × (j : ℕ) × IsNoted l.0 i j). let next = l.3 in
       let later = rounds_le next.0 c rs (led l.0 next.0 q a.1 next.1).1 next.3 in
       ⊎_elim (λ (up : l.0.hall.crowd.serving < next.0.hall.crowd.serving). inl (omega arith))
-      (λ (stays : IsNoted next.0 at.0 at.1 × (MakesAccess at.0 q → ⊥)).
+      (λ (stays : IsNoted next.0 at.0 at.1 × (MakesPicked is_access at.0 q → ⊥)).
       absurd (stays.1 (next.2 at.0 (is_up (l.0.hall.crowd.phase at.0) at.2.1
       (its_place l.0 next.0 a.1 at.0 at.1 at.2)))))
       (noted_led l.0 next.0 q at.0 at.1 a.1 next.1 at.2)) z)
       (ahead b l.0 r m l.1)
 
   eighteen_rounds : (b c : Both M C R) (rs : List (List BothTurn)) → Joined b
-      → b.hall.crowd.serving < b.hall.crowd.next → 18 ≤ length rs → BothLeadByAccesses b rs c
+      → b.hall.crowd.serving < b.hall.crowd.next → 18 ≤ length rs → LeadInRoundsOf is_access b rs c
       → b.hall.crowd.serving < c.hall.crowd.serving
   eighteen_rounds b c rs m lt few l =
       ⊎_elim (λ (up : b.hall.crowd.serving < c.hall.crowd.serving). up)
@@ -141,11 +141,11 @@ module _ {M C R : Type 0} where
 
   -- so many rounds, and the others
   first_rounds : (n : ℕ) (b c : Both M C R) (rs : List (List BothTurn)) → Joined b
-      → n ≤ length rs → BothLeadByAccesses b rs c
+      → n ≤ length rs → LeadInRoundsOf is_access b rs c
       → (x : Both M C R) × (early : List (List BothTurn))
       × (late : List (List BothTurn))
-      × (length early ≡ n) × (n + length late ≡ length rs) × BothLeadByAccesses b early x
-      × BothLeadByAccesses x late c × Joined x × (b.hall.crowd.next ≤ x.hall.crowd.next)
+      × (length early ≡ n) × (n + length late ≡ length rs) × LeadInRoundsOf is_access b early x
+      × LeadInRoundsOf is_access x late c × Joined x × (b.hall.crowd.next ≤ x.hall.crowd.next)
   first_rounds zero b c rs m few l =
       (b, [], rs, refl, omega arith, refl, l, m, same)
     where
@@ -168,7 +168,7 @@ module _ {M C R : Type 0} where
 
   in_time : (n : ℕ) (b c : Both M C R) (rs : List (List BothTurn)) (ticket : ℕ) → Joined b
       → ticket < b.hall.crowd.next → ticket + 1 - b.hall.crowd.serving ≤ n → 18 * n ≤ length rs
-      → BothLeadByAccesses b rs c → ticket < c.hall.crowd.serving
+      → LeadInRoundsOf is_access b rs c → ticket < c.hall.crowd.serving
   in_time zero b c rs ticket m lt near few l = let le = rounds_le b c rs m l in omega arith
   in_time (suc n) b c rs ticket m lt near few l = dite (dec_le (suc ticket) b.hall.crowd.serving)
       (λ (past : ticket < b.hall.crowd.serving). let le = rounds_le b c rs m l in omega arith)
@@ -180,7 +180,7 @@ module _ {M C R : Type 0} where
 
 module _ {M C R : Type 0} where
   joined_after : (b c : Both M C R) (rs : List (List BothTurn)) → Joined b
-      → BothLeadByAccesses b rs c → Joined c
+      → LeadInRoundsOf is_access b rs c → Joined c
   joined_after b c [] m l = subst (λ (x : Both M C R). Joined x) (sym l) m
   joined_after b c (r ∷ rs) m l = joined_after l.0 c rs (led b l.0 r m l.1).1 l.3
 

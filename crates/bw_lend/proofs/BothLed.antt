@@ -27,8 +27,8 @@ use Rattle.bw_lend.specs.BothTables.{Both, BothTurn, OnPlaces, OnLock, Calls, En
 use Rattle.bw_lend.specs.BothTables.{Glances, WakesUp}
 use Rattle.bw_lend.specs.BothTables.{is_on_places, made, opened_both, IsBothTurn, BothLead}
 use Rattle.bw_lend.specs.BothTables.{IsFree, IsIn, Enters}
-use Rattle.bw_lend.specs.BothTables.{thread_of, is_event, MakesEvent}
-use Rattle.bw_lend.specs.BothTables.{BothLeadInRounds, BothAreEvents, BothServeDrawnTickets}
+use Rattle.bw_lend.specs.BothTables.{thread_of, is_event, MakesPicked}
+use Rattle.bw_lend.specs.BothTables.{LeadInRoundsOf, BothAreEvents, BothServeDrawnTickets}
 use Rattle.bw_lend.proofs.CrowdKept.{put_here, put_else}
 use Rattle.bw_lend.proofs.CrowdRises.{drawn_tickets_are_left}
 use Rattle.bw_lend.proofs.Kept.{all_zero}
@@ -224,7 +224,7 @@ module _ {M C R : Type 0} where
   -- the events of a list of turns
   abbrev pub Led : Both M C R → List BothTurn → Both M C R → Type 0
   Led b turns c = (events : List Event) × Joined c × (run b.hall.crowd events ≡ c.hall.crowd)
-      × ((i : ℕ) → MakesEvent i turns → MakesOne i b.hall.crowd events)
+      × ((i : ℕ) → MakesPicked is_event i turns → MakesOne i b.hall.crowd events)
 
   pub led : (b c : Both M C R) (turns : List BothTurn) → Joined b → BothLead b turns c
       → Led b turns c
@@ -244,7 +244,7 @@ module _ {M C R : Type 0} where
             (λ (own : (thread_of t ≡ i) × (is_event t ≡ true)).
             subst (λ (x : ℕ). MakesOne x s (a.0 ++ r.0)) own.0
             (makes_first (thread_of t) s a.0 r.0 (a.3 own.1)))
-            (λ (later : MakesEvent i ts). makes_later i s a.0 r.0
+            (λ (later : MakesPicked is_event i ts). makes_later i s a.0 r.0
             (subst (λ (x : Crowd). MakesOne i x r.0) (sym a.2) (r.3 i later))) made,
       )
 
@@ -265,7 +265,7 @@ module _ {M C R : Type 0} where
   }
 
   led_in_rounds : (b c : Both M C R) (rounds : List (List BothTurn)) → Joined b
-      → BothLeadInRounds b rounds c
+      → LeadInRoundsOf is_event b rounds c
       → (lists : List (List Event)) × (length lists ≡ length rounds) × AreRounds b.hall.crowd lists
       × (run_rounds b.hall.crowd lists ≡ c.hall.crowd) × Joined c
   led_in_rounds b c [] m is = (

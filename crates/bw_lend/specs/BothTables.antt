@@ -147,11 +147,6 @@ is_event (Ends i) = false
 is_event (Glances i) = false
 is_event (WakesUp i) = true
 
--- some turn of the list is an event that the thread i makes
-abbrev pub MakesEvent : ℕ → List BothTurn → Type 0
-MakesEvent i [] = ⊥
-MakesEvent i (t ∷ ts) = ((thread_of t ≡ i) × (is_event t ≡ true)) ⊎ MakesEvent i ts
-
 -- whether a turn is an access that a thread makes on its way: a call and its end are none, and a
 -- front is no part of it
 abbrev pub is_access : BothTurn → Bool
@@ -163,32 +158,24 @@ is_access (Ends i) = false
 is_access (Glances i) = true
 is_access (WakesUp i) = false
 
--- some turn of the list is an access that the thread i makes
-abbrev pub MakesAccess : ℕ → List BothTurn → Type 0
-MakesAccess i [] = ⊥
-MakesAccess i (t ∷ ts) = ((thread_of t ≡ i) × (is_access t ≡ true)) ⊎ MakesAccess i ts
+-- the thread i makes some turn of the list that a test picks
+abbrev pub MakesPicked : (BothTurn → Bool) → ℕ → List BothTurn → Type 0
+MakesPicked picks i [] = ⊥
+MakesPicked picks i (t ∷ ts) =
+    ((thread_of t ≡ i) × (picks t ≡ true)) ⊎ MakesPicked picks i ts
 
 module _ {M C R : Type 0} where
-  -- a round: each thread that is neither idle nor asleep makes an event
-  abbrev pub IsRoundOfBoth : Both M C R → List BothTurn → Type 0
-  IsRoundOfBoth b turns =
-      (i : ℕ) → is_still (b.hall.crowd.phase i) ≡ false → MakesEvent i turns
+  -- a round: each thread that is neither idle nor asleep makes a turn that a test picks
+  abbrev pub IsRoundOf : (BothTurn → Bool) → Both M C R → List BothTurn → Type 0
+  IsRoundOf picks b turns =
+      (i : ℕ) → is_still (b.hall.crowd.phase i) ≡ false → MakesPicked picks i turns
 
   -- these rounds, one after another, lead from one state to the other
-  abbrev pub BothLeadInRounds : Both M C R → List (List BothTurn) → Both M C R → Type 0
-  BothLeadInRounds b [] c = c ≡ b
-  BothLeadInRounds b (r ∷ rs) c =
-      (m : Both M C R) × BothLead b r m × IsRoundOfBoth b r × BothLeadInRounds m rs c
-
-  -- a round of accesses: at least one of each seat that is not still
-  abbrev pub IsRoundOfAccesses : Both M C R → List BothTurn → Type 0
-  IsRoundOfAccesses b turns =
-      (i : ℕ) → is_still (b.hall.crowd.phase i) ≡ false → MakesAccess i turns
-
-  abbrev pub BothLeadByAccesses : Both M C R → List (List BothTurn) → Both M C R → Type 0
-  BothLeadByAccesses b [] c = c ≡ b
-  BothLeadByAccesses b (r ∷ rs) c =
-      (m : Both M C R) × BothLead b r m × IsRoundOfAccesses b r × BothLeadByAccesses m rs c
+  abbrev pub LeadInRoundsOf : (BothTurn → Bool) → Both M C R → List (List BothTurn) → Both M C R
+      → Type 0
+  LeadInRoundsOf picks b [] c = c ≡ b
+  LeadInRoundsOf picks b (r ∷ rs) c =
+      (m : Both M C R) × BothLead b r m × IsRoundOf picks b r × LeadInRoundsOf picks m rs c
 
   -- the crowd has the lock's two numbers: the next ticket to be drawn, and the one that is served
   abbrev pub HasNumbers : Both M C R → Type 0
@@ -210,7 +197,7 @@ BothServeDrawnTickets M C R = (seats words calls : ℕ) (turns : List BothTurn)
     → seats ≤ words → BothLead (opened_both seats words calls) turns b
     → ticket < slice_index b.lock.words 0
     → 17 * (ticket + 1 - slice_index b.lock.words 1) ≤ length rounds
-    → BothLeadInRounds b rounds c → ticket < slice_index c.lock.words 1
+    → LeadInRoundsOf is_event b rounds c → ticket < slice_index c.lock.words 1
 
 -- In each ticket one access is no event: the load by which the seat inside notes its call. So
 -- eighteen rounds of accesses do what seventeen rounds of events do.
@@ -220,4 +207,4 @@ AccessesServeDrawnTickets M C R = (seats words calls : ℕ) (turns : List BothTu
     → seats ≤ words → BothLead (opened_both seats words calls) turns b
     → ticket < slice_index b.lock.words 0
     → 18 * (ticket + 1 - slice_index b.lock.words 1) ≤ length rounds
-    → BothLeadByAccesses b rounds c → ticket < slice_index c.lock.words 1
+    → LeadInRoundsOf is_access b rounds c → ticket < slice_index c.lock.words 1

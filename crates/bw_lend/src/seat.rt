@@ -207,8 +207,7 @@ impl<M: Machine> LendingSeat<M> {
         let Some(seat) = &mut self.seat else {
             unreachable!()
         };
-        let ticket = seat.take(lock, call)?;
-        Ok(ticket)
+        seat.take(lock, call)
     }
 
     /// Makes the pending call, once all earlier tickets are served.
