@@ -1,12 +1,12 @@
 -- Groups that are let go, one after another.
 use Rattle.std.proofs.Common.{ℕ, ◌+◌, ◌<◌, ◌≤◌, ◌≡◌, ◌∙◌, List, length, get_or, set}
-use Rattle.std.proofs.Common.{arith, refl, sym, subst, inl, inr}
+use Rattle.std.proofs.Common.{[], ◌∷◌, zero, suc, arith, refl, sym, subst, inl, inr}
 use Rattle.std.proofs.lemmas.Bool.{cases_eq, ne_eqb}
 use Rattle.std.proofs.lemmas.List.{get_or-set_same, get_or-set_other}
 use Rattle.bw_model.proofs.CallerLemmas.{sum_below, sum_by-range, sum_below-change, sum_below-zero}
 use Rattle.bw_model.proofs.CallerLemmas.{sum_below-term}
 use Rattle.bw_owned.specs.LetGo.{counted, counted_gone, gone, GoesBefore, IsNext}
-use Rattle.bw_owned.specs.Laws.{OneSwings}
+use Rattle.bw_owned.specs.Laws.{OneSwings, OneOfTwoGoes}
 
 -- nobody goes
 pub gone_none : (slices go : List ℕ) → ((k : ℕ) → k < length slices → get_or go k 0 ≡ 0)
@@ -129,3 +129,24 @@ one_swings least k other counts slices go long is below under goes also = elim (
       let two = two_gone slices go k other long below under apart goes also in
       absurd (omega (arith, few, two))
 ]
+
+-- what holds of 0 and of 1 holds below 2
+of_two : (P : ℕ → Type 0) → P 0 → P 1 → (k : ℕ) → k < 2 → P k
+of_two P first second zero below = first
+of_two P first second (suc zero) below = second
+of_two P first second (suc (suc k)) below = absurd (omega (arith, below))
+
+pub one_of_two_goes : OneOfTwoGoes
+one_of_two_goes = let go : List ℕ = 1 ∷ 0 ∷ [] in record {
+  only = of_two (λ k. 0 < get_or go k 0 → 60 ≤ get_or (60 ∷ 60 ∷ []) k 0)
+      (λ goes. omega (arith)) (λ goes. omega (arith));
+  most = λ k other below under goes stays asked. of_two (λ k. 0 < get_or go k 0
+      → GoesBefore (7 ∷ 5 ∷ []) k other)
+      (λ goes. of_two (λ other. get_or go other 0 ≡ 0 → GoesBefore (7 ∷ 5 ∷ []) 0 other)
+      (λ stays. absurd (omega (arith, stays))) (λ stays. inl (omega (arith))) other under stays)
+      (λ goes. absurd (omega (arith, goes))) k below goes;
+  enough = inl (omega (arith));
+  few = of_two (λ k. 0 < get_or go k 0
+      → gone (7 ∷ 5 ∷ []) go < 1 + counted (get_or (7 ∷ 5 ∷ []) k 0))
+      (λ goes. omega (arith)) (λ goes. absurd (omega (arith, goes)));
+}

@@ -1,6 +1,6 @@
 -- Laws of what owners set.
 use Rattle.std.specs.Prelude.{◌≡◌, ◌≢◌, ℕ, zero, suc, ◌+◌, ◌*◌, ◌<◌, ◌≤◌, IfSome, List, Some}
-use Rattle.std.specs.Prelude.{length, true, slice_index, max, sum, if◌then◌else◌, replicate}
+use Rattle.std.specs.Prelude.{[], ◌∷◌, length, true, slice_index, max, sum, if◌then◌else◌, replicate}
 use Rattle.bw_model.specs.declared.limits.TheConstants.{MIN_WEIGHT, MAX_WEIGHT, MAX_DEMAND}
 use Rattle.bw_model.specs.declared.limits.TheConstants.{MIN_QUOTA_US, MAX_QUOTA_US}
 use Rattle.bw_model.specs.declared.limits.TheConstants.{MIN_PERIOD_US, MAX_PERIOD_US}
@@ -189,12 +189,22 @@ RestGrows = (slices planned : ℕ) (own others lesser more : List ℕ) (share gr
     → ((k : ℕ) → k < length own → slice_index others k ≤ slice_index more k)
     → (share.guarantee ≤ greater.guarantee) × (share.amount ≤ greater.amount)
 
+-- Beside a group of weight 100 with 100 slices the rest is guaranteed twice as many: others of the
+-- weight 100 are there, and the root's tasks.
+abbrev pub TheRestHasTwice : Type 0
+TheRestHasTwice = IsRestShare 100 80 (100 ∷ []) (100 ∷ [])
+    (record { amount = 200; guarantee = 200 })
+
 -- Of groups of which the first to go is enough, no two go.
 abbrev pub OneSwings : Type 0
 OneSwings = (least k other : ℕ) (counts slices go : List ℕ) → length go ≡ length slices
     → AreLetGo 1 least counts slices go
     → k < length slices → other < length slices → 0 < slice_index go k → 0 < slice_index go other
     → k ≡ other
+
+-- Of two groups that swing for sixty rounds the one goes whose use changed by 7, and not by 5.
+abbrev pub OneOfTwoGoes : Type 0
+OneOfTwoGoes = AreLetGo 1 60 (60 ∷ 60 ∷ []) (7 ∷ 5 ∷ []) (1 ∷ 0 ∷ [])
 
 -- Sixty rounds that serve half of a plan under limits, and all of it without, lost 19 parts of 20
 -- less that half.

@@ -8,7 +8,7 @@ ghost use Rattle.bw_owned.specs.Laws.{PartsAllowNoMore, PeriodsAllowQuotas, Harm
 ghost use Rattle.bw_owned.specs.Laws.{LostIsHarm, GuessesAreMost, RoundAsksAsRead};
 ghost use Rattle.bw_owned.specs.Laws.{OnlyTheHungryLack, BackHasTurned, HalfIsLost};
 ghost use Rattle.bw_owned.specs.Laws.{OthersHaveTheirPart, LevelsHaveTheirParts, RestIsExact};
-ghost use Rattle.bw_owned.specs.Laws.{RestGrows, OneSwings};
+ghost use Rattle.bw_owned.specs.Laws.{RestGrows, TheRestHasTwice, OneSwings, OneOfTwoGoes};
 ghost use Rattle.bw_owned.specs.Swings.{went_back};
 ghost use Rattle.bw_owned.specs.Shares.{linear_weight};
 ghost use Rattle.bw_owned.specs.Requests.{shares_of_request, weight_of_request};
@@ -127,20 +127,25 @@ pub fn back_has_turned()
 {}
 
 /// Law: a loop whose limits go back and forth lets one group go, and no two.
+///
+/// Of two that swing for sixty rounds it is the one whose use changed more.
 pub fn one_swings()
-    ensures { OneSwings }
+    ensures one { OneSwings }
+    ensures of_two { OneOfTwoGoes }
 {}
 
 /// Law: at each level the rest has its part by weights, and less than a slice more.
 ///
 /// So of what all levels come to, the planned groups have no more than the product of their parts.
-/// With weights that make whole slices the rest has just these. Greater weights of others, or lesser
-/// ones of the planned groups, give it no less.
+/// With weights that make whole slices the rest has just these. Greater weights of others, or
+/// lesser ones of the planned groups, give it no less. Others of the same weight and the root's
+/// tasks have twice the slices of one planned group.
 pub fn rest_has_its_part()
     ensures part { OthersHaveTheirPart }
     ensures levels { LevelsHaveTheirParts }
     ensures exact { RestIsExact }
     ensures grow { RestGrows }
+    ensures twice { TheRestHasTwice }
     ensures root { ROOT_WEIGHT ≡ 100 }
     ensures most { MOST_TOLD ≡ 1000000000 }
 {}

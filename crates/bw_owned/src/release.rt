@@ -156,7 +156,7 @@ fn let_one_go(backs: &[u64], turns: &[u64], moved: &[u64], go: &mut [u8])
 /// Where a limit went back for 60 rounds, one group goes: of those whose demand turned for as long,
 /// or else of those with such a limit, the one whose use changed most. Else the groups go that left
 /// most, as few as come to `lost`. Else those that used most on a guess, up to `guesses`. Of equal
-/// ones the first goes.
+/// ones the first goes. It looks at all groups for each one that goes.
 pub fn let_go(
     backs: &[u64],
     turns: &[u64],

@@ -1,4 +1,5 @@
 -- The goals of `rest_has_its_part` that are answered by hand.
+use Rattle.std.proofs.Common.{refl}
 use Rattle.bw_owned.proofs.Rests.{others_have_their_part, levels_have_their_parts, rest_is_exact}
 use Rattle.bw_owned.proofs.Rests.{rest_grows}
 use Rattle.bw_owned.proofs.laws.rest_has_its_part.Goals as goal
@@ -14,3 +15,6 @@ returns-clause-exact c = rest_is_exact
 
 pub returns-clause-grow : goal.returns-clause-grow
 returns-clause-grow c = rest_grows
+
+pub returns-clause-twice : goal.returns-clause-twice
+returns-clause-twice c = record { guarantee_is = refl; amount_is = refl }
