@@ -252,8 +252,9 @@ static __always_inline u64 rate_of(struct leaf *leaf)
     return most < leaf->guarantee ? most : leaf->guarantee;
 }
 
-/* What a leaf that wants nothing keeps, and the most that it may hold. A leaf that holds more at a step
- * of it keeps its credit alone; deadlines are compared by all that it is owed. */
+/* What a leaf keeps that wants nothing or that a limit stops, and the most that it may hold. A leaf
+ * that holds more at a step of it keeps its credit alone; deadlines are compared by all that it is
+ * owed. */
 static __always_inline u64 credit_of(struct leaf *leaf)
 {
     return QUANTUM_NS * ONE_CPU + leaf->guarantee * CREDIT_NS;
@@ -285,7 +286,7 @@ static __always_inline bool settle(struct leaf *leaf)
     u64 passed = time_ns - leaf->at_ns, credit = credit_of(leaf);
 
     leaf->at_ns = time_ns;
-    if (leaf->there > 0) {
+    if (leaf->there > 0 && !leaf->is_aside) {
         leaf->held += owed(rate_of(leaf), passed);
     } else if (leaf->held < credit) {
         leaf->held += owed(leaf->guarantee, passed);
@@ -646,13 +647,15 @@ static __always_inline void end_slice(struct on_cpu *here, u32 row, u32 cpu, u64
     note(here, EVENT_END, row, cpu, used, remains);
 }
 
-/* A leaf waits for the next period of a group with a limit that has nothing left. The caller plays
- * it. */
+/* A leaf waits for the next period of a group with a limit that has nothing left, with no more than
+ * its credit. The caller plays it. */
 static __always_inline void put_aside(struct on_cpu *here, u32 row, u32 number)
 {
     struct leaf *leaf = leaf_of(row);
     struct budget *budget = budget_of(number);
 
+    settle(leaf);
+    cut_to_credit(leaf);
     leaf->is_aside = 1;
     leaf->next_aside = budget->first_aside;
     leaf->stops++;
@@ -672,9 +675,9 @@ static __always_inline u32 free_first(struct on_cpu *here, u32 number)
     if (!budget->first_aside)
         return NOBODY;
     budget->first_aside = leaf->next_aside;
+    settle(leaf);
     leaf->is_aside = 0;
     note(here, EVENT_STOP, row, 0, 0, false);
-    settle(leaf);
     cut(here, row);
     return row;
 }

@@ -16,7 +16,7 @@ LIMIT = HEAD + "wake 0 2\nwake 1 1\npick 0 0\nend 0 10 1\nstop 0 1\npick 0 1\nen
 # that of leaf 1 90.
 OWED = ("processors 2\nslice 10\nterms 10 10 20\nleaf 0 1 1048576\nleaf 1 1 524288\nwake 0 1\n"
         "pass 10\nwake 1 1\npass 100\n")
-# Leaf 2 is lifted to the clock of leaf 1, 20, though leaf 0 has 10.
+# Leaf 2 is lifted to the clock of leaf 1, 20, though leaf 0 has 10: a limit stops that.
 LIFTED = LIMIT + "leaf 2 1\nwake 2 1\npick 0 1\n"
 # At a new plan leaf 0 is at its limit: the level is the clock of leaf 1, 20, at which both begin.
 LEVEL = LIMIT + "level\ngive 0 1 0\ngive 1 1 0\nstop 0 0\npick 0 1\n"
@@ -26,7 +26,7 @@ LATE = HEAD + "wake 0 1\nwake 1 1\npick 0 1\nend 0 20 1\nlate 1\npick 0 1\n"
 LEAD = HEAD + ("wake 0 1\nwake 1 1\npick 0 0\nend 0 310 1\nlevel\ngive 0 1 0\ngive 1 1 0\n"
                "pick 0 1\nend 0 300 1\n")
 TRACES = {
-    "a level without who is at its limit": (LEVEL, {outside.ALLOWED: 3, outside.PUT_ASIDE: 1}),
+    "a level without who is at its limit": (LEVEL, {outside.ALLOWED: 3}),
     "a late turn": (LATE, {outside.ALLOWED: 1, outside.LATE: 1}),
     "a lead of 31 slices is kept": (LEAD + "pick 0 1\n", {outside.ALLOWED: 3}),
     "it goes last": (LEAD + "pick 0 0\n", {outside.ALLOWED: 2, outside.WRONG: 1}),
@@ -37,8 +37,7 @@ TRACES = {
     "a stopped leaf is passed by": (LIMIT + "pick 0 1\n", {outside.ALLOWED: 2, outside.STOPPED: 1}),
     "it is not picked": (LIMIT + "pick 0 0\n", {outside.ALLOWED: 2, outside.WRONG: 1}),
     "it may be in the next period": (LIMIT + "stop 0 0\npick 0 0\n", {outside.ALLOWED: 3}),
-    "a stopped leaf lifts nobody": (
-        LIFTED, {outside.ALLOWED: 2, outside.STOPPED: 1, outside.LIFTED: 1}),
+    "a stopped leaf lifts nobody": (LIFTED, {outside.ALLOWED: 2, outside.STOPPED: 1}),
     "deadlines are of all that is owed": (OWED + "pick 0 0\n", {outside.ALLOWED: 1}),
     "a later one does not go first": (OWED + "pick 0 1\n", {outside.WRONG: 1}),
 }
@@ -83,10 +82,11 @@ def test_the_proved_program_allows_what_is_passed_by():
     if not traced.DISPATCH.is_file():
         pytest.skip(f"no {traced.DISPATCH}")
     assert traced.replayed(BEHIND + "pick 0 1\n") == "allowed: 4 picks"
-    assert traced.replayed(LIMIT + "pick 0 1\n") == "allowed: 4 picks"
+    assert traced.replayed(LIMIT + "pick 0 1\n") == "allowed: 3 picks"
+    assert "no task of the leaf waits" in traced.replayed(LIMIT + "pick 0 0\n")
+    assert traced.replayed(LIMIT + "stop 0 0\npick 0 0\n") == "allowed: 3 picks"
     assert traced.replayed(LATE) == "allowed: 3 picks"
-    # (with a run of leaf 2 that uses 10 at once)
-    assert traced.replayed(LIFTED) == "allowed: 5 picks"
+    assert traced.replayed(LIFTED) == "allowed: 3 picks"
     assert traced.replayed(LEAD + "pick 0 1\n") == "allowed: 3 picks"
     assert traced.replayed(LEVEL) == "allowed: 3 picks"
     assert "lesser clock" in traced.replayed(BEHIND + "bound 0 2 0\npick 0 1\n")

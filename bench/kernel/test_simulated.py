@@ -393,14 +393,15 @@ def test_waits_beside_shares_alone(program, name, rows):
 
 @pytest.mark.parametrize("name", HELD_BACK)
 def test_picks_past_who_is_held_back(program, name):
-    """No pick is wrong, and the proved program allows each with who is held back on processors of
-    their own. What a leaf is owed beyond the most is cut, which the trace tells."""
+    """No pick is wrong, and the proved program allows each with tasks that wait for other CPUs on
+    processors of their own. It knows who is stopped by a limit. What a leaf is owed beyond the most
+    is cut, which the trace tells."""
     case = HELD_BACK[name]
     lines = lines_of(program, case.options, 1, 3, case.cpus, case.groups)
     trace = "".join(line for line in lines if not line.startswith(FOUND))
     replay = outside.Replay(trace)
     assert not replay.found[outside.WRONG] and replay.found[outside.ALLOWED] > 500
-    assert replay.most_away and "cut " in trace
+    assert (replay.most_away or "stop " in trace) and "cut " in trace
     if traced.DISPATCH.is_file():
         assert traced.replayed(trace) == f"allowed: {replay.text.count('pick ')} picks"
 
@@ -483,8 +484,7 @@ def test_who_wakes_while_a_plan_is_taken(program, seed):
     trace = "".join(line for line in lines if not line.startswith(FOUND))
     replay = outside.Replay(trace)
     assert "-p" in options and not replay.found[outside.WRONG], (options, cpus, groups)
-    # (the proved rule knows no leaf that was lifted over one that is held back, at the next plan)
-    if traced.DISPATCH.is_file() and not replay.found[outside.LIFTED]:
+    if traced.DISPATCH.is_file():
         assert traced.replayed(trace) == f"allowed: {replay.text.count('pick ')} picks"
 
 

@@ -1,9 +1,9 @@
-"""Traces with tasks that wait for some CPUs, and leaves that wait for the next period of a limit.
+"""Traces with tasks that wait for some CPUs, leaves that limits stop, and late turns.
 
-The proved rule knows neither. Here it is stated with both: a leaf is held back at a pick if it is
-stopped, or if each of its tasks that wait does so for other CPUs. Then others go first. A leaf that
-wakes is not lifted to the clock of one that is held back from all CPUs, but further. A task that
-has waited for long has a turn past the rule. All these are counted.
+The proved rule knows limits alone. Here it is stated with all: a leaf is held back at a pick if a
+limit stops it, or if each of its tasks that wait does so for other CPUs. Then others go first. In a
+trace without terms a leaf that wakes is not lifted to the clock of one that all CPUs are kept from,
+but further. A task that has waited for long has a turn past the rule. All these are counted.
 """
 from __future__ import annotations
 
@@ -13,11 +13,11 @@ from dataclasses import dataclass, field, replace
 from fractions import Fraction
 
 # What the proved program does not read.
-MORE = ("bound ", "stop ", "late ")
+MORE = ("bound ", "late ")
 # What a pick or a wake is.
 ALLOWED, WRONG = "allowed", "wrong"
 BOUND, STOPPED, LIFTED = "before a bound task", "before a stopped leaf", "lifted over one held back"
-LATE, PUT_ASIDE = "out of turn", "at its limit at a new plan"
+LATE = "out of turn"
 # Parts of a CPU, and the most that a leaf keeps of its lead at a new plan, in slices.
 ONE_CPU, MOST_LEAD = 1 << 20, 32
 
@@ -78,7 +78,7 @@ class Leaf:
 
     def passed(self, nanoseconds: int, terms: Terms) -> None:
         """Time passes."""
-        if self.waiting or self.running:
+        if (self.waiting or self.running) and not self.is_stopped:
             self.held += self.rate * nanoseconds
         elif self.held < self.credit(terms):
             self.held = min(self.held + self.guarantee * nanoseconds, self.credit(terms))
@@ -93,6 +93,11 @@ class Leaf:
         """Gives back what was not used of a quantum."""
         left = (terms.quantum - held_ns) * ONE_CPU
         self.held = self.held + min(left, paid) if left > 0 else max(self.held + left, 0)
+
+    @property
+    def is_seen(self) -> bool:
+        """Whether its clock counts where others wake: it wants to run, and no limit stops it."""
+        return self.running > 0 or self.waiting > 0 and not self.is_stopped
 
     @property
     def is_ready(self) -> bool:
@@ -125,7 +130,7 @@ def words_of(trace: str) -> Iterator[tuple[str, list[int]]]:
 
 class Replay:
     """A trace that is replayed step by step: how many picks and wakes are of each kind, and the
-    lines that the proved program reads. Where a leaf is held back its tasks are picked by
+    lines that the proved program reads. Where tasks wait for other CPUs they are picked by
     processors of their own, and given back by them after the pick, as if these had ended at once.
     """
 
@@ -144,7 +149,7 @@ class Replay:
             "end": self.end, "leave": self.leave, "level": self.set_level, "give": self.give,
             "cut": self.cut, "bound": self.bound, "stop": self.stop, "late": self.late}
         for line, (name, numbers) in zip(trace.splitlines(), words_of(trace)):
-            if name not in ("pick", "level") and not line.startswith(MORE):
+            if name != "pick" and not line.startswith(MORE):
                 self.lines.append(line)
             steps[name](*numbers)
 
@@ -197,9 +202,8 @@ class Replay:
         """Tasks of a leaf want to run."""
         leaf = self.capped(row)
         by_rule = leaf.charged
-        wants = [each for each in self.leaves if each.waiting or each.running]
-        if leaf not in wants:
-            by_rule = max(leaf.charged, self.level(leaf, wants))
+        if not leaf.waiting and not leaf.running:
+            by_rule = max(leaf.charged, self.level(leaf, self.wanting()))
             leaf.charged = max(leaf.charged, self.level(leaf, self.seen()))
         leaf.waiting += tasks
         if leaf.charged != by_rule:
@@ -212,7 +216,8 @@ class Replay:
         leaf = self.leaves[row]
         woken = replace(leaf, charged=by_rule)
         away = self.away([each for each, other in enumerate(self.leaves)
-                          if other.waiting and other is not leaf], woken)
+                          if other.waiting and not other.is_stopped and other is not leaf],
+                         woken)
         at = self.count + len(away)
         self.most_away = max(self.most_away, len(away) + 1)
         self.most_held = max(self.most_held, leaf.held)
@@ -233,9 +238,13 @@ class Replay:
         kind = LATE if self.is_late else min(before.values(), default=ALLOWED)
         self.is_late = False
         self.found[kind if kind and not is_wrong else WRONG] += 1
-        away = self.away([each for each, why in before.items() if why or kind == LATE], leaf)
+        away = self.away([each for each, why in before.items()
+                          if why == BOUND or kind == LATE and why != STOPPED], leaf)
         self.lines += [f"pick {at} {each}" for at, each in enumerate(away, self.count)]
-        self.lines.append(f"pick {processor} {row}")
+        # (a late turn may be one of a leaf that a limit stops)
+        goes = kind == LATE and leaf.is_stopped
+        self.lines += [f"stop {row} 0"] * goes + [f"pick {processor} {row}"]
+        self.lines += [f"stop {row} 1"] * goes
         self.lines += [f"end {at} 0 1" for at in range(self.count, self.count + len(away))]
         self.capped(row)
         leaf.charged += self.slice
@@ -284,30 +293,24 @@ class Replay:
         if leaf.rate < before:
             self.cut(row)
 
-    def seen(self) -> list[Leaf]:
+    def wanting(self) -> list[Leaf]:
         """The leaves that want, but those that wait at their limit with all of their tasks."""
-        return [each for each in self.leaves if each.running or each.waiting and not each.is_stopped
-                and (self.terms.quantum or each.is_ready)]
+        return [each for each in self.leaves if each.is_seen]
+
+    def seen(self) -> list[Leaf]:
+        """Those whose clocks count: before there were terms none that no CPU may take."""
+        return [each for each in self.wanting()
+                if each.running or self.terms.quantum or each.is_ready]
 
     def set_level(self) -> None:
-        """The level of a new plan: the least settled clock of those that want. In the text those at
-        their limit want nothing for this moment."""
-        away = [row for row, each in enumerate(self.leaves)
-                if each.is_stopped and each.waiting and not each.running]
-        for row in away:
-            self.cut(row)
-        wants = self.seen()
+        """The level of a new plan: the least settled clock of those that want."""
+        wants = self.wanting()
         if wants:
             least = min(wants, key=lambda each: Fraction(each.settled(self.slice), each.amount))
             self.level_now = least.settled(self.slice), least.amount
         else:
             most = max(self.leaves, key=lambda each: Fraction(each.charged, each.amount))
             self.level_now = most.charged, most.amount
-        waiting = [self.leaves[row].waiting for row in away]
-        self.lines += [f"leave {row}" for row, count in zip(away, waiting) for _ in range(count)]
-        self.lines.append("level")
-        self.lines += [f"wake {row} {count}" for row, count in zip(away, waiting)]
-        self.found[PUT_ASIDE] += len(away)
 
     def give(self, row: int, amount: int, guarantee: int) -> None:
         """A new plan gives a leaf an amount and a guarantee. It keeps its lead."""
@@ -327,8 +330,10 @@ class Replay:
         self.leaves[row].bound[mask] += 1 if waits else -1
 
     def stop(self, row: int, is_stopped: int) -> None:
-        """A leaf waits for the next period of its limit, or no longer."""
+        """A limit stops a leaf, which keeps its credit, or stops it no longer."""
         self.leaves[row].is_stopped = bool(is_stopped)
+        if is_stopped:
+            self.cut(row)
 
     def late(self, _: int) -> None:
         """The next pick is out of turn."""

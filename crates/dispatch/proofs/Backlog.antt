@@ -3,7 +3,7 @@
 use Rattle.std.proofs.Common.{◌≡◌, ◌≢◌, ℕ, zero, suc, ◌+◌, ◌-◌, ◌*◌, ◌<◌, ◌≤◌, ◌==◌, ◌⊎◌, inl, inr}
 use Rattle.std.proofs.Common.{List, [], ◌∷◌, length, Bool, true, false, Option, None, Some, nat_lt}
 use Rattle.std.proofs.Common.{slice_get, slice_set, get_or, map, min, max, refl, ap, sym, subst}
-use Rattle.std.proofs.Common.{◌∙◌, arith, if◌then◌else◌}
+use Rattle.std.proofs.Common.{◌∙◌, arith, if◌then◌else◌, ◌||◌}
 use Rattle.std.specs.List.{sum_by, AllByRecursion}
 use Rattle.std.proofs.Math.Nat.{mul-le-mul_right}
 use Rattle.std.proofs.lemmas.List.{get_or-set_same, get_or-set_other}
@@ -170,17 +170,18 @@ pub passed_at_most : (s : Reservations) (t : ℕ) (a : Account)
 passed_at_most s t a =
     let rate : rate_of a * t ≤ a.guarantee * t =
     mul-le-mul_right t (let less : rate_of a ≤ a.guarantee = omega arith in less) in
-    either_at_most (tasks_of a == 0)
+    either_at_most (tasks_of a == 0 || a.is_stopped)
     (max a.owed (min (a.owed + a.guarantee * t) (credit_of s a))) (a.owed + rate_of a * t)
     (a.owed + a.guarantee * t) (omega arith) (omega (arith, rate))
 
--- a leaf with no task is owed no more than its credit
-pub passed_idle : (s : Reservations) (t : ℕ) (a : Account) → tasks_of a ≡ 0 → a.owed ≤ credit_of s a
+-- a leaf with no task, or one that a limit stops, is owed no more than its credit
+pub passed_idle : (s : Reservations) (t : ℕ) (a : Account)
+    → (tasks_of a == 0 || a.is_stopped) ≡ true → a.owed ≤ credit_of s a
     → (passed s t a).owed ≤ credit_of s a
 passed_idle s t a none less =
     subst (λ (b : Bool). (if◌then◌else◌ {A = ℕ} b
     (max a.owed (min (a.owed + a.guarantee * t) (credit_of s a))) (a.owed + rate_of a * t))
-    ≤ credit_of s a) (sym (eq-eqb (tasks_of a) 0 none)) (omega (arith, less))
+    ≤ credit_of s a) (sym none) (omega (arith, less))
 
 lower_demand : (g h q c e owed owed' r r' : ℕ) → h ≡ g → r' ≡ r → owed' ≤ owed
     → demand h q (h * c) owed' (r' * q) (h * e) ≤ demand g q (g * c) owed (r * q) (g * e)

@@ -1,6 +1,6 @@
 -- The backlog of whole runs, from rest on.
 use Rattle.std.proofs.Common.{◌≡◌, ℕ, ◌+◌, ◌-◌, ◌*◌, ◌<◌, ◌≤◌, List, [], ◌∷◌, length, Option, None}
-use Rattle.std.proofs.Common.{nat_lt, refl, ap, sym, subst, ◌∙◌, arith}
+use Rattle.std.proofs.Common.{nat_lt, Bool, true, false, refl, ap, sym, subst, ◌∙◌, arith}
 use Rattle.std.specs.List.{sum_by, AllByRecursion}
 use Rattle.std.proofs.Math.Nat.{mul-le-mul_right}
 use Rattle.std.proofs.lemmas.List.Sums.{sum_by-cons}
@@ -9,9 +9,10 @@ use Rattle.dispatch.specs.declared.reservation.Run.{Run}
 use Rattle.dispatch.specs.Reservation.{Reservations, WHOLE, account_at, no_account, quantum_of}
 use Rattle.dispatch.specs.Reservation.{rate_of, cut, with_account, state_picked, state_ended, after}
 use Rattle.dispatch.specs.Reservation.{Allows, left, capped, terms_of, woken, given, level_now}
+use Rattle.dispatch.specs.Reservation.{stopped}
 use Rattle.dispatch.specs.declared.reservation.Step.{Step}
 use Rattle.dispatch.specs.declared.reservation.Step.TheVariants.{Pass, Wake, Pick, End, Level, Give}
-use Rattle.dispatch.specs.declared.reservation.Step.TheVariants.{Leave, Cut}
+use Rattle.dispatch.specs.declared.reservation.Step.TheVariants.{Leave, Cut, Stop, Refill}
 use Rattle.dispatch.specs.Windows.{over_runs, of_run, IsFair, IsLost, IsFairRun, after_all}
 use Rattle.dispatch.specs.Windows.{IsAtRest, FitsHost}
 use Rattle.dispatch.proofs.Demands.{demand_within}
@@ -21,7 +22,7 @@ use Rattle.dispatch.proofs.BacklogPicks.{backlog_picked}
 use Rattle.dispatch.proofs.BacklogEnds.{either, backlog_ended}
 use Rattle.dispatch.proofs.BacklogTime.{backlog_lost}
 
--- a leaf of which a task that waits has gone
+-- a leaf of which a task that waits has gone, or which a limit stops or does not
 record IsLeft (a now : Account) : Type 0 where
   guarantee : now.guarantee ≡ a.guarantee
   running : now.share.running ≡ a.share.running
@@ -36,6 +37,10 @@ is_left s a =
       before = record (capped (terms_of s) a) {
         share = record a.share { waiting = a.share.waiting - 1 };
       }
+
+is_stopped : (s : Reservations) (stops : Bool) (a : Account) → IsLeft a (stopped s stops a)
+is_stopped s true a = record { guarantee = refl; running = refl; owed = omega arith }
+is_stopped s false a = record { guarantee = refl; running = refl; owed = omega arith }
 
 leveled : (n w : ℕ) (s : Reservations) (c : ℕ × ℕ) → Backlog n w s
     → Backlog n w (record s { level = c })
@@ -75,6 +80,12 @@ still_after n w s (Leave i) some b may fair lost is =
 still_after n w s (Cut i) some b may fair lost is =
     subst (λ (m : ℕ). Backlog n m (after s (Cut i))) (sym is)
     (lowered n w s i (cut s (account_at s i)) b may refl refl (omega arith))
+still_after n w s (Stop i stops) some b may fair lost is =
+    let h = is_stopped s stops (account_at s i) in
+    subst (λ (m : ℕ). Backlog n m (after s (Stop i stops))) (sym is)
+    (lowered n w s i (stopped s stops (account_at s i)) b may h.guarantee h.running h.owed)
+still_after n w s Refill some b may fair lost is =
+    subst (λ (m : ℕ). Backlog n m s) (sym is) b
 
 pub backlog_after : (n w lost : ℕ) (s : Reservations) (e : Step) → 0 < n → Backlog n w s
     → Allows s e → IsFair s e → IsLost w lost s e → Backlog n lost (after s e)

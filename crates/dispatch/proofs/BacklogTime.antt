@@ -1,15 +1,16 @@
 -- The backlog when time passes: its bound falls by what the processors did, or by what they lost.
 use Rattle.std.proofs.Common.{◌≡◌, ℕ, zero, suc, ◌+◌, ◌-◌, ◌*◌, ◌<◌, ◌≤◌, inl, inr, List, [], ◌∷◌}
 use Rattle.std.proofs.Common.{length, Option, None, Some, get_or, map, refl, ap, sym, subst, ◌∙◌}
-use Rattle.std.proofs.Common.{arith}
+use Rattle.std.proofs.Common.{arith, Bool, true, false, ◌==◌, ◌||◌, if◌then◌else◌}
 use Rattle.std.specs.List.{sum_by, AllByRecursion}
 use Rattle.std.proofs.Math.Nat.{mul-le-mul_right}
+use Rattle.std.proofs.lemmas.Bool.{eq-eqb}
 use Rattle.std.proofs.lemmas.List.{length-map}
 use Rattle.std.proofs.lemmas.List.Sums.{sum_by-cons}
 use Rattle.dispatch.specs.declared.reservation.Account.{Account}
 use Rattle.dispatch.specs.declared.reservation.Run.{Run}
 use Rattle.dispatch.specs.Reservation.{Reservations, WHOLE, account_at, no_account, quantum_of}
-use Rattle.dispatch.specs.Reservation.{tasks_of, credit_of, passed, aged}
+use Rattle.dispatch.specs.Reservation.{tasks_of, credit_of, passed, aged, ready_in}
 use Rattle.dispatch.specs.declared.reservation.Step.TheVariants.{Pass}
 use Rattle.dispatch.specs.Windows.{over_runs, of_run, RunsWithin, IsBusy, NoneWaits}
 use Rattle.dispatch.specs.Windows.{WaitsBeyondCredit, IsLost}
@@ -157,6 +158,21 @@ lost_room n w s t e b =
     (λ k known. rest_aged (quantum_of s) t (get_or s.processors k None)))
     (nearer_demands s t e)
 
+or_true : (b : Bool) → (b || true) ≡ true
+or_true true = refl
+or_true false = refl
+
+-- a leaf of which no task is ready and none runs wants nothing, or a limit stops it
+wants_none : (a : Account) → ready_in a ≡ 0 → a.share.running ≡ 0
+    → (tasks_of a == 0 || a.is_stopped) ≡ true
+wants_none a ready running = by_test a.is_stopped ready where
+  by_test : (b : Bool) → (if◌then◌else◌ {A = ℕ} b 0 a.share.waiting) ≡ 0
+      → (tasks_of a == 0 || b) ≡ true
+  by_test true none = or_true (tasks_of a == 0)
+  by_test false none =
+      let count : tasks_of a ≡ 0 = omega (arith, none, running) in
+      ap (λ (c : Bool). c || false) (eq-eqb (tasks_of a) 0 count)
+
 quiet_room : (n w : ℕ) (s : Reservations) (t e : ℕ) → 0 < n → Backlog n w s → NoneWaits s
     → WaitsBeyondCredit s → AllByRecursion (RunsWithin s.quantum t) s.processors
     → sum_by (rest (quantum_of s)) (map (aged t) s.processors)
@@ -190,11 +206,13 @@ quiet_room n w s t e some b none_waits beyond within = quiet none_waits where
       ] where
         idle : NoneWaits s → sum_by busy s.processors ≡ 0 → rests ≡ 0 → Goal
         idle none free no_rests =
-            let no_tasks : (k : ℕ) → k < length s.accounts → tasks_of (account_at s k) ≡ 0 =
-            λ k known. (let waiting = none k in
-            let running = one_of_sum (λ x. x.share.running) s.accounts k no_account known in
-            let count : tasks_of (account_at s k) ≡ 0 =
-            omega (arith, waiting, running, b.total, free) in count) in
+            let no_tasks : (k : ℕ) → k < length s.accounts
+            → (tasks_of (account_at s k) == 0 || (account_at s k).is_stopped) ≡ true =
+            λ k known. (let running =
+            one_of_sum (λ x. x.share.running) s.accounts k no_account known in
+            let none_runs : (account_at s k).share.running ≡ 0 =
+            omega (arith, running, b.total, free) in
+            wants_none (account_at s k) (none k) none_runs) in
             let demands_are : demands ≤ sum_by (λ x. x.guarantee * e + x.share.running * 0) s.accounts =
             sum_map (demand_by (quantum_of s) s.credit e)
             (λ x. x.guarantee * e + x.share.running * 0) (passed s t) s.accounts no_account

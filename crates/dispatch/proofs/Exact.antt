@@ -14,17 +14,18 @@ use Rattle.dispatch.specs.declared.reservation.Account.{Account}
 use Rattle.dispatch.specs.declared.reservation.Terms.{Terms}
 use Rattle.dispatch.specs.declared.reservation.Run.{Run}
 use Rattle.dispatch.specs.declared.reservation.Step.TheVariants.{Pass, Wake, Pick, End, Level}
-use Rattle.dispatch.specs.declared.reservation.Step.TheVariants.{Give, Leave, Cut}
+use Rattle.dispatch.specs.declared.reservation.Step.TheVariants.{Give, Leave, Cut, Stop, Refill}
 use Rattle.dispatch.specs.Rule.{number, ◌>>=◌, leaf_ended, without_value, waits_behind, is_behind}
 use Rattle.dispatch.specs.Rule as shares
 use Rattle.dispatch.specs.Reservation.{Reservations, WHOLE, terms_of, account_at, no_account}
 use Rattle.dispatch.specs.Reservation.{quantum_in, rate_of, capped_owed, settled_owed, cut_if_less}
 use Rattle.dispatch.specs.Reservation.{woken_in, picked_in, given_in, left_in}
 use Rattle.dispatch.specs.Reservation.{passed_owed, IsDue, OwesWithin, IsNoLater, IsNoFurther}
-use Rattle.dispatch.specs.Reservation.{MayPick, Runs, Waits, Allows}
+use Rattle.dispatch.specs.Reservation.{MayPick, Runs, Waits, Allows, ready_in, seen_leaf}
 use Rattle.dispatch.specs.Steps.{is_due, ahead, back, is_earlier, is_passed_over, owed_fits}
 use Rattle.dispatch.specs.Steps.{age_fits, AgeFits, account_woken, account_picked, account_ended}
-use Rattle.dispatch.specs.Steps.{account_given, account_left, account_cut, free_processor, run_of}
+use Rattle.dispatch.specs.Steps.{account_given, account_left, account_cut, account_stopped}
+use Rattle.dispatch.specs.Steps.{free_processor, run_of}
 use Rattle.dispatch.specs.Steps.{end_allowed, and_then, allowed, HasRoom, HasRoomAtEnd}
 use Rattle.dispatch.specs.Steps.{RefusalIsExact}
 use Rattle.dispatch.proofs.Backlog.{known_at}
@@ -266,7 +267,7 @@ none_at p xs k none known = by_test (p (get_or xs k no_account)) refl where
       let some : list_any p xs ≡ true = list_any_at p xs k no_account known is in
       absurd (let clash : true ≡ false = sym some ∙ none in cc clash)
 
-in_range : (xs : List Account) (k : ℕ) → 0 < (get_or xs k no_account).share.waiting
+in_range : (xs : List Account) (k : ℕ) → 0 < ready_in (get_or xs k no_account)
     → k < length xs
 in_range [] k waits = absurd (let clash : ⊥ = omega (arith, waits) in clash)
 in_range (l ∷ xs) zero waits = omega arith
@@ -277,10 +278,10 @@ due_before : (s : Reservations) (a : Account)
     → IsDue s (account_at s k) → IsDue s a × IsNoLater s a (account_at s k)
 due_before s a none k waits due =
     let t = terms_of s in
-    let p = over_parts (nat_lt 0 (account_at s k).share.waiting) (is_due t (account_at s k))
+    let p = over_parts (nat_lt 0 (ready_in (account_at s k))) (is_due t (account_at s k))
     (is_due t a) (is_earlier t a (account_at s k))
     (none_at (is_passed_over t a) s.accounts k none (in_range s.accounts k waits))
-    (lt-ltb 0 (account_at s k).share.waiting waits) (is_due_of s (account_at s k) due) in
+    (lt-ltb 0 (ready_in (account_at s k)) waits) (is_due_of s (account_at s k) due) in
     let own = due_is s a p.0 in
     (own, no_later s a (account_at s k) own.owes due.owes p.1)
 
@@ -291,11 +292,11 @@ none_before : (s : Reservations) (a : Account)
 none_before s a each =
     list_any_none (is_passed_over (terms_of s) a) s.accounts
     (All-from_get_or (λ m. is_passed_over (terms_of s) a m ≡ false) s.accounts no_account
-    (λ k less. over_none (nat_lt 0 (account_at s k).share.waiting)
+    (λ k less. over_none (nat_lt 0 (ready_in (account_at s k)))
     (is_due (terms_of s) (account_at s k)) (is_due (terms_of s) a)
     (is_earlier (terms_of s) a (account_at s k))
     (λ waits due. (let d = due_is s (account_at s k) due in
-    let p = each k (ltb-true 0 (account_at s k).share.waiting waits) d in (
+    let p = each k (ltb-true 0 (ready_in (account_at s k)) waits) d in (
       is_due_of s a p.0,
       not_earlier s a (account_at s k) p.0.owes d.owes p.1,
     )))))
@@ -325,20 +326,20 @@ is_false l m least = by_test (nat_lt 0 m.waiting) refl where
 
 -- whether a leaf that waits has a lesser clock
 abbrev lesser : Account → List Account → Bool
-lesser a xs = list_any (λ b. waits_behind a.share b.share) xs
+lesser a xs = list_any (λ b. waits_behind a.share (seen_leaf b)) xs
 
 none_lesser : (s : Reservations) (a : Account)
     → ((k : ℕ) → Waits s k → IsNoFurther a.share (account_at s k).share)
     → lesser a s.accounts ≡ false
 none_lesser s a each =
-    list_any_none (λ b. waits_behind a.share b.share) s.accounts
-    (All-from_get_or (λ m. waits_behind a.share m.share ≡ false) s.accounts no_account
-    (λ k less. is_false a.share (account_at s k).share (each k)))
+    list_any_none (λ b. waits_behind a.share (seen_leaf b)) s.accounts
+    (All-from_get_or (λ m. waits_behind a.share (seen_leaf m) ≡ false) s.accounts no_account
+    (λ k less. is_false a.share (seen_leaf (account_at s k)) (each k)))
 
 -- ---- pick
 
 record IsPickable (t : Terms) (xs : List Account) (a : Account) : Type 0 where
-  waits : 0 < a.share.waiting
+  waits : 0 < ready_in a
   due : list_any (is_passed_over t a) xs ≡ false
   shares : (not (is_due t a) && lesser a xs) ≡ false
   charged : (picked_in t a).share.charged < 2 ^ 64
@@ -347,13 +348,13 @@ record IsPickable (t : Terms) (xs : List Account) (a : Account) : Type 0 where
 picked_ok : (t : Terms) (xs : List Account) (a v : Account) → account_picked t xs (Some a) ≡ Ok v
     → IsPickable t xs a
 picked_ok t xs a v ok =
-    by_tests (a.share.waiting == 0) (list_any (is_passed_over t a) xs)
+    by_tests (ready_in a == 0) (list_any (is_passed_over t a) xs)
     (not (is_due t a) && lesser a xs) refl refl refl ok where
       rest : Result Account Refusal
       rest = number (picked_in t a).share.charged
           >>= λ _. (number (picked_in t a).share.running >>= λ _. Ok (picked_in t a))
 
-      by_tests : (b c d : Bool) → (a.share.waiting == 0) ≡ b
+      by_tests : (b c d : Bool) → (ready_in a == 0) ≡ b
           → list_any (is_passed_over t a) xs ≡ c → (not (is_due t a) && lesser a xs) ≡ d
           → ◌≡◌ {A = Result Account Refusal} (if b then Err refusals.NothingWaits
           else if c then Err refusals.NotEarliest else if d then Err refusals.NotLeast else rest)
@@ -366,7 +367,7 @@ picked_ok t xs a v ok =
           let rooms = two_rooms (picked_in t a) v (picked_in t a).share.charged
           (picked_in t a).share.running is in
           record {
-            waits = some_not a.share.waiting one;
+            waits = some_not (ready_in a) one;
             due = two;
             shares = three;
             charged = rooms.0;
@@ -397,8 +398,8 @@ by_shares s i is none k waits =
       by_test false true due least both =
           absurd (let clash : true ≡ false = both in cc clash)
       by_test false false due least both =
-          behind_false (account_at s i).share (account_at s k).share
-          (none_at (λ b. waits_behind (account_at s i).share b.share) s.accounts k least
+          behind_false (account_at s i).share (seen_leaf (account_at s k))
+          (none_at (λ b. waits_behind (account_at s i).share (seen_leaf b)) s.accounts k least
           (in_range s.accounts k waits)) waits
 
 pick_sound : (s : Reservations) (p i : ℕ) → allowed s (Pick p i) ≡ Ok tt
@@ -447,7 +448,7 @@ pick_complete s p i may room =
     else if list_any (is_passed_over t a) s.accounts then Err refusals.NotEarliest
     else if not (is_due t a) && lesser a s.accounts then Err refusals.NotLeast
     else (number w.share.charged >>= λ _. (number w.share.running >>= λ _. Ok w))))
-    (not_zero a.share.waiting may.waits)
+    (not_zero (ready_in a) may.waits)
     ∙ ap (λ (b : Bool). without_value (if b then Err refusals.NotEarliest
     else if not (is_due t a) && lesser a s.accounts then Err refusals.NotLeast
     else (number w.share.charged >>= λ _. (number w.share.running >>= λ _. Ok w))))
@@ -562,6 +563,18 @@ cut_complete : (s : Reservations) (i : ℕ) → Allows s (Cut i) → allowed s (
 cut_complete s i known =
     ap (λ (o : Option Account). without_value (account_cut (terms_of s) o)) (known_at s i known)
 
+stop_sound : (s : Reservations) (i : ℕ) (stops : Bool) → allowed s (Stop i stops) ≡ Ok tt
+    → Allows s (Stop i stops)
+stop_sound s i stops ok =
+    of_known (Allows s (Stop i stops)) s i (account_stopped (terms_of s) stops) ok
+    (λ none. absurd (cc none)) (λ known v is. known)
+
+stop_complete : (s : Reservations) (i : ℕ) (stops : Bool) → Allows s (Stop i stops)
+    → allowed s (Stop i stops) ≡ Ok tt
+stop_complete s i stops known =
+    ap (λ (o : Option Account). without_value (account_stopped (terms_of s) stops o))
+    (known_at s i known)
+
 pub refusal_is_exact : RefusalIsExact
 refusal_is_exact s (Pass ns) = (λ ok. (tt, pass_sound s ns ok), λ p. pass_complete s ns p.1)
 refusal_is_exact s (Wake i tasks) = (wake_sound s i tasks, wake_complete s i tasks)
@@ -578,3 +591,6 @@ refusal_is_exact s (Give i amount guarantee) = (
 refusal_is_exact s (Leave i) =
     (λ ok. (leave_sound s i ok, tt), λ p. leave_complete s i p.0)
 refusal_is_exact s (Cut i) = (λ ok. (cut_sound s i ok, tt), λ p. cut_complete s i p.0)
+refusal_is_exact s (Stop i stops) =
+    (λ ok. (stop_sound s i stops ok, tt), λ p. stop_complete s i stops p.0)
+refusal_is_exact s Refill = (λ ok. (tt, tt), λ p. refl)

@@ -10,7 +10,7 @@ use Rattle.dispatch.specs.declared.reservation.Account.{Account}
 use Rattle.dispatch.specs.declared.reservation.Run.{Run}
 use Rattle.dispatch.specs.declared.reservation.Step.{Step}
 use Rattle.dispatch.specs.declared.reservation.Step.TheVariants.{Pass, Wake, Pick, End, Level}
-use Rattle.dispatch.specs.declared.reservation.Step.TheVariants.{Give, Leave, Cut}
+use Rattle.dispatch.specs.declared.reservation.Step.TheVariants.{Give, Leave, Cut, Stop, Refill}
 use Rattle.dispatch.specs.Premises.{waits_beyond, has_tasks_for, is_still, is_busy, is_within}
 use Rattle.dispatch.specs.Premises.{has_guarantee, is_fair, fit_in, fits_host, PremisesAreTold}
 use Rattle.dispatch.specs.Premises.{is_whole, is_whole_at, lost_after}
@@ -20,7 +20,7 @@ use Rattle.dispatch.specs.Reservation.{credit_in, tasks_of}
 use Rattle.dispatch.specs.Windows.{FitsHost, IsFair, IsBusy, NoneWaits, RunsWithin, IsLost, IsWhole}
 use Rattle.dispatch.specs.Windows.{IsWholeAt}
 use Rattle.dispatch.specs.Windows.{WaitsBeyondCredit, HasTasksForGuarantees}
-use Rattle.dispatch.specs.Reservation.{most_in}
+use Rattle.dispatch.specs.Reservation.{most_in, ready_in}
 use Rattle.dispatch.proofs.Backlog.{by_order}
 use Rattle.dispatch.proofs.Exact.{rooms_of, all_room, both_tests}
 use Rattle.dispatch.proofs.Mapped.{passes}
@@ -72,9 +72,9 @@ beyond s all k more =
     (implied (nat_lt (credit_in (terms_of s) no_account) 0) false
     (λ is. (let less = ltb-true (credit_in (terms_of s) no_account) 0 is in
     absurd (let clash : ⊥ = omega (arith, less) in clash)))) all k in
-    ltb-true 0 (account_at s k).share.waiting
+    ltb-true 0 (ready_in (account_at s k))
     (follows (nat_lt (credit_in (terms_of s) (account_at s k)) (account_at s k).owed)
-    (nat_lt 0 (account_at s k).share.waiting) test
+    (nat_lt 0 (ready_in (account_at s k))) test
     (lt-ltb (credit_in (terms_of s) (account_at s k)) (account_at s k).owed more))
 
 all_beyond : (s : Reservations) → WaitsBeyondCredit s
@@ -82,8 +82,8 @@ all_beyond : (s : Reservations) → WaitsBeyondCredit s
 all_beyond s each =
     all_pass (waits_beyond (terms_of s)) s.accounts
     (λ k. implied (nat_lt (credit_in (terms_of s) (account_at s k)) (account_at s k).owed)
-    (nat_lt 0 (account_at s k).share.waiting)
-    (λ is. lt-ltb 0 (account_at s k).share.waiting
+    (nat_lt 0 (ready_in (account_at s k)))
+    (λ is. lt-ltb 0 (ready_in (account_at s k))
     (each k (ltb-true (credit_in (terms_of s) (account_at s k)) (account_at s k).owed is))))
 
 tasks : (s : Reservations) → list_all has_tasks_for s.accounts ≡ true → HasTasksForGuarantees s
@@ -91,24 +91,24 @@ tasks s all k waits =
     let test = each_passes has_tasks_for s.accounts refl all k in
     ltb-false (tasks_of (account_at s k) * WHOLE) (account_at s k).guarantee
     (not-true (nat_lt (tasks_of (account_at s k) * WHOLE) (account_at s k).guarantee)
-    (follows (nat_lt 0 (account_at s k).share.waiting)
+    (follows (nat_lt 0 (ready_in (account_at s k)))
     (not (nat_lt (tasks_of (account_at s k) * WHOLE) (account_at s k).guarantee)) test
-    (lt-ltb 0 (account_at s k).share.waiting waits)))
+    (lt-ltb 0 (ready_in (account_at s k)) waits)))
 
 all_tasks : (s : Reservations) → HasTasksForGuarantees s → list_all has_tasks_for s.accounts ≡ true
 all_tasks s each =
     all_pass has_tasks_for s.accounts
-    (λ k. implied (nat_lt 0 (account_at s k).share.waiting)
+    (λ k. implied (nat_lt 0 (ready_in (account_at s k)))
     (not (nat_lt (tasks_of (account_at s k) * WHOLE) (account_at s k).guarantee))
     (λ is. true_not (nat_lt (tasks_of (account_at s k) * WHOLE) (account_at s k).guarantee)
     (le-ltb (tasks_of (account_at s k) * WHOLE) (account_at s k).guarantee
-    (each k (ltb-true 0 (account_at s k).share.waiting is)))))
+    (each k (ltb-true 0 (ready_in (account_at s k)) is)))))
 
 still : (s : Reservations) → list_all is_still s.accounts ≡ true → NoneWaits s
 still s all k =
     let test = each_passes is_still s.accounts refl all k in
-    let none = ltb-false 0 (account_at s k).share.waiting
-    (not-true (nat_lt 0 (account_at s k).share.waiting) test) in
+    let none = ltb-false 0 (ready_in (account_at s k))
+    (not-true (nat_lt 0 (ready_in (account_at s k))) test) in
     omega (arith, none)
 
 -- ---- of each processor
@@ -194,6 +194,8 @@ fair s (Give i amount guarantee) is =
     (given s.accounts i guarantee both.0, whole_of (terms_of s) s.accounts i both.1)
 fair s (Leave i) is = whole_of (terms_of s) s.accounts i is
 fair s (Cut i) is = tt
+fair s (Stop i stops) is = tt
+fair s Refill is = tt
 
 told_fair : (s : Reservations) (e : Step) → IsFair s e → is_fair s e ≡ true
 told_fair s (Pass ns) h =
@@ -219,6 +221,8 @@ told_fair s (Give i amount guarantee) h =
     (is_whole_of (terms_of s) s.accounts i h.1)
 told_fair s (Leave i) h = is_whole_of (terms_of s) s.accounts i h
 told_fair s (Cut i) h = refl
+told_fair s (Stop i stops) h = refl
+told_fair s Refill h = refl
 
 -- ---- time that is lost
 
@@ -247,6 +251,8 @@ told_lost s w Level = refl
 told_lost s w (Give i amount guarantee) = refl
 told_lost s w (Leave i) = refl
 told_lost s w (Cut i) = refl
+told_lost s w (Stop i stops) = refl
+told_lost s w Refill = refl
 
 -- ---- the host
 

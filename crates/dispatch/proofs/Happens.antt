@@ -21,7 +21,7 @@ use Rattle.dispatch.specs.Rule as shares
 use Rattle.dispatch.specs.Reservation.{Reservations, WHOLE, terms_of, account_at, no_account}
 use Rattle.dispatch.specs.Reservation.{quantum_in, rate_of, cut_in, cut_if_less, capped_owed}
 use Rattle.dispatch.specs.Reservation.{settled_owed, picked_in, ended_in, paid_in, state_ended}
-use Rattle.dispatch.specs.Reservation.{woken_in, with_account, passed_in}
+use Rattle.dispatch.specs.Reservation.{woken_in, with_account, passed_in, ready_in, seen_leaf}
 use Rattle.dispatch.specs.Steps.{account_picked, account_ended, is_passed_over, is_due, happens}
 use Rattle.dispatch.specs.Steps.{free_processor, run_of, end_allowed, and_then, account_woken, paid_at}
 
@@ -80,8 +80,8 @@ picked_is t accounts None w is = absurd (cc is)
 picked_is t accounts (Some a) w is = (
   a,
   refl,
-  picked_here t accounts a w (a.share.waiting == 0) (list_any (is_passed_over t a) accounts)
-      (not (is_due t a) && list_any (λ b. waits_behind a.share b.share) accounts) is,
+  picked_here t accounts a w (ready_in a == 0) (list_any (is_passed_over t a) accounts)
+      (not (is_due t a) && list_any (λ b. waits_behind a.share (seen_leaf b)) accounts) is,
 )
 
 pub pick_happens : (s : Reservations) (p i : ℕ) (w : Account)

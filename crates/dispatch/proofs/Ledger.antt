@@ -3,7 +3,7 @@
 use Rattle.std.proofs.Common.{◌≡◌, ◌≢◌, ℕ, zero, suc, ◌+◌, ◌-◌, ◌*◌, ◌<◌, ◌≤◌, ◌==◌, inl, inr}
 use Rattle.std.proofs.Common.{List, [], ◌∷◌, length, Bool, true, false, Option, None, Some}
 use Rattle.std.proofs.Common.{nat_lt, slice_get, map, min, max, refl, ap, sym}
-use Rattle.std.proofs.Common.{subst, ◌∙◌, arith, if◌then◌else◌}
+use Rattle.std.proofs.Common.{subst, ◌∙◌, arith, if◌then◌else◌, ◌||◌}
 use Rattle.std.specs.List.{sum_by, AllByRecursion}
 use Rattle.std.proofs.Math.Nat.{mul-le-mul_right}
 use Rattle.std.proofs.lemmas.List.{length-map}
@@ -13,12 +13,12 @@ use Rattle.dispatch.specs.declared.reservation.Account.{Account}
 use Rattle.dispatch.specs.declared.reservation.Run.{Run}
 use Rattle.dispatch.specs.declared.reservation.Step.{Step}
 use Rattle.dispatch.specs.declared.reservation.Step.TheVariants.{Pass, Wake, Pick, End, Level}
-use Rattle.dispatch.specs.declared.reservation.Step.TheVariants.{Give, Leave, Cut}
+use Rattle.dispatch.specs.declared.reservation.Step.TheVariants.{Give, Leave, Cut, Stop, Refill}
 use Rattle.dispatch.specs.Reservation.{Reservations, WHOLE, account_at, no_account, quantum_of}
 use Rattle.dispatch.specs.Reservation.{tasks_of, rate_of, credit_of, most_of, passed, aged, cut}
 use Rattle.dispatch.specs.Reservation.{paid_by, picked, ended, with_account, state_picked}
 use Rattle.dispatch.specs.Reservation.{state_ended, settled_owed, after, Allows, woken, given}
-use Rattle.dispatch.specs.Reservation.{MayPick, left, capped, terms_of}
+use Rattle.dispatch.specs.Reservation.{MayPick, left, capped, terms_of, stopped}
 use Rattle.dispatch.specs.Rule as shares
 use Rattle.dispatch.specs.Windows.{over_runs, of_run, back_of, owed_in_all, RunsWithin, IsFair}
 use Rattle.dispatch.specs.Windows.{WantsAt, held_at, IsWholeAt}
@@ -190,17 +190,22 @@ either_at_least : (b : Bool) (x y z : ℕ) → (b ≡ true → z ≤ x) → z �
 either_at_least true x y z one two = one refl
 either_at_least false x y z one two = two
 
+no_other : (a b : Bool) → (a || b) ≡ true → b ≡ false → a ≡ true
+no_other true b either none = refl
+no_other false b either none = absurd (let clash : true ≡ false = sym either ∙ none in cc clash)
+
 -- a leaf that has k tasks is owed that many processors, or its guarantee
 passed_at_least : (s : Reservations) (t k : ℕ) (a : Account) → k ≤ tasks_of a
-    → a.owed + min (k * WHOLE) a.guarantee * t ≤ (passed s t a).owed
-passed_at_least s t k a wants =
+    → a.is_stopped ≡ false → a.owed + min (k * WHOLE) a.guarantee * t ≤ (passed s t a).owed
+passed_at_least s t k a wants goes =
     let rate : min (k * WHOLE) a.guarantee * t ≤ rate_of a * t =
     mul-le-mul_right t
     (let less : min (k * WHOLE) a.guarantee ≤ rate_of a = omega (arith, wants) in less) in
-    either_at_least (tasks_of a == 0)
+    either_at_least (tasks_of a == 0 || a.is_stopped)
     (max a.owed (min (a.owed + a.guarantee * t) (credit_of s a))) (a.owed + rate_of a * t)
     (a.owed + min (k * WHOLE) a.guarantee * t)
-    (λ none. let no_tasks : tasks_of a ≡ 0 = eqb-true (tasks_of a) 0 none in
+    (λ none. let no_tasks : tasks_of a ≡ 0 =
+    eqb-true (tasks_of a) 0 (no_other (tasks_of a == 0) a.is_stopped none goes) in
     let nothing : min (k * WHOLE) a.guarantee * t ≤ 0 * t =
     mul-le-mul_right t
     (let less : min (k * WHOLE) a.guarantee ≤ 0 = omega (arith, wants, no_tasks) in less) in
@@ -208,9 +213,10 @@ passed_at_least s t k a wants =
     (omega (arith, rate))
 
 kept_passed : (s : Reservations) (t i k : ℕ) → i < length s.accounts
-    → k ≤ tasks_of (account_at s i) → IsKept s (after s (Pass t)) i
+    → k ≤ tasks_of (account_at s i) → (account_at s i).is_stopped ≡ false
+    → IsKept s (after s (Pass t)) i
     (min (k * WHOLE) (account_at s i).guarantee * t) (held_at i s (Pass t))
-kept_passed s t i k known wants =
+kept_passed s t i k known wants goes =
     let at = passed_at s t s.accounts i known in
     record {
       quantum = refl;
@@ -220,7 +226,7 @@ kept_passed s t i k known wants =
       owed = omega (
         arith,
         ap (λ (x : Account). x.owed) at,
-        passed_at_least s t k (account_at s i) wants,
+        passed_at_least s t k (account_at s i) wants goes,
         aged_backs (quantum_of s) i t s.processors,
       );
     }
@@ -436,7 +442,7 @@ kept_after s e i k known = by e where
 
   by : (e : Step) → Allows s e → IsFair s e → WantsAt k i s e
       → IsKept s (after s e) i (m * time_at e) (held_at i s e)
-  by (Pass t) may fair wants = kept_passed s t i k known wants
+  by (Pass t) may fair wants = kept_passed s t i k known wants.0 wants.1
   by (Wake j tasks) may fair wants =
       still s (after s (Wake j tasks)) i m
       (one_set s i j (woken s tasks (account_at s j)) may
@@ -468,3 +474,14 @@ kept_after s e i k known = by e where
       still s (after s (Cut j)) i m
       (one_set s i j (cut s (account_at s j)) may
       (λ same. absurd (wants (sym same))))
+  by (Stop j stops) may fair wants =
+      still s (after s (Stop j stops)) i m
+      (one_set s i j (stopped s stops (account_at s j)) may
+      (λ same. absurd (wants (sym same))))
+  by Refill may fair wants = record {
+    quantum = refl;
+    credit = refl;
+    accounts = refl;
+    guarantee = refl;
+    owed = omega arith;
+  }

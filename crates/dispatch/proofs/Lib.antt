@@ -11,6 +11,7 @@ mod Demands
 mod Exact
 mod Fair
 mod Gains
+mod Groups
 mod Happens
 mod Leads
 mod Ledger

@@ -10,7 +10,7 @@ use Rattle.bw_text.specs.Words.{words}
 use Rattle.dispatch.specs.declared.fault.InputFault.{InputFault}
 use Rattle.dispatch.specs.declared.fault.InputFault.TheVariants.{CutShort}
 use Rattle.dispatch.specs.declared.reservation.Step.TheVariants.{Pass, Wake, Pick, End, Level}
-use Rattle.dispatch.specs.declared.reservation.Step.TheVariants.{Give, Leave, Cut}
+use Rattle.dispatch.specs.declared.reservation.Step.TheVariants.{Give, Leave, Cut, Stop, Refill}
 use Rattle.dispatch.specs.declared.input.Input.{Input}
 use Rattle.dispatch.specs.declared.input.Input.TheVariants as lines
 use Rattle.dispatch.specs.declared.replay.LineFault.{LineFault}
@@ -104,6 +104,8 @@ one_pick (lines.Event Level) = omega arith
 one_pick (lines.Event (Give l a g)) = omega arith
 one_pick (lines.Event (Leave l)) = omega arith
 one_pick (lines.Event (Cut l)) = omega arith
+one_pick (lines.Event (Stop l stops)) = omega arith
+one_pick (lines.Event Refill) = omega arith
 one_pick (lines.Event (Wake l n)) = omega arith
 one_pick (lines.Event (Pick p l)) = omega arith
 one_pick (lines.Event (End p u r)) = omega arith

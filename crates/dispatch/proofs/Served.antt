@@ -5,11 +5,12 @@ use Rattle.std.proofs.Common.{slice_get}
 use Rattle.std.proofs.lemmas.List.{length-map}
 use Rattle.dispatch.specs.declared.reservation.Run.{Run}
 use Rattle.dispatch.specs.Reservation.{state_ended, ended, passed, woken, picked, given, cut, left}
+use Rattle.dispatch.specs.Reservation.{stopped}
 use Rattle.dispatch.proofs.Counts.{length_set}
 use Rattle.std.proofs.Math.Nat.{mul-le-mul_right}
 use Rattle.dispatch.specs.declared.reservation.Step.{Step}
 use Rattle.dispatch.specs.declared.reservation.Step.TheVariants.{Pass, Wake, Pick, End, Level}
-use Rattle.dispatch.specs.declared.reservation.Step.TheVariants.{Give, Leave, Cut}
+use Rattle.dispatch.specs.declared.reservation.Step.TheVariants.{Give, Leave, Cut, Stop, Refill}
 use Rattle.dispatch.specs.Reservation.{Reservations, WHOLE, account_at, after, most_of, quantum_of}
 use Rattle.dispatch.specs.Windows.{after_all, IsFairRun, time_of}
 use Rattle.dispatch.specs.Windows.{held_in, Wants, OwedIsBounded, WindowsAreServed}
@@ -37,6 +38,8 @@ accounts_after s (Give i amount guarantee) =
     length_set s.accounts i (given s amount guarantee (account_at s i))
 accounts_after s (Leave i) = length_set s.accounts i (left s (account_at s i))
 accounts_after s (Cut i) = length_set s.accounts i (cut s (account_at s i))
+accounts_after s (Stop i stops) = length_set s.accounts i (stopped s stops (account_at s i))
+accounts_after s Refill = refl
 
 known_after : (s : Reservations) (es : List Step) (i : ℕ) → i < length s.accounts
     → i < length (after_all s es).accounts
@@ -69,6 +72,8 @@ time_more Level es = omega arith
 time_more (Give i amount guarantee) es = omega arith
 time_more (Leave i) es = omega arith
 time_more (Cut i) es = omega arith
+time_more (Stop i stops) es = omega arith
+time_more Refill es = omega arith
 
 -- the ledger of a window
 window_kept : (most w : ℕ) (s : Reservations) (es : List Step) (i k : ℕ) → i < length s.accounts

@@ -1,5 +1,5 @@
 -- A run that meets the premises of the law of windows: two leaves of half a processor take turns.
-use Rattle.std.specs.Prelude.{ℕ, zero, suc, true, List, [], ◌∷◌, None}
+use Rattle.std.specs.Prelude.{ℕ, zero, suc, true, false, List, [], ◌∷◌, None}
 use Rattle.dispatch.specs.declared.reservation.Account.{Account}
 use Rattle.dispatch.specs.declared.reservation.Step.{Step}
 use Rattle.dispatch.specs.declared.reservation.Step.TheVariants.{Pass, Pick, End}
@@ -18,6 +18,7 @@ half charged used = record {
   };
   guarantee = 524288;
   owed = 2097152;
+  is_stopped = false;
 }
 
 -- one processor, a quantum and a credit of two nanoseconds, and two such leaves

@@ -5,7 +5,7 @@ use Rattle.std.specs.Str.{bytes_eq}
 use Rattle.bw_text.specs.Number.{number_read}
 use Rattle.dispatch.specs.declared.reservation.Step.{Step}
 use Rattle.dispatch.specs.declared.reservation.Step.TheVariants.{Pass, Wake, Pick, End, Level}
-use Rattle.dispatch.specs.declared.reservation.Step.TheVariants.{Give, Leave, Cut}
+use Rattle.dispatch.specs.declared.reservation.Step.TheVariants.{Give, Leave, Cut, Stop, Refill}
 use Rattle.dispatch.specs.declared.fault.InputFault.{InputFault}
 use Rattle.dispatch.specs.declared.fault.InputFault.TheVariants.{BadNumber, BadLine, BadField}
 use Rattle.dispatch.specs.declared.input.Input.{Input}
@@ -63,7 +63,7 @@ three_numbers ws = do
   _ ← is_over c.1
   Ok (a.0, b.0, c.0)
 
--- 1 if the task waits again, 0 if it sleeps
+-- 1 if the task waits again or the limit stops the leaf, 0 if it sleeps or the limit does not
 abbrev pub remains_in : ℕ → Result Bool InputFault
 remains_in n = if n == 0 then Ok false else if n == 1 then Ok true else Err BadField
 
@@ -87,6 +87,9 @@ rare_step verb ws =
     else if bytes_eq verb (codes "give") then (three_numbers ws >>= λ p. Ok (Give p.0 p.1 p.2))
     else if bytes_eq verb (codes "leave") then (one_number ws >>= λ n. Ok (Leave n))
     else if bytes_eq verb (codes "cut") then (one_number ws >>= λ n. Ok (Cut n))
+    else if bytes_eq verb (codes "stop")
+    then (two_numbers ws >>= λ p. remains_in p.1 >>= λ r. Ok (Stop p.0 r))
+    else if bytes_eq verb (codes "refill") then (is_over ws >>= λ u. Ok Refill)
     else Err BadLine
 
 -- the event that a first word and the words behind it make

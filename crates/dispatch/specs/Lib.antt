@@ -2,6 +2,7 @@
 pub mod Accepted
 pub mod Example
 pub mod Faults
+pub mod Groups
 pub mod Input
 pub mod Premises
 pub mod Replay

@@ -14,25 +14,25 @@ use Rattle.dispatch.specs.declared.reservation.Account.{Account}
 use Rattle.dispatch.specs.declared.reservation.Run.{Run}
 use Rattle.dispatch.specs.declared.reservation.Step.{Step}
 use Rattle.dispatch.specs.declared.reservation.Step.TheVariants.{Pass, Wake, Pick, End, Level}
-use Rattle.dispatch.specs.declared.reservation.Step.TheVariants.{Give, Leave, Cut}
+use Rattle.dispatch.specs.declared.reservation.Step.TheVariants.{Give, Leave, Cut, Stop, Refill}
 use Rattle.dispatch.specs.declared.reservation.Terms.{Terms}
 use Rattle.dispatch.specs.Input.{input_of}
 use Rattle.dispatch.specs.Replay.{input_fault, input_after, nothing_set}
 use Rattle.dispatch.specs.Reservation.{Reservations, WHOLE, terms_of, credit_in, tasks_of}
-use Rattle.dispatch.specs.Reservation.{most_in}
+use Rattle.dispatch.specs.Reservation.{most_in, ready_in}
 use Rattle.dispatch.specs.Windows.{FitsHost, IsFair, IsLost}
 
 -- whether a leaf that is owed more than its credit has a task that waits
 abbrev pub waits_beyond : Terms → Account → Bool
-waits_beyond t a = not (nat_lt (credit_in t a) a.owed) || nat_lt 0 a.share.waiting
+waits_beyond t a = not (nat_lt (credit_in t a) a.owed) || nat_lt 0 (ready_in a)
 
 -- whether a leaf that waits has as many tasks as its guarantee has processors
 abbrev pub has_tasks_for : Account → Bool
-has_tasks_for a = not (nat_lt 0 a.share.waiting) || not (nat_lt (tasks_of a * WHOLE) a.guarantee)
+has_tasks_for a = not (nat_lt 0 (ready_in a)) || not (nat_lt (tasks_of a * WHOLE) a.guarantee)
 
--- whether no task of the leaf waits
+-- whether no task of the leaf waits, or a limit stops it
 abbrev pub is_still : Account → Bool
-is_still a = not (nat_lt 0 a.share.waiting)
+is_still a = not (nat_lt 0 (ready_in a))
 
 -- whether the processor runs a task
 abbrev pub is_busy : Option Run → Bool
@@ -77,6 +77,8 @@ is_fair s (Give i amount guarantee) =
     && is_whole (terms_of s) (slice_get s.accounts i)
 is_fair s (Leave i) = is_whole (terms_of s) (slice_get s.accounts i)
 is_fair s (Cut i) = true
+is_fair s (Stop i stops) = true
+is_fair s Refill = true
 
 -- the processors' time that was lost after an event
 abbrev pub lost_after : Reservations → ℕ → Step → ℕ

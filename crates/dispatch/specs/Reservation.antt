@@ -1,6 +1,7 @@
 -- The rule of reservations and shares: its state, the events that it allows, and the state after
 -- each. A leaf that is owed by its guarantee goes first, by deadlines; else clocks of shares decide.
-use Rattle.std.specs.Prelude.{◌≡◌, ℕ, ◌+◌, ◌-◌, ◌*◌, ◌/◌, ◌<◌, ◌≤◌, ◌==◌, nat_lt, min, max, Bool}
+use Rattle.std.specs.Prelude.{◌≡◌, ℕ, ◌+◌, ◌-◌, ◌*◌, ◌/◌, ◌<◌, ◌≤◌, ◌==◌, ◌||◌, nat_lt, min, max}
+use Rattle.std.specs.Prelude.{Bool, true, false}
 use Rattle.std.specs.Prelude.{List, [], ◌∷◌, length, get_or, map, Option, None, Some}
 use Rattle.std.specs.Prelude.{slice_get, slice_set, if◌then◌else◌}
 use Rattle.dispatch.specs.declared.leaves.Leaf.{Leaf}
@@ -9,7 +10,7 @@ use Rattle.dispatch.specs.declared.reservation.Terms.{Terms}
 use Rattle.dispatch.specs.declared.reservation.Run.{Run}
 use Rattle.dispatch.specs.declared.reservation.Step.{Step}
 use Rattle.dispatch.specs.declared.reservation.Step.TheVariants.{Pass, Wake, Pick, End, Level}
-use Rattle.dispatch.specs.declared.reservation.Step.TheVariants.{Give, Leave, Cut}
+use Rattle.dispatch.specs.declared.reservation.Step.TheVariants.{Give, Leave, Cut, Stop, Refill}
 use Rattle.dispatch.specs.Rule.{new_leaf, has_tasks, settled}
 use Rattle.dispatch.specs.Rule as shares
 
@@ -29,7 +30,7 @@ pub record Reservations : Type 0 where
   pub processors : List (Option Run)
 
 abbrev pub no_account : Account
-no_account = record { share = new_leaf 0; guarantee = 0; owed = 0 }
+no_account = record { share = new_leaf 0; guarantee = 0; owed = 0; is_stopped = false }
 
 -- the leaf at an index, or one without a guarantee
 abbrev pub account_at : Reservations → ℕ → Account
@@ -56,11 +57,19 @@ quantum_of s = WHOLE * s.quantum
 abbrev pub tasks_of : Account → ℕ
 tasks_of a = a.share.waiting + a.share.running
 
+-- the number of tasks that wait, 0 of a leaf that a limit stops
+abbrev pub ready_in : Account → ℕ
+ready_in a = if a.is_stopped then 0 else a.share.waiting
+
+-- the leaf as a pick and a level see it: tasks that a limit stops do not wait
+abbrev pub seen_leaf : Account → Leaf
+seen_leaf a = record a.share { waiting = ready_in a }
+
 -- rate of a leaf for each nanosecond: its guarantee, but no more than its tasks could take
 abbrev pub rate_of : Account → ℕ
 rate_of a = min (tasks_of a * WHOLE) a.guarantee
 
--- part of a guarantee that is kept while nobody wants it
+-- part of a guarantee that is kept while nobody wants it, or a limit stops it
 abbrev pub credit_in : Terms → Account → ℕ
 credit_in t a = quantum_in t + a.guarantee * t.credit
 
@@ -77,7 +86,8 @@ most_of s a = most_in (terms_of s) a
 -- amount that the leaf is owed after so many nanoseconds
 abbrev pub passed_owed : Terms → ℕ → Account → ℕ
 passed_owed t ns a =
-    if tasks_of a == 0 then max a.owed (min (a.owed + a.guarantee * ns) (credit_in t a))
+    if tasks_of a == 0 || a.is_stopped
+    then max a.owed (min (a.owed + a.guarantee * ns) (credit_in t a))
     else a.owed + rate_of a * ns
 
 abbrev pub passed_in : Terms → ℕ → Account → Account
@@ -100,12 +110,20 @@ cut_in t a = record a { owed = min a.owed (credit_in t a) }
 abbrev pub cut : Reservations → Account → Account
 cut s a = cut_in (terms_of s) a
 
+-- the leaf after a limit stops it, with no more than its credit, or stops it no longer
+abbrev pub stopped_in : Terms → Bool → Account → Account
+stopped_in t stops a =
+    if stops then record (cut_in t a) { is_stopped = true } else record a { is_stopped = false }
+
+abbrev pub stopped : Reservations → Bool → Account → Account
+stopped s stops a = stopped_in (terms_of s) stops a
+
 -- the leaf with what is beyond its credit cut, if its tasks can take less than before
 abbrev pub cut_if_less : Terms → Account → Account → Account
 cut_if_less t before a = if nat_lt (rate_of a) (rate_of before) then cut_in t a else a
 
 abbrev pub leaves_of : List Account → List Leaf
-leaves_of accounts = map (λ a. a.share) accounts
+leaves_of accounts = map (λ a. seen_leaf a) accounts
 
 abbrev pub woken_in : Terms → List Account → ℕ → Account → Account
 woken_in t accounts tasks a =
@@ -189,7 +207,8 @@ abbrev pub least_clock : Option (ℕ × ℕ) → ℕ → List Account → Option
 least_clock known slice [] = known
 least_clock known slice (a ∷ rest) =
     least_clock
-    (if has_tasks a.share then Some (least_known known (settled slice a.share, a.share.amount))
+    (if has_tasks (seen_leaf a)
+    then Some (least_known known (settled slice (seen_leaf a), a.share.amount))
     else known)
     slice rest
 
@@ -242,6 +261,8 @@ after s Level = record s { level = level_now s.slice s.accounts }
 after s (Give i amount guarantee) = with_account s i (given s amount guarantee (account_at s i))
 after s (Leave i) = with_account s i (left s (account_at s i))
 after s (Cut i) = with_account s i (cut s (account_at s i))
+after s (Stop i stops) = with_account s i (stopped s stops (account_at s i))
+after s Refill = s
 
 -- the leaf is behind its guarantee by the slack
 pub record IsDue (s : Reservations) (a : Account) : Type 0 where
@@ -261,9 +282,9 @@ IsNoLater s a b = (ahead back : ℕ) → OwesWithin s b ahead back → OwesWithi
 abbrev pub IsNoFurther : Leaf → Leaf → Type 0
 IsNoFurther l m = l.charged * m.amount ≤ m.charged * l.amount
 
--- a task of the leaf waits
+-- a task of the leaf waits, and no limit stops it
 abbrev pub Waits : Reservations → ℕ → Type 0
-Waits s i = 0 < (account_at s i).share.waiting
+Waits s i = 0 < ready_in (account_at s i)
 
 -- The rule allows a pick for a free processor, of a leaf that waits. If a leaf that waits is due,
 -- it is one that is due with the earliest deadline; else it is one with the least clock.
@@ -290,5 +311,7 @@ Allows s (Pick p i) = MayPick s p i
 Allows s (End p used remains) = Runs s p
 Allows s Level = Unit {0}
 Allows s (Give i amount guarantee) = (i < length s.accounts) × (0 < amount)
-Allows s (Leave i) = (i < length s.accounts) × Waits s i
+Allows s (Leave i) = (i < length s.accounts) × (0 < (account_at s i).share.waiting)
 Allows s (Cut i) = i < length s.accounts
+Allows s (Stop i stops) = i < length s.accounts
+Allows s Refill = Unit {0}

@@ -1,6 +1,6 @@
 -- Which event is refused, and why: the rule of reservations as a program decides it.
 use Rattle.std.specs.Prelude.{◌≡◌, ℕ, ◌+◌, ◌-◌, ◌*◌, ◌/◌, ◌<◌, ◌^◌, ◌==◌, ◌&&◌, ◌||◌, ◌↔◌, not, nat_lt}
-use Rattle.std.specs.Prelude.{max, Bool, true, List, Option, None, Some, slice_get}
+use Rattle.std.specs.Prelude.{max, Bool, true, false, List, Option, None, Some, slice_get}
 use Rattle.std.specs.Prelude.{if◌then◌else◌, Result, Ok, Err, is_ok}
 use Rattle.std.specs.List.{list_any, list_all, All, AllByRecursion}
 use Rattle.dispatch.specs.declared.events.Refusal.{Refusal}
@@ -10,13 +10,13 @@ use Rattle.dispatch.specs.declared.reservation.Terms.{Terms}
 use Rattle.dispatch.specs.declared.reservation.Run.{Run}
 use Rattle.dispatch.specs.declared.reservation.Step.{Step}
 use Rattle.dispatch.specs.declared.reservation.Step.TheVariants.{Pass, Wake, Pick, End, Level}
-use Rattle.dispatch.specs.declared.reservation.Step.TheVariants.{Give, Leave, Cut}
+use Rattle.dispatch.specs.declared.reservation.Step.TheVariants.{Give, Leave, Cut, Stop, Refill}
 use Rattle.dispatch.specs.declared.scheduler.Scheduler.TheInside.{Inside as Fields}
 use Rattle.dispatch.specs.Rule.{◌>>=◌, number, leaf_ended, without_value, waits_behind, new_leaf}
 use Rattle.dispatch.specs.Reservation.{Reservations, WHOLE, terms_of, quantum_in, rate_of}
 use Rattle.dispatch.specs.Reservation.{passed_owed, capped_owed, woken_in, picked_in, left_in}
 use Rattle.dispatch.specs.Reservation.{cut_in, cut_if_less, given_in, settled_owed, after}
-use Rattle.dispatch.specs.Reservation.{paid_in, account_at, Allows}
+use Rattle.dispatch.specs.Reservation.{paid_in, account_at, Allows, ready_in, seen_leaf, stopped_in}
 use Rattle.dispatch.specs.Rule as shares
 
 -- the state that the program's fields stand for
@@ -38,7 +38,12 @@ HasAmounts a = All (λ x. 0 < x.share.amount) a.accounts.items
 -- a leaf of this amount and guarantee, before its first task
 abbrev pub new_account : Terms → ℕ → ℕ → Account
 new_account t amount guarantee =
-    record { share = new_leaf amount; guarantee = guarantee; owed = quantum_in t }
+    record {
+      share = new_leaf amount;
+      guarantee = guarantee;
+      owed = quantum_in t;
+      is_stopped = false;
+    }
 
 -- ---- who is due
 
@@ -62,7 +67,7 @@ is_earlier t a b = nat_lt (ahead t b + back t a) (ahead t a + back t b)
 -- whether b waits, is due, and goes before a
 abbrev pub is_passed_over : Terms → Account → Account → Bool
 is_passed_over t a b =
-    nat_lt 0 b.share.waiting && (is_due t b && (not (is_due t a) || is_earlier t a b))
+    nat_lt 0 (ready_in b) && (is_due t b && (not (is_due t a) || is_earlier t a b))
 
 -- ---- a leaf after an event of it, or the first refusal
 
@@ -83,9 +88,9 @@ account_woken t accounts tasks (Some a) = do
 abbrev pub account_picked : Terms → List Account → Option Account → Result Account Refusal
 account_picked t accounts None = Err refusals.UnknownLeaf
 account_picked t accounts (Some a) =
-    if a.share.waiting == 0 then Err refusals.NothingWaits
+    if ready_in a == 0 then Err refusals.NothingWaits
     else if list_any (is_passed_over t a) accounts then Err refusals.NotEarliest
-    else if not (is_due t a) && list_any (λ b. waits_behind a.share b.share) accounts
+    else if not (is_due t a) && list_any (λ b. waits_behind a.share (seen_leaf b)) accounts
     then Err refusals.NotLeast else do
       _ ← number (picked_in t a).share.charged
       _ ← number (picked_in t a).share.running
@@ -118,6 +123,10 @@ account_left t (Some a) =
 abbrev pub account_cut : Terms → Option Account → Result Account Refusal
 account_cut t None = Err refusals.UnknownLeaf
 account_cut t (Some a) = Ok (cut_in t a)
+
+abbrev pub account_stopped : Terms → Bool → Option Account → Result Account Refusal
+account_stopped t stops None = Err refusals.UnknownLeaf
+account_stopped t stops (Some a) = Ok (stopped_in t stops a)
 
 -- ---- events
 
@@ -161,6 +170,9 @@ allowed s (Give i amount guarantee) =
     (account_given (terms_of s) s.level amount guarantee (slice_get s.accounts i))
 allowed s (Leave i) = without_value (account_left (terms_of s) (slice_get s.accounts i))
 allowed s (Cut i) = without_value (account_cut (terms_of s) (slice_get s.accounts i))
+allowed s (Stop i stops) =
+    without_value (account_stopped (terms_of s) stops (slice_get s.accounts i))
+allowed s Refill = Ok tt
 
 -- the state after an event; a refused one changes nothing
 abbrev pub happens : Reservations → Step → Reservations
@@ -199,6 +211,8 @@ HasRoom s (Give i amount guarantee) =
     (given_in (terms_of s) s.level amount guarantee (account_at s i)).share.charged < 2 ^ 64
 HasRoom s (Leave i) = Unit {0}
 HasRoom s (Cut i) = Unit {0}
+HasRoom s (Stop i stops) = Unit {0}
+HasRoom s Refill = Unit {0}
 
 -- An event is refused unless the rule allows it and its numbers have room.
 abbrev pub RefusalIsExact : Type 0

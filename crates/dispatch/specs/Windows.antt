@@ -1,13 +1,14 @@
 -- Runs of the rule of reservations, and what it promises of each window of time.
-use Rattle.std.specs.Prelude.{◌≡◌, ◌≢◌, ℕ, ◌+◌, ◌-◌, ◌*◌, ◌<◌, ◌≤◌, ◌==◌, ◌⊎◌, min, List, [], slice_get}
+use Rattle.std.specs.Prelude.{◌≡◌, ◌≢◌, ℕ, ◌+◌, ◌-◌, ◌*◌, ◌<◌, ◌≤◌, ◌==◌, ◌⊎◌, min, List, []}
+use Rattle.std.specs.Prelude.{slice_get, false}
 use Rattle.std.specs.Prelude.{◌∷◌, ◌++◌, length, Option, None, Some, if◌then◌else◌}
 use Rattle.std.specs.List.{sum_by, AllByRecursion}
 use Rattle.dispatch.specs.declared.reservation.Run.{Run}
 use Rattle.dispatch.specs.declared.reservation.Step.{Step}
 use Rattle.dispatch.specs.declared.reservation.Step.TheVariants.{Pass, Wake, Pick, End, Level}
-use Rattle.dispatch.specs.declared.reservation.Step.TheVariants.{Give, Leave, Cut}
+use Rattle.dispatch.specs.declared.reservation.Step.TheVariants.{Give, Leave, Cut, Stop, Refill}
 use Rattle.dispatch.specs.Reservation.{Reservations, WHOLE, account_at, quantum_of, tasks_of}
-use Rattle.dispatch.specs.Reservation.{rate_of, credit_of, most_of, after, Allows, Waits}
+use Rattle.dispatch.specs.Reservation.{rate_of, credit_of, most_of, after, Allows, Waits, ready_in}
 
 -- The host has room: the guarantees add up to its processors at most, and the slack is not above
 -- the credit.
@@ -38,9 +39,9 @@ abbrev pub IsBusy : Option Run → Type 0
 IsBusy None = ⊥
 IsBusy (Some run) = Unit {0}
 
--- no leaf has a task that waits
+-- no leaf has a task that waits and that no limit stops
 abbrev pub NoneWaits : Reservations → Type 0
-NoneWaits s = (k : ℕ) → (account_at s k).share.waiting ≡ 0
+NoneWaits s = (k : ℕ) → ready_in (account_at s k) ≡ 0
 
 -- the run takes no more than this, also if this much time passes
 abbrev pub RunsWithin : ℕ → ℕ → Option Run → Type 0
@@ -68,6 +69,8 @@ IsFair s Level = Unit {0}
 IsFair s (Give i amount guarantee) = (guarantee ≡ (account_at s i).guarantee) × IsWhole s i
 IsFair s (Leave i) = IsWhole s i
 IsFair s (Cut i) = Unit {0}
+IsFair s (Stop i stops) = Unit {0}
+IsFair s Refill = Unit {0}
 
 -- The processors' time that was lost before an event and after it, since a moment when no leaf
 -- waited and none was owed more than its credit. All processors' time counts while one is free and
@@ -137,15 +140,16 @@ abbrev pub held_in : ℕ → Reservations → List Step → ℕ
 held_in i s [] = 0
 held_in i s (e ∷ es) = held_at i s e + held_in i (after s e) es
 
--- The leaf wants k processors: while time passes it has k tasks that wait or run. Its tasks do not
--- become fewer than its guarantee could use, and no limit stops it.
+-- The leaf wants k processors: while time passes it has k tasks that wait or run, and no limit
+-- stops it. Its tasks do not become fewer than its guarantee could use.
 abbrev pub WantsAt : ℕ → ℕ → Reservations → Step → Type 0
-WantsAt k i s (Pass t) = k ≤ tasks_of (account_at s i)
+WantsAt k i s (Pass t) = (k ≤ tasks_of (account_at s i)) × ((account_at s i).is_stopped ≡ false)
 WantsAt k i s (End p used remains) =
     rate_of (account_at s i) ≤ rate_of (account_at (after s (End p used remains)) i)
 WantsAt k i s (Leave j) =
     rate_of (account_at s i) ≤ rate_of (account_at (after s (Leave j)) i)
 WantsAt k i s (Cut j) = j ≢ i
+WantsAt k i s (Stop j stops) = j ≢ i
 WantsAt k i s _ = Unit {0}
 
 abbrev pub Wants : ℕ → ℕ → Reservations → List Step → Type 0

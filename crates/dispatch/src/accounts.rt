@@ -5,9 +5,11 @@ ghost use Rattle.dispatch.specs.Rule.{number, waits_behind};
 ghost use Rattle.dispatch.specs.Reservation.{quantum_in, tasks_of, rate_of, credit_in, most_in};
 ghost use Rattle.dispatch.specs.Reservation.{passed_owed, passed_in, capped_owed, cut_in};
 ghost use Rattle.dispatch.specs.Reservation.{cut_if_less, leaves_of, paid_in, settled_owed, moved};
+ghost use Rattle.dispatch.specs.Reservation.{ready_in, seen_leaf, stopped_in};
 ghost use Rattle.dispatch.specs.Steps.{new_account, is_due, ahead, back, is_earlier};
 ghost use Rattle.dispatch.specs.Steps.{is_passed_over, owed_fits, account_woken, account_picked};
 ghost use Rattle.dispatch.specs.Steps.{paid_at, account_ended, account_given, account_left, account_cut};
+ghost use Rattle.dispatch.specs.Steps.{account_stopped};
 
 use crate::events::Refusal;
 use crate::leaves::{Leaf, charge_at_wake, leaf_ended, number, sum};
@@ -60,6 +62,7 @@ pub fn new_account(terms: Terms, amount: u64, guarantee: u64) -> Account
         share: Leaf::new(amount),
         guarantee,
         owed: quantum(terms),
+        is_stopped: false,
     }
 }
 
@@ -68,7 +71,7 @@ pub fn passed_owed(terms: Terms, ns: u64, account: Account) -> u128
     ensures { result ≡ passed_owed terms ns account }
 {
     let owed = u128::from(account.owed);
-    if tasks(account) == 0 {
+    if tasks(account) == 0 || account.is_stopped {
         let gained = owed + u128::from(account.guarantee) * u128::from(ns);
         owed.max(gained.min(credit(terms, account)))
     } else {
@@ -175,7 +178,7 @@ fn is_earlier(terms: Terms, account: Account, other: Account) -> bool
 fn is_passed_over(terms: Terms, account: Account, other: Account) -> bool
     ensures { result ≡ is_passed_over terms account other }
 {
-    other.share.waiting > 0
+    other.ready() > 0
         && (is_due(terms, other) && (!is_due(terms, account) || is_earlier(terms, account, other)))
 }
 
@@ -190,11 +193,11 @@ fn has_earlier(terms: Terms, accounts: &[Account], account: Account) -> bool
 
 // Whether a leaf that waits has a lesser clock than this one.
 fn has_lesser(accounts: &[Account], account: Account) -> bool
-    ensures { result ≡ list_any (λ b. waits_behind account.share b.share) accounts.now }
+    ensures { result ≡ list_any (λ b. waits_behind account.share (seen_leaf b)) accounts.now }
 {
     accounts
         .iter()
-        .any(|other| account.share.waits_behind(&other.share))
+        .any(|other| account.share.waits_behind(&other.seen_leaf()))
 }
 
 /// The leaf after tasks of it wake. If it had none, its clock is lifted as that of its share.
@@ -250,7 +253,7 @@ pub fn paid_at(terms: Terms, account: Option<Account>) -> u64
 ///
 /// The first that applies:
 /// - [`Refusal::UnknownLeaf`] if there is no leaf.
-/// - [`Refusal::NothingWaits`] if no task of it waits.
+/// - [`Refusal::NothingWaits`] if no task of it waits, or a limit stops it.
 /// - [`Refusal::NotEarliest`] if a leaf that waits and is due goes before it.
 /// - [`Refusal::NotLeast`] if it is not due, and a leaf that waits has a lesser clock.
 /// - [`Refusal::TooGreat`] if a number would be above `u64::MAX`.
@@ -263,7 +266,7 @@ pub fn account_picked(
 {
     let account = account.ok_or(Refusal::UnknownLeaf)?;
     let leaf = account.share;
-    if leaf.waiting == 0 {
+    if account.ready() == 0 {
         return Err(Refusal::NothingWaits);
     }
     if has_earlier(terms, accounts, account) {
@@ -367,6 +370,7 @@ pub fn account_given(
         },
         guarantee,
         owed: capped_owed(terms, account),
+        ..account
     })
 }
 
@@ -395,7 +399,7 @@ pub fn account_left(terms: Terms, account: Option<Account>) -> Result<Account, R
     Ok(cut_if_less(terms, account, left))
 }
 
-/// The leaf after a limit stopped it.
+/// The leaf after what it is owed beyond its credit is cut.
 ///
 /// # Errors
 ///
@@ -405,4 +409,38 @@ pub fn account_cut(terms: Terms, account: Option<Account>) -> Result<Account, Re
 {
     let account = account.ok_or(Refusal::UnknownLeaf)?;
     Ok(cut(terms, account))
+}
+
+// The leaf after a limit stops it, or stops it no longer.
+fn stopped(terms: Terms, stops: bool, account: Account) -> Account
+    ensures { result ≡ stopped_in terms stops account }
+{
+    if stops {
+        Account {
+            is_stopped: true,
+            ..cut(terms, account)
+        }
+    } else {
+        Account {
+            is_stopped: false,
+            ..account
+        }
+    }
+}
+
+/// The leaf after a limit stops it, which cuts what it is owed to its credit, or after the limit
+/// stops it no longer.
+///
+/// # Errors
+///
+/// [`Refusal::UnknownLeaf`] if there is no leaf.
+pub fn account_stopped(
+    terms: Terms,
+    stops: bool,
+    account: Option<Account>,
+) -> Result<Account, Refusal>
+    ensures { result ≡ account_stopped terms stops account }
+{
+    let account = account.ok_or(Refusal::UnknownLeaf)?;
+    Ok(stopped(terms, stops, account))
 }

@@ -31,7 +31,7 @@ pub enum Input {
         guarantee: u64,
     },
     /// `pass NS`, `wake ID N`, `pick CPU ID`, `end CPU USED REMAINS`, `level`,
-    /// `give ID AMOUNT GUARANTEE`, `leave ID` or `cut ID`.
+    /// `give ID AMOUNT GUARANTEE`, `leave ID`, `cut ID`, `stop ID STOPS` or `refill`.
     Event(Step),
 }
 
@@ -112,7 +112,7 @@ fn leaf_numbers(text: &[u8]) -> Result<(u64, u64, u64), InputFault>
     Ok((leaf, amount, guarantee))
 }
 
-// Whether the task waits again: 1 or 0.
+// Whether the task waits again, or the limit stops the leaf: 1 or 0.
 fn remains_in(n: u64) -> Result<bool, InputFault>
     ensures { result ≡ remains_in n }
 {
@@ -144,6 +144,15 @@ fn rare_step(verb: &[u8], rest: &[u8]) -> Result<Step, InputFault>
     }
     if verb == b"cut".as_slice() {
         return Ok(Step::Cut(one_number(rest)?));
+    }
+    if verb == b"stop".as_slice() {
+        let (leaf, stops) = two_numbers(rest)?;
+        let stops = remains_in(stops)?;
+        return Ok(Step::Stop { leaf, stops });
+    }
+    if verb == b"refill".as_slice() {
+        is_over(rest)?;
+        return Ok(Step::Refill);
     }
     Err(InputFault::BadLine)
 }

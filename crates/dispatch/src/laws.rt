@@ -13,6 +13,7 @@ ghost use Rattle.dispatch.specs.Replay.{AcceptsExactly};
 ghost use Rattle.dispatch.specs.Accepted.{TraceIsARun};
 ghost use Rattle.dispatch.specs.Windows.{OwedIsBounded, WindowsAreServed};
 ghost use Rattle.dispatch.specs.Example.{PremisesAreMet};
+ghost use Rattle.dispatch.specs.Groups.{LimitsAreKept};
 ghost use Rattle.dispatch.specs.Premises.{PremisesAreTold};
 
 use crate::limits::{MAX_AMOUNT, MAX_PROCESSORS, MAX_SLICE_NS, MAX_TERM_NS};
@@ -93,6 +94,20 @@ pub fn owed_is_bounded()
 /// - No leaf is owed more than the most at an event of its own.
 pub fn windows_are_served()
     ensures { WindowsAreServed }
+{}
+
+/// No group with a limit uses more in a window than the limits of the periods in it, its burst, a
+/// quantum for each processor, and a slice, whoever wakes and in whatever order leaves are picked.
+///
+/// A run counts where it ends. A pick takes a slice of what the group has left, its end gives back
+/// what was not used or takes what was used beyond it, and a new period brings the limit. The
+/// premises are:
+///
+/// - A leaf of the group is picked while something is left, and for a processor that is free.
+/// - No run uses more than a quantum.
+/// - The run begins while no processor runs a task, with no more than the limit and the burst.
+pub fn limits_are_kept()
+    ensures { LimitsAreKept }
 {}
 
 /// Runs of any length meet the premises of [`windows_are_served`]: two leaves of half a processor

@@ -87,7 +87,7 @@ fn level(slice: u64, accounts: &[Account], amount: u64) -> Option<u128>
 {
     let mut least = None;
     for account in accounts {
-        let leaf = account.share;
+        let leaf = account.seen_leaf();
         if leaf.has_tasks() {
             let settled = u128::from(leaf.settled(slice));
             let charge = u128::from(amount) * settled / u128::from(leaf.amount);
@@ -112,7 +112,7 @@ fn greatest(accounts: &[Account], amount: u64) -> u128
 {
     let mut greatest = 0u128;
     for account in accounts {
-        greatest = greatest.max(charge_of(amount, account.share));
+        greatest = greatest.max(charge_of(amount, account.seen_leaf()));
     }
     greatest
 }

@@ -38,7 +38,7 @@ pub struct Premises {
 fn waits_beyond(terms: Terms, account: Account) -> bool
     ensures { result ≡ waits_beyond terms account }
 {
-    !(credit(terms, account) < u128::from(account.owed)) || account.share.waiting > 0
+    !(credit(terms, account) < u128::from(account.owed)) || account.ready() > 0
 }
 
 /// Whether each leaf that is owed more than its credit has a task that waits.
@@ -51,8 +51,7 @@ pub fn all_wait_beyond(terms: Terms, accounts: &[Account]) -> bool
 fn has_tasks_for(account: Account) -> bool
     ensures { result ≡ has_tasks_for account }
 {
-    !(account.share.waiting > 0)
-        || !(tasks(account) * u128::from(WHOLE) < u128::from(account.guarantee))
+    !(account.ready() > 0) || !(tasks(account) * u128::from(WHOLE) < u128::from(account.guarantee))
 }
 
 /// Whether each leaf that waits has as many tasks as its guarantee has processors.
@@ -65,7 +64,7 @@ pub fn all_have_tasks(accounts: &[Account]) -> bool
 fn is_still(account: Account) -> bool
     ensures { result ≡ is_still account }
 {
-    !(account.share.waiting > 0)
+    !(account.ready() > 0)
 }
 
 /// Whether no leaf has a task that waits.

@@ -1,5 +1,8 @@
 //! Leaves with a guarantee: what they are owed, who runs, and what happens.
 
+ghost use Rattle.std.specs.Prelude.{◌≡◌};
+ghost use Rattle.dispatch.specs.Reservation.{ready_in, seen_leaf};
+
 use crate::leaves::Leaf;
 
 /// A leaf of the plan with its guarantee.
@@ -14,6 +17,31 @@ pub struct Account {
     /// Amount that the leaf is owed, and a quantum more, in 2^-20 ns. So 0 says that it had a
     /// quantum beyond its guarantee, and what it had beyond that is forgotten.
     pub owed: u64,
+    /// Whether a limit stops the leaf: its tasks wait for the next period of that limit.
+    pub is_stopped: bool,
+}
+
+impl Account {
+    /// Number of tasks that wait for a processor, 0 if a limit stops the leaf.
+    pub fn ready(&self) -> u64
+        ensures { result ≡ ready_in self.now }
+    {
+        if self.is_stopped {
+            0
+        } else {
+            self.share.waiting
+        }
+    }
+
+    /// The leaf as a pick and a level see it: tasks that a limit stops do not wait.
+    pub fn seen_leaf(&self) -> Leaf
+        ensures { result ≡ seen_leaf self.now }
+    {
+        Leaf {
+            waiting: self.ready(),
+            ..self.share
+        }
+    }
 }
 
 /// The numbers that the rule goes by.
@@ -74,6 +102,13 @@ pub enum Step {
     },
     /// A task of the leaf that waits leaves it, or sleeps before it is picked.
     Leave(u64),
-    /// A limit stopped the leaf. What it is owed beyond its credit is cut.
+    /// What the leaf is owed beyond its credit is cut.
     Cut(u64),
+    /// A limit stops the leaf, which keeps no more than its credit, or stops it no longer.
+    Stop {
+        leaf: u64,
+        stops: bool,
+    },
+    /// A new period of a limit begins.
+    Refill,
 }

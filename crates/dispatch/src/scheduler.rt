@@ -9,8 +9,8 @@ ghost use Rattle.dispatch.specs.Steps.{age_fits};
 ghost use Rattle.dispatch.specs.Premises.{fits_host, is_fair, is_whole_at, lost_after};
 
 use crate::accounts::{
-    account_cut, account_ended, account_given, account_left, account_picked, account_woken,
-    all_owed_fit, new_account, paid_at, pass_all,
+    account_cut, account_ended, account_given, account_left, account_picked, account_stopped,
+    account_woken, all_owed_fit, new_account, paid_at, pass_all,
 };
 use crate::events::Refusal;
 use crate::premises::{
@@ -118,7 +118,7 @@ fn least_clock(slice: u64, accounts: &[Account]) -> Option<(u64, u64)>
 {
     let mut least = None;
     for account in accounts {
-        let leaf = account.share;
+        let leaf = account.seen_leaf();
         if leaf.has_tasks() {
             least = Some(least_known(least, (leaf.settled(slice), leaf.amount)));
         }
@@ -412,7 +412,7 @@ impl Scheduler {
         Ok(())
     }
 
-    /// A limit stopped a leaf.
+    /// What a leaf is owed beyond its credit is cut.
     ///
     /// # Errors
     ///
@@ -423,6 +423,20 @@ impl Scheduler {
     {
         let cut = account_cut(self.terms(), self.account(leaf))?;
         self.accounts[leaf as usize] = cut;
+        Ok(())
+    }
+
+    /// A limit stops a leaf, or stops it no longer.
+    ///
+    /// # Errors
+    ///
+    /// The first refusal; the state is unchanged.
+    pub fn stop(&mut self, leaf: u64, stops: bool) -> Result<(), Refusal>
+        ensures value { result ≡ allowed self.old (Step.Stop leaf stops) }
+        ensures state { self.new ≡ happens self.old (Step.Stop leaf stops) }
+    {
+        let stopped = account_stopped(self.terms(), stops, self.account(leaf))?;
+        self.accounts[leaf as usize] = stopped;
         Ok(())
     }
 
@@ -455,6 +469,8 @@ impl Scheduler {
             } => self.give(leaf, amount, guarantee),
             Step::Leave(leaf) => self.leave(leaf),
             Step::Cut(leaf) => self.cut(leaf),
+            Step::Stop { leaf, stops } => self.stop(leaf, stops),
+            Step::Refill => Ok(()),
         }
     }
 
@@ -519,7 +535,7 @@ impl Scheduler {
                 amount,
                 guarantee,
             } => self.gives_fairly(leaf, amount, guarantee),
-            Step::Level | Step::Cut(_) => true,
+            Step::Level | Step::Cut(_) | Step::Stop { .. } | Step::Refill => true,
         }
     }
 
