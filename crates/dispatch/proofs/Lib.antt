@@ -19,6 +19,7 @@ mod Least
 mod Lifts
 mod Lines
 mod Mapped
+mod Pairs
 mod Plans
 mod Served
 mod Shares

@@ -12,7 +12,7 @@ ghost use Rattle.dispatch.specs.Steps.{RefusalIsExact};
 ghost use Rattle.dispatch.specs.Replay.{AcceptsExactly};
 ghost use Rattle.dispatch.specs.Accepted.{TraceIsARun};
 ghost use Rattle.dispatch.specs.Windows.{OwedIsBounded, WindowsAreServed};
-ghost use Rattle.dispatch.specs.Example.{PremisesAreMet};
+ghost use Rattle.dispatch.specs.Example.{PremisesAreMet, PremisesAreMetByTwo};
 ghost use Rattle.dispatch.specs.Groups.{LimitsAreKept};
 ghost use Rattle.dispatch.specs.Premises.{PremisesAreTold};
 
@@ -111,9 +111,10 @@ pub fn limits_are_kept()
 {}
 
 /// Runs of any length meet the premises of [`windows_are_served`]: two leaves of half a processor
-/// take turns.
+/// take turns on one, and two leaves of a whole one run on two.
 pub fn premises_are_met()
-    ensures { PremisesAreMet }
+    ensures one { PremisesAreMet }
+    ensures two { PremisesAreMetByTwo }
 {}
 
 /// An event is refused if and only if the rule does not allow it, or a number has no room.
