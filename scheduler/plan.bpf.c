@@ -612,7 +612,7 @@ static __noinline bool begin_period(u32 number)
         bool is_more;
         bpf_spin_lock(&lock);
         pass(now);
-        is_more = (times || refill(number)) && free_one(here, number);
+        is_more = (times || refill(here, number)) && free_one(here, number);
         bpf_spin_unlock(&lock);
         tell(here);
         if (!is_more)

@@ -109,8 +109,8 @@ struct leaf {
     __u64 stops;
 };
 
-/* The last three are no steps of the rule: a task waits for some CPUs, or no longer; a leaf waits
- * for the next period of a limit, or no longer; the next pick is out of turn. */
+/* Who waits for some CPUs, or no longer, is no step of the rule, nor that the next pick is out of turn.
+ * A limit stops a leaf, or stops it no longer; a new period of a group with a limit begins. */
 enum event_kind {
     EVENT_WAKE,
     EVENT_PICK,
@@ -121,7 +121,8 @@ enum event_kind {
     EVENT_CUT,
     EVENT_BOUND,
     EVENT_STOP,
-    EVENT_LATE
+    EVENT_LATE,
+    EVENT_REFILL
 };
 
 /* One step, in the order of `at`. */

@@ -684,10 +684,11 @@ static __always_inline u32 free_first(struct on_cpu *here, u32 number)
 
 /* A new period of a group with a limit. Returns whether it has something left. (A number whose
  * limit has gone stops nobody.) */
-static __always_inline bool refill(u32 number)
+static __always_inline bool refill(struct on_cpu *here, u32 number)
 {
     struct budget *budget = budget_of(number);
 
+    note(here, EVENT_REFILL, number, 0, 0, 0);
     budget->left_ns += budget->limit_ns;
     if (budget->left_ns > (s64)(budget->limit_ns + budget->burst_ns))
         budget->left_ns = budget->limit_ns + budget->burst_ns;

@@ -553,6 +553,9 @@ static void write_step(FILE *file, const struct event *each)
     case EVENT_STOP:
         fprintf(file, "stop %u %u\n", each->row, each->remains);
         break;
+    case EVENT_REFILL:
+        fprintf(file, "refill %u\n", each->row);
+        break;
     default:
         fprintf(file, "late %u\n", each->row);
     }

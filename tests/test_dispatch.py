@@ -99,7 +99,33 @@ RESERVED = {
     "a run beyond its quantum": (
         HALVES + "pick 0 0\npass 5\nend 0 5 1\n", 1, FAIL.format(9, 2, 5)),
     "a task that leaves": (HALVES + "leave 1\n" + TURN.format(0), 1, HOLD.format(6)),
-    "a limit that stops": (HALVES + "cut 1\n" + TURN.format(0), 1, HOLD.format(6)),
+    "what is beyond the credit is cut": (HALVES + "cut 1\n" + TURN.format(0), 1, HOLD.format(6)),
+    # leaf 1 would be next, and is owed no more than its credit meanwhile
+    "a limit that stops": (
+        HALVES + TURN.format(0) + "stop 1 1\n" + TURN.format(0) + "stop 1 0\n" + TURN.format(1), 3,
+        HOLD.format(13)),
+}
+
+
+# Leaf 0 is in a group with a limit of 6 in a period. A pick takes 4 of what is left.
+LIMITED = HALVES.replace("leaf 0", "group 6 0\nmember 0")
+KEPT = "limit: kept at each of {0} events\n"
+PASSED = "limit: passed first at line {0}, in all at {1} of {2} events\n"
+TURNS = (TURN.format(0) + TURN.format(1)) * 2 + TURN.format(0)
+LIMITS = {
+    # 6, 2 and -2 are left behind the picks
+    "two picks of a period": (LIMITED + TURNS[:-len(TURN.format(0))], KEPT.format(14)),
+    "a third one": (LIMITED + TURNS, PASSED.format(21, 1, 17)),
+    "a period more": (LIMITED + TURNS.replace("pick 0 1", "refill\npick 0 1"), KEPT.format(19)),
+    # what the period before left is gone, or is kept by the burst
+    "a period more at first": (LIMITED + "refill\n" + TURNS, PASSED.format(22, 1, 18)),
+    "a burst": (LIMITED.replace("6 0", "6 4") + "refill\n" + TURNS, KEPT.format(18)),
+    # 6 - 1 are left behind the first run
+    "what was not used comes back": (
+        LIMITED + "pick 0 0\npass 1\nend 0 1 1\n" + (TURN.format(1) + TURN.format(0)) * 2,
+        KEPT.format(17)),
+    "a run beyond its quantum": (
+        LIMITED + "pick 0 0\npass 4\nend 0 5 1\n", PASSED.format(11, 1, 5)),
 }
 
 
@@ -113,6 +139,11 @@ WRONG = {
     "terms behind a leaf": ("leaf 0 1\nterms 4 0 4\n", 2, "error 40 BadLine"),
     "no quantum": ("terms 0 0 4\n", 1, "error 41 BadField"),
     "a term too great": ("terms 4 0 4000000001\n", 1, "error 41 BadField"),
+    "a leaf that a limit stops": (HALVES + "stop 0 1\npick 0 0\n", 9,
+                                  "not allowed: no task of the leaf waits"),
+    "neither stopped nor not": (HALVES + "stop 0 2\n", 8, "error 41 BadField"),
+    "a period of a number": (HALVES + "refill 1\n", 8, "error 40 BadLine"),
+    "a group without a burst": ("group 6\n", 1, "error 40 BadLine"),
     "no task to leave": (HALVES + "leave 0\nleave 0\n", 9,
                          "not allowed: no task of the leaf waits"),
     "an amount of 0": (HALVES + "level\ngive 0 0 5\n", 9, "error 41 BadField"),
@@ -170,6 +201,14 @@ def test_reserved(dispatch: Program, case: str) -> None:
     """Each pick of a trace with guarantees is allowed, and where the premises fail is told."""
     text, picks, premises = RESERVED[case]
     same(replayed(dispatch, text), (0, f"allowed: {picks} picks\n{premises}"))
+
+
+@pytest.mark.parametrize("case", LIMITS)
+def test_limits(dispatch: Program, case: str) -> None:
+    """Where a trace passes the limit of its group is told."""
+    text, limit = LIMITS[case]
+    status, told = replayed(dispatch, text)
+    same((status, told.splitlines(keepends=True)[2:]), (0, [limit]))
 
 
 @pytest.mark.parametrize("case", WRONG)

@@ -175,6 +175,8 @@ static void tell_steps(struct on_cpu *here) {
             printf("bound %u %llu %u\n", each->row, used, each->remains);
         else if (each->kind == EVENT_LATE)
             printf("late %u\n", each->row);
+        else if (each->kind == EVENT_REFILL)
+            printf("refill %u\n", each->row);
         else
             printf("stop %u %u\n", each->row, each->remains);
     }
@@ -491,7 +493,8 @@ static void begin_period(void) {
         if (leaf_of(row)->charged > MOST_CHARGE)
             set_back(row_count);
     for (u32 number = 1; number < budget_count; number++) {
-        u32 row = refill(number) ? free_first(here, number) : NOBODY;
+        u32 row = refill(here, number) ? free_first(here, number) : NOBODY;
+        tell_steps(here);
         for (; row < NOBODY; row = free_first(here, number)) {
             play_leaf(row);
             tell_steps(here);
@@ -1063,6 +1066,16 @@ static void set_budgets(void) {
     }
 }
 
+/* Prints the groups with limits, each with the one above it, and what rows are in them.  */
+static void tell_budgets(void) {
+    for (u32 number = 1; number < budget_count; number++)
+        printf("limit %u %llu %llu %u\n", number, (unsigned long long)budget_of(number)->limit_ns,
+               (unsigned long long)budget_of(number)->burst_ns, budget_of(number)->above);
+    for (u32 row = 0; row < row_count; row++)
+        if (rows_seen[row].budget)
+            printf("under %u %u\n", row, rows_seen[row].budget);
+}
+
 /* The first plan: no step of the trace, whose head has it.  */
 static void give_first(void) {
     u64 off = jitter;
@@ -1125,6 +1138,8 @@ int main(int count_of_words, char **words) {
     if (has_trace)
         printf("processors %u\nslice %llu\nterms %llu %llu %llu\n", core_count, SLICE_NS,
                QUANTUM_NS, SLACK_NS, CREDIT_NS);
+    if (has_trace)
+        tell_budgets();
     for (u32 row = 0; has_trace && row < row_count; row++)
         printf("leaf %u %llu %llu\n", row, (unsigned long long)leaf_of(row)->amount,
                (unsigned long long)leaf_of(row)->guarantee);

@@ -13,7 +13,7 @@ from dataclasses import dataclass, field, replace
 from fractions import Fraction
 
 # What the proved program does not read.
-MORE = ("bound ", "late ")
+MORE = ("bound ", "late ", "limit ", "under ", "refill ")
 # What a pick or a wake is.
 ALLOWED, WRONG = "allowed", "wrong"
 BOUND, STOPPED, LIFTED = "before a bound task", "before a stopped leaf", "lifted over one held back"
@@ -147,7 +147,8 @@ class Replay:
             "processors": self.processors, "slice": self.set_slice, "terms": self.set_terms,
             "leaf": self.leaf, "pass": self.passed, "wake": self.wake, "pick": self.pick,
             "end": self.end, "leave": self.leave, "level": self.set_level, "give": self.give,
-            "cut": self.cut, "bound": self.bound, "stop": self.stop, "late": self.late}
+            "cut": self.cut, "bound": self.bound, "stop": self.stop, "late": self.late,
+            **dict.fromkeys(("limit", "under", "refill"), lambda *_: None)}
         for line, (name, numbers) in zip(trace.splitlines(), words_of(trace)):
             if name != "pick" and not line.startswith(MORE):
                 self.lines.append(line)

@@ -115,11 +115,12 @@ follows s (lines.Terms q w c) ok =
       ltb-false MAX_TERM_NS w two.0,
       ltb-false MAX_TERM_NS c two.1,
     )
-follows s (lines.Leaf i a g) ok =
+follows s (lines.Leaf i a g inside) ok =
     let p = leaf_tests (i == length s.accounts) (is_out MAX_AMOUNT a) (Bad BadLine) (Bad BadField)
     ok in
     let q = within MAX_AMOUNT a p.1 in
     (eqb-true i (length s.accounts) p.0, q.0, q.1)
+follows s (lines.Group limit burst) ok = tt
 follows s (lines.Event e) ok =
     let p = event_tests (s.slice == 0) (Bad BadLine) (event_fault (allowed s e)) ok in
     let q = (refusal_is_exact s e).0 (made (allowed s e) p.1) in
@@ -143,9 +144,10 @@ may_follow s (lines.Terms q w c) m =
     (no_out MAX_TERM_NS q m.2 m.3)
     ∙ (ap (λ (b : Bool). b || nat_lt MAX_TERM_NS c) (le-ltb MAX_TERM_NS w m.4)
     ∙ le-ltb MAX_TERM_NS c m.5))
-may_follow s (lines.Leaf i a g) m =
+may_follow s (lines.Leaf i a g inside) m =
     pass_leaf (i == length s.accounts) (is_out MAX_AMOUNT a) (Bad BadLine) (Bad BadField)
     (eq-eqb i (length s.accounts) m.0) (no_out MAX_AMOUNT a m.1 m.2)
+may_follow s (lines.Group limit burst) m = refl
 may_follow s (lines.Event e) m =
     ap (λ (b : Bool). if◌then◌else◌ {A = Option LineFault} b (Some (Bad BadLine))
     (event_fault (allowed s e)))

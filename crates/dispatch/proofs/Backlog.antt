@@ -139,7 +139,8 @@ aged_some quantum t (Some run ∷ ps) short within =
     )
 
 -- no processor runs a task, or the time is of no more than a quantum
-pub short_or_idle : (quantum t : ℕ) (ps : List (Option Run)) → AllByRecursion (RunsWithin quantum t) ps
+pub short_or_idle : (quantum t : ℕ) (ps : List (Option Run))
+    → AllByRecursion (RunsWithin quantum t) ps
     → ((sum_by busy ps ≡ 0) × (sum_by (rest (WHOLE * quantum)) (map (aged t) ps) ≡ 0))
     ⊎ (t ≤ quantum)
 short_or_idle quantum t [] within = inl (refl, refl)

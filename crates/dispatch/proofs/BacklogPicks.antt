@@ -143,7 +143,8 @@ other_demand s p i e k some slack beyond all may less =
                   let due = may.due k waits (due_beyond s k slack all waits g h) in
                   owes_later s i e some all may.waits due.0 less
                   (due.1 e s.credit
-                  (subst (λ (r : ℕ). 2 * quantum_of s + r * s.credit ≤ (account_at s k).owed + r * e)
+                  (subst
+                  (λ (r : ℕ). 2 * quantum_of s + r * s.credit ≤ (account_at s k).owed + r * e)
                   (sym full) owes))
 
 pub run_of_same : (i k : ℕ) → k ≡ i → (if◌then◌else◌ {A = ℕ} (i == k) 1 0) ≡ 1
@@ -270,7 +271,8 @@ picked_room n w s p i e some b beyond all may = pays_or_less s i e Goal paid bou
       (slice_set s.processors p (Some (begun s i))) ≤ m * quantum_of s)
       (length_set s.processors p (Some (begun s i)) ∙ b.processors_are)
       (rest_at_most (quantum_of s) (slice_set s.processors p (Some (begun s i)))) in
-      let room = room_bounded (sum_by (rest (quantum_of s)) (slice_set s.processors p (Some (begun s i))))
+      let room = room_bounded
+      (sum_by (rest (quantum_of s)) (slice_set s.processors p (Some (begun s i))))
       (sum_by (demand_by (quantum_of s) s.credit e)
       (slice_set s.accounts i (picked s (account_at s i))))
       (sum_by (λ x. x.guarantee) s.accounts) (sum_by (λ x. x.share.running) s.accounts)

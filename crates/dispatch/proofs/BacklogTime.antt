@@ -213,7 +213,8 @@ quiet_room n w s t e some b none_waits beyond within = quiet none_waits where
             let none_runs : (account_at s k).share.running ≡ 0 =
             omega (arith, running, b.total, free) in
             wants_none (account_at s k) (none k) none_runs) in
-            let demands_are : demands ≤ sum_by (λ x. x.guarantee * e + x.share.running * 0) s.accounts =
+            let demands_are : demands
+            ≤ sum_by (λ x. x.guarantee * e + x.share.running * 0) s.accounts =
             sum_map (demand_by (quantum_of s) s.credit e)
             (λ x. x.guarantee * e + x.share.running * 0) (passed s t) s.accounts no_account
             (λ k known. (let own = demand_within (account_at s k).guarantee (quantum_of s)
@@ -247,14 +248,15 @@ quiet_room n w s t e some b none_waits beyond within = quiet none_waits where
             let less : demand_by (quantum_of s) s.credit e (passed s t (account_at s k))
             ≤ (account_at s k).guarantee * (e + t) + (account_at s k).share.running * 0 =
             omega (arith, nearer, own) in less)) in
-            room_short rests demands (sum_by (λ x. x.guarantee) s.accounts) n (quantum_of s) e t some
+            room_short rests demands (sum_by (λ x. x.guarantee) s.accounts) n (quantum_of s) e t
+            some
             (subst (λ (m : ℕ). rests + WHOLE * (t * m) ≤ m * quantum_of s) b.processors_are
             (aged_some s.quantum t s.processors short within))
             (omega (
               arith,
               demands_are,
-              sum_products (λ (x : Account). x.guarantee) (λ (x : Account). x.share.running) (e + t) 0
-                  s.accounts,
+              sum_products (λ (x : Account). x.guarantee) (λ (x : Account). x.share.running)
+                  (e + t) 0 s.accounts,
             ))
             b.guarantees
 
@@ -265,7 +267,8 @@ passed_runs n w s t b k inside =
     let known : k < length s.accounts =
     omega (arith, inside, length-map s.accounts (passed s t)) in
     aged_runs k t s.processors
-    ∙ (b.runs k known ∙ ap (λ (x : Account). x.share.running) (sym (passed_at s t s.accounts k known)))
+    ∙ (b.runs k known
+    ∙ ap (λ (x : Account). x.share.running) (sym (passed_at s t s.accounts k known)))
 
 backlog_passed : (n w lost : ℕ) (s : Reservations) (t : ℕ) → Backlog n w s
     → ((e : ℕ) → HasRoom n lost s t e) → Backlog n lost (state_passed s t)

@@ -38,8 +38,11 @@ module _ (q o r : ℕ) where
             let a = divided (q - o + (r - 1)) r some in
             let b = divided (o - q) r some in
             let scaled : r * suc (h + (o - q) / r) ≤ r * ((q - o + (r - 1)) / r + k) =
-            mul-le-mul_left r (let l : suc (h + (o - q) / r) ≤ (q - o + (r - 1)) / r + k = omega (arith, less) in l) in
-            by_order ⊥ q (suc o) (λ small. late small a b scaled) (λ large. early large a b scaled) where
+            mul-le-mul_left r
+            (let l : suc (h + (o - q) / r) ≤ (q - o + (r - 1)) / r + k =
+            omega (arith, less) in l) in
+            by_order ⊥ q (suc o) (λ small. late small a b scaled)
+            (λ large. early large a b scaled) where
               late : q < suc o → IsDivided (q - o + (r - 1)) r → IsDivided (o - q) r
                   → r * suc (h + (o - q) / r) ≤ r * ((q - o + (r - 1)) / r + k) → ⊥
               late small a b scaled =

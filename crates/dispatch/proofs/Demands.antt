@@ -22,14 +22,16 @@ tested : (b : Bool) (g q credit owed runs until : ℕ)
     → Demand (suc g) q credit owed runs until
     (if◌then◌else◌ {A = ℕ} b 0 (owed + until - (q + credit)))
 tested true g q credit owed runs until is =
-    let l : owed + runs + until < 2 * q + credit = ltb-true (owed + runs + until) (2 * q + credit) is in
+    let l : owed + runs + until < 2 * q + credit =
+    ltb-true (owed + runs + until) (2 * q + credit) is in
     record {
       none = λ e. refl;
       less = λ h. refl;
       some = λ h i. absurd (let clash : ⊥ = omega (arith, l, i) in clash);
     }
 tested false g q credit owed runs until is =
-    let l : 2 * q + credit ≤ owed + runs + until = ltb-false (owed + runs + until) (2 * q + credit) is in
+    let l : 2 * q + credit ≤ owed + runs + until =
+    ltb-false (owed + runs + until) (2 * q + credit) is in
     record {
       none = λ e. absurd (let clash : ⊥ = omega (arith, e) in clash);
       less = λ h. absurd (let clash : ⊥ = omega (arith, l, h) in clash);

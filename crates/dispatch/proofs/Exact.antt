@@ -1,5 +1,6 @@
 -- An event is refused if and only if the rule does not allow it, or a number has no room.
-use Rattle.std.proofs.Common.{◌≡◌, ℕ, zero, suc, ◌+◌, ◌-◌, ◌*◌, ◌/◌, ◌<◌, ◌≤◌, ◌^◌, ◌==◌, ◌&&◌, ◌||◌}
+use Rattle.std.proofs.Common.{◌≡◌, ℕ, zero, suc, ◌+◌, ◌-◌, ◌*◌, ◌/◌, ◌<◌, ◌≤◌, ◌^◌, ◌==◌}
+use Rattle.std.proofs.Common.{◌&&◌, ◌||◌}
 use Rattle.std.proofs.Common.{◌⊎◌, inl, inr, not, nat_lt, Bool, true, false, List, [], ◌∷◌, length}
 use Rattle.std.proofs.Common.{get_or, Option, None, Some, Result, Ok, Err, slice_get, refl, ap, sym}
 use Rattle.std.proofs.Common.{subst, ◌∙◌, arith, max, if◌then◌else◌}

@@ -134,7 +134,8 @@ within_complete quantum ns (Some run) is =
 whole_of : (t : Terms) (xs : List Account) (i : ℕ) → is_whole t (slice_get xs i) ≡ true
     → (get_or xs i no_account).owed ≤ most_in t (get_or xs i no_account)
 whole_of t [] i is = omega arith
-whole_of t (x ∷ xs) zero is = ltb-false (most_in t x) x.owed (not-true (nat_lt (most_in t x) x.owed) is)
+whole_of t (x ∷ xs) zero is =
+    ltb-false (most_in t x) x.owed (not-true (nat_lt (most_in t x) x.owed) is)
 whole_of t (x ∷ xs) (suc i) is = whole_of t xs i is
 
 is_whole_of : (t : Terms) (xs : List Account) (i : ℕ)
@@ -229,7 +230,8 @@ told_fair s Refill h = refl
 passed_lost : (s : Reservations) (w t : ℕ) → IsLost w (lost_after s w (Pass t)) s (Pass t)
 passed_lost s w t =
     by_tests (list_all is_busy s.processors)
-    (list_all is_still s.accounts && list_all (waits_beyond (terms_of s)) s.accounts) refl refl where
+    (list_all is_still s.accounts && list_all (waits_beyond (terms_of s)) s.accounts) refl
+    refl where
       by_tests : (a b : Bool) → list_all is_busy s.processors ≡ a
           → (list_all is_still s.accounts && list_all (waits_beyond (terms_of s)) s.accounts) ≡ b
           → IsLost w (if◌then◌else◌ {A = ℕ} a w

@@ -2,20 +2,31 @@
 -- overruns.
 use Rattle.std.proofs.Common.{◌≡◌, ℕ, zero, suc, ◌+◌, ◌-◌, ◌*◌, ◌<◌, ◌≤◌, List, [], ◌∷◌, ◌++◌}
 use Rattle.std.proofs.Common.{length, Bool, true, false, Option, None, Some, slice_get, slice_set}
-use Rattle.std.proofs.Common.{map, min, refl, ap, sym, subst, ◌∙◌, arith, if◌then◌else◌}
+use Rattle.std.proofs.Common.{map, min, refl, ap, sym, subst, ◌∙◌, arith, if◌then◌else◌, nat_lt}
+use Rattle.std.proofs.Common.{not, ◌||◌, ◌↔◌, get_or}
 use Rattle.std.specs.List.{sum_by, AllByRecursion}
 use Rattle.std.proofs.Math.Nat.{mul-le-mul_left}
+use Rattle.std.proofs.lemmas.Bool.{ltb-true, ltb-false, lt-ltb, le-ltb}
 use Rattle.std.proofs.lemmas.List.{length-map}
 use Rattle.std.proofs.lemmas.List.Sums.{sum_by-cons}
+use Rattle.dispatch.specs.declared.reservation.Account.{Account}
 use Rattle.dispatch.specs.declared.reservation.Run.{Run}
+use Rattle.dispatch.specs.declared.reservation.Terms.{Terms}
 use Rattle.dispatch.specs.declared.reservation.Step.{Step}
 use Rattle.dispatch.specs.declared.reservation.Step.TheVariants.{Pass, Wake, Pick, End, Level}
 use Rattle.dispatch.specs.declared.reservation.Step.TheVariants.{Give, Leave, Cut, Stop, Refill}
 use Rattle.dispatch.specs.Reservation.{Reservations, account_at, aged, after, state_ended, paid_by}
+use Rattle.dispatch.specs.Reservation.{Allows, WHOLE, no_account, terms_of, quantum_of, rate_of}
+use Rattle.dispatch.specs.Reservation.{passed_in, capped, capped_owed, settled_owed, cut, left}
+use Rattle.dispatch.specs.Reservation.{given, woken, stopped}
+use Rattle.dispatch.specs.Reservation as reserved
+use Rattle.dispatch.specs.Rule as shares
 use Rattle.dispatch.specs.Windows.{after_all}
-use Rattle.dispatch.specs.Groups.{Group, balanced, refilled, group_ended, group_after, KeepsLimit}
+use Rattle.dispatch.specs.declared.budget.Group.{Group}
+use Rattle.dispatch.specs.Groups.{balanced, refilled, group_ended, group_after, KeepsLimit}
 use Rattle.dispatch.specs.Groups.{IsLimitedRun, used_by, used_at, used_in, period_at, periods_in}
-use Rattle.dispatch.specs.Groups.{LimitsAreKept}
+use Rattle.dispatch.specs.Groups.{LimitsAreKept, LimitIsTold, keeps_limit, inside_of, inside_at}
+use Rattle.dispatch.specs.Groups.{IsToldToKeep, ToldRunsAreLimited}
 use Rattle.dispatch.proofs.Counts.{length_set}
 use Rattle.dispatch.proofs.Totals.{sum_set}
 
@@ -461,3 +472,150 @@ limits_are_kept inside s g before window idle short fresh free run =
           (group_after_all inside (after_all s before) parts.group window).debt
           parts.kept.holds.room all.kept.holds.owes all.uses in
           omega (arith, most, limits, parts.burst)
+
+-- ---- the test of a trace
+
+picked_within : (b : Bool) (g : Group) → (not b || nat_lt g.debt g.left) ≡ true → b ≡ true
+    → g.debt < g.left
+picked_within true g is inside = ltb-true g.debt g.left is
+picked_within false g is inside = absurd (cc inside)
+
+within_told : (b : Bool) (g : Group) → (b ≡ true → g.debt < g.left)
+    → (not b || nat_lt g.debt g.left) ≡ true
+within_told true g within = lt-ltb g.debt g.left (within refl)
+within_told false g within = refl
+
+used_within : (b : Bool) → not b ≡ true → b ≡ false
+used_within true is = absurd (let clash : false ≡ true = is in cc clash)
+used_within false is = refl
+
+pub limit_is_told : LimitIsTold
+limit_is_told s g (Pass t) may = (λ is. tt, λ h. refl)
+limit_is_told s g (Wake i tasks) may = (λ is. tt, λ h. refl)
+limit_is_told s g (Pick p i) may = (
+  λ is. (may.free, picked_within (inside_of s i) g is),
+  λ h. within_told (inside_of s i) g h.1,
+)
+limit_is_told s g (End p used remains) may = (
+  λ is. ltb-false s.quantum used (used_within (nat_lt s.quantum used) is),
+  λ h. ap not (le-ltb s.quantum used h),
+)
+limit_is_told s g Level may = (λ is. tt, λ h. refl)
+limit_is_told s g (Give i amount guarantee) may = (λ is. tt, λ h. refl)
+limit_is_told s g (Leave i) may = (λ is. tt, λ h. refl)
+limit_is_told s g (Cut i) may = (λ is. tt, λ h. refl)
+limit_is_told s g (Stop i stops) may = (λ is. tt, λ h. refl)
+limit_is_told s g Refill may = (λ is. tt, λ h. refl)
+
+-- ---- who is inside stays so
+
+either_inside : (b : Bool) (x y : Account) (c : Bool) → x.is_inside ≡ c → y.is_inside ≡ c
+    → (if◌then◌else◌ {A = Account} b x y).is_inside ≡ c
+either_inside true x y c one two = one
+either_inside false x y c one two = two
+
+set_inside : (xs : List Account) (j i : ℕ) (a : Account)
+    → a.is_inside ≡ (get_or xs j no_account).is_inside
+    → inside_at (slice_get (slice_set xs j a) i) ≡ inside_at (slice_get xs i)
+set_inside [] j i a same = refl
+set_inside (x ∷ xs) zero zero a same = same
+set_inside (x ∷ xs) zero (suc i) a same = refl
+set_inside (x ∷ xs) (suc j) zero a same = refl
+set_inside (x ∷ xs) (suc j) (suc i) a same = set_inside xs j i a same
+
+map_inside : (t : Terms) (ns : ℕ) (xs : List Account) (i : ℕ)
+    → inside_at (slice_get (map (passed_in t ns) xs) i) ≡ inside_at (slice_get xs i)
+map_inside t ns [] i = refl
+map_inside t ns (x ∷ xs) zero = refl
+map_inside t ns (x ∷ xs) (suc i) = map_inside t ns xs i
+
+ended_inside : (s : Reservations) (p used : ℕ) (remains : Bool) (q : Option (Option Run)) (i : ℕ)
+    → inside_of (state_ended s p used remains q) i ≡ inside_of s i
+ended_inside s p used remains None i = refl
+ended_inside s p used remains (Some None) i = refl
+ended_inside s p used remains (Some (Some run)) i =
+    let a = account_at s run.leaf in
+    let now : Account = record a {
+      share = shares.ended s.slice used remains a.share;
+      owed = settled_owed (quantum_of s) run.paid (WHOLE * run.age)
+          (capped_owed (terms_of s) a);
+    } in
+    set_inside s.accounts run.leaf i (reserved.ended s run used remains a)
+    (either_inside (nat_lt (rate_of now) (rate_of a)) (cut s now) now a.is_inside refl refl)
+
+inside_stays : (s : Reservations) (e : Step) (i : ℕ) → inside_of (after s e) i ≡ inside_of s i
+inside_stays s (Pass t) i = map_inside (terms_of s) t s.accounts i
+inside_stays s (Wake j tasks) i =
+    set_inside s.accounts j i (woken s tasks (account_at s j)) refl
+inside_stays s (Pick p j) i =
+    set_inside s.accounts j i (reserved.picked s (account_at s j)) refl
+inside_stays s (End p used remains) i =
+    ended_inside s p used remains (slice_get s.processors p) i
+inside_stays s Level i = refl
+inside_stays s (Give j amount guarantee) i =
+    set_inside s.accounts j i (given s amount guarantee (account_at s j)) refl
+inside_stays s (Leave j) i =
+    let a = account_at s j in
+    let now : Account = record (capped (terms_of s) a) {
+      share = record a.share { waiting = a.share.waiting - 1 };
+    } in
+    set_inside s.accounts j i (left s a)
+    (either_inside (nat_lt (rate_of now) (rate_of a)) (cut s now) now a.is_inside refl refl)
+inside_stays s (Cut j) i = set_inside s.accounts j i (cut s (account_at s j)) refl
+inside_stays s (Stop j stops) i =
+    set_inside s.accounts j i (stopped s stops (account_at s j))
+    (either_inside stops (record (cut s (account_at s j)) { is_stopped = true })
+    (record (account_at s j) { is_stopped = false }) (account_at s j).is_inside refl refl)
+inside_stays s Refill i = refl
+
+-- two ways to say who is inside
+same_ended : (one two : ℕ → Bool) (slice used : ℕ) (g : Group) (q : Option (Option Run))
+    → ((i : ℕ) → one i ≡ two i)
+    → group_ended one slice used g q ≡ group_ended two slice used g q
+same_ended one two slice used g None same = refl
+same_ended one two slice used g (Some None) same = refl
+same_ended one two slice used g (Some (Some run)) same =
+    ap (λ (b : Bool). if◌then◌else◌ {A = Group} b (balanced g used slice) g) (same run.leaf)
+
+same_after : (one two : ℕ → Bool) (s : Reservations) (g : Group) (e : Step)
+    → ((i : ℕ) → one i ≡ two i) → group_after one s g e ≡ group_after two s g e
+same_after one two s g (Pass t) same = refl
+same_after one two s g (Wake i tasks) same = refl
+same_after one two s g (Pick p i) same =
+    ap (λ (b : Bool). if◌then◌else◌ {A = Group} b (balanced g s.slice 0) g) (same i)
+same_after one two s g (End p used remains) same =
+    same_ended one two s.slice used g (slice_get s.processors p) same
+same_after one two s g Level same = refl
+same_after one two s g (Give i amount guarantee) same = refl
+same_after one two s g (Leave i) same = refl
+same_after one two s g (Cut i) same = refl
+same_after one two s g (Stop i stops) same = refl
+same_after one two s g Refill same = refl
+
+same_keeps : (one two : ℕ → Bool) (s : Reservations) (g : Group) (e : Step)
+    → ((i : ℕ) → one i ≡ two i) → KeepsLimit two s g e → KeepsLimit one s g e
+same_keeps one two s g (Pass t) same keeps = tt
+same_keeps one two s g (Wake i tasks) same keeps = tt
+same_keeps one two s g (Pick p i) same keeps =
+    (keeps.0, λ inside. keeps.1 (sym (same i) ∙ inside))
+same_keeps one two s g (End p used remains) same keeps = keeps
+same_keeps one two s g Level same keeps = tt
+same_keeps one two s g (Give i amount guarantee) same keeps = tt
+same_keeps one two s g (Leave i) same keeps = tt
+same_keeps one two s g (Cut i) same keeps = tt
+same_keeps one two s g (Stop i stops) same keeps = tt
+same_keeps one two s g Refill same keeps = tt
+
+told_runs : (inside : ℕ → Bool) (s : Reservations) (g : Group) (es : List Step)
+    → ((i : ℕ) → inside i ≡ inside_of s i) → IsToldToKeep s g es → IsLimitedRun inside s g es
+told_runs inside s g [] same told = tt
+told_runs inside s g (e ∷ es) same told = (
+  same_keeps inside (inside_of s) s g e same ((limit_is_told s g e told.0).0 told.1),
+  told_runs inside (after s e) (group_after inside s g e) es
+      (λ i. same i ∙ sym (inside_stays s e i))
+      (subst (λ (h : Group). IsToldToKeep (after s e) h es)
+      (sym (same_after inside (inside_of s) s g e same)) told.2),
+)
+
+pub told_runs_are_limited : ToldRunsAreLimited
+told_runs_are_limited s g es told = told_runs (inside_of s) s g es (λ i. refl) told

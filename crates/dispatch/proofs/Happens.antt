@@ -1,5 +1,6 @@
 -- The state after a pick and after an end, by the leaf that it changes.
-use Rattle.std.proofs.Common.{◌≡◌, ℕ, ◌<◌, ◌*◌, ◌^◌, ◌==◌, ◌&&◌, not, List, Bool, true, false, Option, Some, None}
+use Rattle.std.proofs.Common.{◌≡◌, ℕ, ◌<◌, ◌*◌, ◌^◌, ◌==◌, ◌&&◌, not}
+use Rattle.std.proofs.Common.{List, Bool, true, false, Option, Some, None}
 use Rattle.std.proofs.Common.{Result, Ok, Err, slice_get, slice_set, refl, ap, sym, subst, ◌∙◌}
 use Rattle.std.proofs.Common.{if◌then◌else◌, is_ok, nat_lt, [], ◌∷◌, zero, suc, length, get_or}
 use Rattle.std.proofs.Common.{map, arith, take, ◌++◌}
@@ -23,7 +24,8 @@ use Rattle.dispatch.specs.Reservation.{quantum_in, rate_of, cut_in, cut_if_less,
 use Rattle.dispatch.specs.Reservation.{settled_owed, picked_in, ended_in, paid_in, state_ended}
 use Rattle.dispatch.specs.Reservation.{woken_in, with_account, passed_in, ready_in, seen_leaf}
 use Rattle.dispatch.specs.Steps.{account_picked, account_ended, is_passed_over, is_due, happens}
-use Rattle.dispatch.specs.Steps.{free_processor, run_of, end_allowed, and_then, account_woken, paid_at}
+use Rattle.dispatch.specs.Steps.{free_processor, run_of, end_allowed, and_then, account_woken}
+use Rattle.dispatch.specs.Steps.{paid_at}
 
 -- a value that is tested, and then given
 pub tested : {A B : Type 0} (r : Result B Refusal) (x w : A) (next : Result A Refusal)
@@ -90,7 +92,11 @@ pub pick_happens : (s : Reservations) (p i : ℕ) (w : Account)
     → happens s (Pick p i) ≡ record s {
       accounts = slice_set s.accounts i w;
       processors = slice_set s.processors p
-          (Some (record { leaf = i; paid = paid_at (terms_of s) (slice_get s.accounts i); age = 0 }));
+          (Some (record {
+            leaf = i;
+            paid = paid_at (terms_of s) (slice_get s.accounts i);
+            age = 0;
+          }));
     }
 pick_happens s p i w free is =
     let q = picked_is (terms_of s) s.accounts (slice_get s.accounts i) w is in

@@ -1,5 +1,5 @@
--- The ledger of a leaf: what it is owed and what its runs would give back changes, at each event, by
--- what its guarantee brings less what its tasks hold.
+-- The ledger of a leaf: what it is owed and what its runs would give back changes, at each event,
+-- by what its guarantee brings less what its tasks hold.
 use Rattle.std.proofs.Common.{◌≡◌, ◌≢◌, ℕ, zero, suc, ◌+◌, ◌-◌, ◌*◌, ◌<◌, ◌≤◌, ◌==◌, inl, inr}
 use Rattle.std.proofs.Common.{List, [], ◌∷◌, length, Bool, true, false, Option, None, Some}
 use Rattle.std.proofs.Common.{nat_lt, slice_get, map, min, max, refl, ap, sym}

@@ -98,7 +98,8 @@ pub one_pick : (i : Input) → picks_in i ≤ 1
 one_pick (lines.Processors n) = omega arith
 one_pick (lines.Slice n) = omega arith
 one_pick (lines.Terms q w c) = omega arith
-one_pick (lines.Leaf l a g) = omega arith
+one_pick (lines.Leaf l a g inside) = omega arith
+one_pick (lines.Group limit burst) = omega arith
 one_pick (lines.Event (Pass n)) = omega arith
 one_pick (lines.Event Level) = omega arith
 one_pick (lines.Event (Give l a g)) = omega arith

@@ -56,16 +56,17 @@ stays_fresh s (lines.Terms q w c) sets may fresh = record {
       ap (λ (xs : List Account). (get_or xs k no_account).owed) may.1 in
       omega (arith, none));
 }
-stays_fresh s (lines.Leaf i a g) sets may fresh = record {
+stays_fresh s (lines.Leaf i a g inside) sets may fresh = record {
   idle = fresh.idle;
   running = λ k. (let most = at_most_pushed (λ x. x.share.running) s.accounts
-      (new_account (terms_of s) a g) no_account k 0 (omega arith) (omega arith)
+      (new_account (terms_of s) a g inside) no_account k 0 (omega arith) (omega arith)
       (λ j. (let none = fresh.running j in
       let z : (account_at s j).share.running ≤ 0 = omega (arith, none) in z)) in
       omega (arith, most));
-  owed = λ k. at_most_pushed (λ x. x.owed) s.accounts (new_account (terms_of s) a g) no_account k
-      (quantum_of s) (omega arith) (omega arith) fresh.owed;
+  owed = λ k. at_most_pushed (λ x. x.owed) s.accounts (new_account (terms_of s) a g inside)
+      no_account k (quantum_of s) (omega arith) (omega arith) fresh.owed;
 }
+stays_fresh s (lines.Group limit burst) sets may fresh = fresh
 stays_fresh s (lines.Event e) sets may fresh = absurd sets
 
 all_fresh : (s : Reservations) (is : List Input) → AllSetUp is → AllFollow s is → IsFresh s

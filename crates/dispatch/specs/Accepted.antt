@@ -17,7 +17,8 @@ abbrev pub SetsUp : Input → Type 0
 SetsUp (lines.Processors n) = Unit {0}
 SetsUp (lines.Slice n) = Unit {0}
 SetsUp (lines.Terms q w c) = Unit {0}
-SetsUp (lines.Leaf i a g) = Unit {0}
+SetsUp (lines.Leaf i a g inside) = Unit {0}
+SetsUp (lines.Group limit burst) = Unit {0}
 SetsUp (lines.Event e) = ⊥
 
 abbrev pub AllSetUp : List Input → Type 0

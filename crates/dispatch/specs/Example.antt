@@ -20,6 +20,7 @@ half charged used = record {
   guarantee = 524288;
   owed = 2097152;
   is_stopped = false;
+  is_inside = false;
 }
 
 -- one processor, a quantum and a credit of two nanoseconds, and two such leaves
@@ -58,6 +59,7 @@ whole charged used = record {
   guarantee = 1048576;
   owed = 2097152;
   is_stopped = false;
+  is_inside = false;
 }
 
 -- two processors, a quantum and a credit of two nanoseconds, and two such leaves

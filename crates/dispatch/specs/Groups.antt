@@ -1,20 +1,15 @@
 -- Groups with a limit: what a pick takes of it in advance, and what the rule promises of periods.
-use Rattle.std.specs.Prelude.{◌≡◌, ℕ, zero, suc, ◌+◌, ◌-◌, ◌*◌, ◌<◌, ◌≤◌, min, Bool, true, List}
+use Rattle.std.specs.Prelude.{◌≡◌, ℕ, zero, suc, ◌+◌, ◌-◌, ◌*◌, ◌<◌, ◌≤◌, ◌^◌, ◌&&◌, ◌||◌, ◌↔◌}
+use Rattle.std.specs.Prelude.{not, nat_lt, min, Bool, true, false, List}
 use Rattle.std.specs.Prelude.{[], ◌∷◌, ◌++◌, length, Option, None, Some, slice_get, if◌then◌else◌}
 use Rattle.std.specs.List.{AllByRecursion}
+use Rattle.dispatch.specs.declared.budget.Group.{Group}
+use Rattle.dispatch.specs.declared.reservation.Account.{Account}
 use Rattle.dispatch.specs.declared.reservation.Run.{Run}
 use Rattle.dispatch.specs.declared.reservation.Step.{Step}
 use Rattle.dispatch.specs.declared.reservation.Step.TheVariants.{Pick, End, Refill}
-use Rattle.dispatch.specs.Reservation.{Reservations, after}
+use Rattle.dispatch.specs.Reservation.{Reservations, after, Allows}
 use Rattle.dispatch.specs.Windows.{after_all}
-
--- A group with a limit, in nanoseconds: what it may use in a period, what it may keep of that for
--- later ones, what it has left, and what was taken beyond that.
-pub record Group : Type 0 where
-  pub limit : ℕ
-  pub burst : ℕ
-  pub left : ℕ
-  pub debt : ℕ
 
 -- the group after so much is taken, and so much given back
 abbrev pub balanced : Group → ℕ → ℕ → Group
@@ -84,10 +79,48 @@ periods_in [] = 0
 periods_in (e ∷ es) = period_at e + periods_in es
 
 -- No group uses more in a window than the limits of the periods in it, its burst, a quantum for
--- each processor, and a slice. It is any set of leaves, and any may wake and be picked in any order.
+-- each processor, and a slice. It is any set of leaves, and any may wake and be picked in any
+-- order.
 abbrev pub LimitsAreKept : Type 0
 LimitsAreKept = (inside : ℕ → Bool) (s : Reservations) (g : Group) (before window : List Step)
     → AllByRecursion (λ q. q ≡ None) s.processors → s.slice ≤ s.quantum
     → g.left ≤ g.limit + g.burst → g.debt ≡ 0 → IsLimitedRun inside s g (before ++ window)
     → used_in inside (after_all s before) window
     ≤ (periods_in window + 1) * g.limit + g.burst + length s.processors * s.quantum + s.slice
+
+-- ---- of a trace
+
+-- whether the leaf, if there is one, is inside the group
+abbrev pub inside_at : Option Account → Bool
+inside_at None = false
+inside_at (Some a) = a.is_inside
+
+abbrev pub inside_of : Reservations → ℕ → Bool
+inside_of s i = inside_at (slice_get s.accounts i)
+
+-- the group, if its numbers have 64 bits
+abbrev pub fitted : Group → Option Group
+fitted g = if nat_lt g.left (2 ^ 64) && nat_lt g.debt (2 ^ 64) then Some g else None
+
+-- whether an event that the rule allows keeps the limit
+abbrev pub keeps_limit : Reservations → Group → Step → Bool
+keeps_limit s g (Pick p i) = not (inside_of s i) || nat_lt g.debt g.left
+keeps_limit s g (End p used remains) = not (nat_lt s.quantum used)
+keeps_limit s g _ = true
+
+-- The test tells exactly which event that the rule allows keeps the limit.
+abbrev pub LimitIsTold : Type 0
+LimitIsTold = (s : Reservations) (g : Group) (e : Step) → Allows s e
+    → (keeps_limit s g e ≡ true) ↔ KeepsLimit (inside_of s) s g e
+
+-- the rule allows each event, and each keeps the limit of the leaves inside, as a trace tells
+abbrev pub IsToldToKeep : Reservations → Group → List Step → Type 0
+IsToldToKeep s g [] = Unit {0}
+IsToldToKeep s g (e ∷ es) =
+    Allows s e × (keeps_limit s g e ≡ true)
+    × IsToldToKeep (after s e) (group_after (inside_of s) s g e) es
+
+-- A run that is told to keep a limit keeps that of the leaves inside at its beginning.
+abbrev pub ToldRunsAreLimited : Type 0
+ToldRunsAreLimited = (s : Reservations) (g : Group) (events : List Step)
+    → IsToldToKeep s g events → IsLimitedRun (inside_of s) s g events

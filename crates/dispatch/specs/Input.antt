@@ -10,7 +10,7 @@ use Rattle.dispatch.specs.declared.fault.InputFault.{InputFault}
 use Rattle.dispatch.specs.declared.fault.InputFault.TheVariants.{BadNumber, BadLine, BadField}
 use Rattle.dispatch.specs.declared.input.Input.{Input}
 use Rattle.dispatch.specs.declared.input.Input.TheVariants.{Processors, Slice, Terms}
-use Rattle.dispatch.specs.declared.input.Input.TheVariants.{Leaf, Event}
+use Rattle.dispatch.specs.declared.input.Input.TheVariants.{Leaf, Group, Event}
 
 -- the first fault of two steps
 infixl 10 ◌>>=◌
@@ -110,7 +110,10 @@ input_behind verb ws =
     else if bytes_eq verb (codes "terms")
     then (three_numbers ws >>= λ p. Ok (Terms p.0 p.1 p.2))
     else if bytes_eq verb (codes "leaf")
-    then (leaf_numbers ws >>= λ p. Ok (Leaf p.0 p.1 p.2))
+    then (leaf_numbers ws >>= λ p. Ok (Leaf p.0 p.1 p.2 false))
+    else if bytes_eq verb (codes "member")
+    then (leaf_numbers ws >>= λ p. Ok (Leaf p.0 p.1 p.2 true))
+    else if bytes_eq verb (codes "group") then (two_numbers ws >>= λ p. Ok (Group p.0 p.1))
     else (step_of verb ws >>= λ e. Ok (Event e))
 
 abbrev pub input_of : List (List ℕ) → Result Input InputFault

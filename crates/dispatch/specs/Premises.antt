@@ -5,6 +5,7 @@ use Rattle.std.specs.Prelude.{slice_get, if◌then◌else◌, Result, Ok, Err, c
 use Rattle.std.specs.List.{list_all, slice_split}
 use Rattle.std.specs.Fmt.{decimal}
 use Rattle.bw_text.specs.Words.{words}
+use Rattle.dispatch.specs.declared.budget.Group.{Group}
 use Rattle.dispatch.specs.declared.fault.InputFault.{InputFault}
 use Rattle.dispatch.specs.declared.input.Input.{Input}
 use Rattle.dispatch.specs.declared.input.Input.TheVariants as lines
@@ -21,6 +22,7 @@ use Rattle.dispatch.specs.Replay.{input_fault, input_after, nothing_set}
 use Rattle.dispatch.specs.Reservation.{Reservations, WHOLE, terms_of, credit_in, tasks_of}
 use Rattle.dispatch.specs.Reservation.{most_in, ready_in}
 use Rattle.dispatch.specs.Windows.{FitsHost, IsFair, IsLost}
+use Rattle.dispatch.specs.Groups.{group_after, inside_of, keeps_limit, fitted}
 
 -- whether a leaf that is owed more than its credit has a task that waits
 abbrev pub waits_beyond : Terms → Account → Bool
@@ -116,8 +118,7 @@ one_more n = min (n + 1) (2 ^ 64 - 1)
 abbrev pub told_event : Premises → ℕ → Bool → ℕ → Premises
 told_event p n holds lost =
     if holds then record p { events = one_more p.events; lost = lost }
-    else record {
-      has_terms = p.has_terms;
+    else record p {
       events = one_more p.events;
       unmet = one_more p.unmet;
       first = if p.unmet == 0 then n else p.first;
@@ -131,14 +132,41 @@ told_step s n p e lost =
     told_event p n (fits_host s && (is_fair s e && not (nat_lt s.quantum lost)))
     (if nat_lt s.quantum lost then 0 else lost)
 
+-- the group after an event of the line n that passes its limit
+abbrev pub passed_limit : Premises → ℕ → Group → Premises
+passed_limit p n g = record p {
+  group = g;
+  over = one_more p.over;
+  first_over = if p.over == 0 then n else p.first_over;
+}
+
+-- the group after an event that keeps its limit or not; one whose numbers have no 64 bits has
+-- nothing from there on
+abbrev pub told_limit : Premises → ℕ → Bool → Option Group → Premises
+told_limit p n keeps None = passed_limit p n (record p.group { left = 0; debt = 0 })
+told_limit p n keeps (Some g) = if keeps then record p { group = g } else passed_limit p n g
+
 -- the premises so far, and those at an input
 abbrev pub told : Reservations → ℕ → Premises → Input → Premises
-told s n p (lines.Event e) = told_step s n p e (lost_after s p.lost e)
+told s n p (lines.Event e) =
+    told_limit (told_step s n p e (lost_after s p.lost e)) n (keeps_limit s p.group e)
+    (fitted (group_after (inside_of s) s p.group e))
 told s n p (lines.Terms q w c) = record p { has_terms = true }
+told s n p (lines.Group limit burst) =
+    record p { group = record { limit = limit; burst = burst; left = limit; debt = 0 } }
 told s n p _ = p
 
 abbrev pub none_told : Premises
-none_told = record { has_terms = false; events = 0; unmet = 0; first = 0; lost = 0 }
+none_told = record {
+  has_terms = false;
+  events = 0;
+  unmet = 0;
+  first = 0;
+  lost = 0;
+  group = record { limit = 0; burst = 0; left = 0; debt = 0 };
+  over = 0;
+  first_over = 0;
+}
 
 -- result of a line that is read, if it has no fault
 abbrev pub told_at : Option LineFault → Premises → Premises → Premises
@@ -175,3 +203,14 @@ unmet_text p = first_text p ++ events_text (codes " of ") p
 abbrev pub premises_text : Premises → List ℕ
 premises_text p =
     if p.unmet == 0 then events_text (codes "premises: hold at each of ") p else unmet_text p
+
+-- the line on the limit
+abbrev pub passed_text : Premises → List ℕ
+passed_text p =
+    (codes "limit: passed first at line " ++ decimal p.first_over)
+    ++ (codes ", in all at " ++ decimal p.over)
+
+abbrev pub limit_text : Premises → List ℕ
+limit_text p =
+    if p.over == 0 then events_text (codes "limit: kept at each of ") p
+    else passed_text p ++ events_text (codes " of ") p

@@ -61,9 +61,10 @@ input_fault s (lines.Terms q w c) =
     if nat_lt 0 s.quantum || nat_lt 0 (length s.accounts) then Some (Bad BadLine)
     else if is_out MAX_TERM_NS q || (nat_lt MAX_TERM_NS w || nat_lt MAX_TERM_NS c)
     then Some (Bad BadField) else None
-input_fault s (lines.Leaf i a g) =
+input_fault s (lines.Leaf i a g inside) =
     if i == length s.accounts then (if is_out MAX_AMOUNT a then Some (Bad BadField) else None)
     else Some (Bad BadLine)
+input_fault s (lines.Group limit burst) = None
 input_fault s (lines.Event e) =
     if s.slice == 0 then Some (Bad BadLine) else event_fault (allowed s e)
 
@@ -72,8 +73,9 @@ abbrev pub input_after : Reservations → Input → Reservations
 input_after s (lines.Processors n) = record s { processors = replicate n None }
 input_after s (lines.Slice n) = record s { slice = n }
 input_after s (lines.Terms q w c) = record s { quantum = q; slack = w; credit = c }
-input_after s (lines.Leaf i a g) =
-    record s { accounts = s.accounts ++ new_account (terms_of s) a g ∷ [] }
+input_after s (lines.Leaf i a g inside) =
+    record s { accounts = s.accounts ++ new_account (terms_of s) a g inside ∷ [] }
+input_after s (lines.Group limit burst) = s
 input_after s (lines.Event e) = after s e
 
 -- 1 for a pick
@@ -156,7 +158,9 @@ MayFollow s (lines.Slice n) = (s.slice ≡ 0) × (0 < n) × (n ≤ MAX_SLICE_NS)
 MayFollow s (lines.Terms q w c) =
     (s.quantum ≡ 0) × (s.accounts ≡ []) × (0 < q) × (q ≤ MAX_TERM_NS) × (w ≤ MAX_TERM_NS)
     × (c ≤ MAX_TERM_NS)
-MayFollow s (lines.Leaf i a g) = (i ≡ length s.accounts) × (0 < a) × (a ≤ MAX_AMOUNT)
+MayFollow s (lines.Leaf i a g inside) =
+    (i ≡ length s.accounts) × (0 < a) × (a ≤ MAX_AMOUNT)
+MayFollow s (lines.Group limit burst) = Unit {0}
 MayFollow s (lines.Event e) = (0 < s.slice) × Allows s e × HasRoom s e
 
 -- each input may come next, after those before it

@@ -1,5 +1,6 @@
 -- The rule of reservations and shares: its state, the events that it allows, and the state after
--- each. A leaf that is owed by its guarantee goes first, by deadlines; else clocks of shares decide.
+-- each. A leaf that is owed by its guarantee goes first, by deadlines; else clocks of shares
+-- decide.
 use Rattle.std.specs.Prelude.{◌≡◌, ℕ, ◌+◌, ◌-◌, ◌*◌, ◌/◌, ◌<◌, ◌≤◌, ◌==◌, ◌||◌, nat_lt, min, max}
 use Rattle.std.specs.Prelude.{Bool, true, false}
 use Rattle.std.specs.Prelude.{List, [], ◌∷◌, length, get_or, map, Option, None, Some}
@@ -30,7 +31,13 @@ pub record Reservations : Type 0 where
   pub processors : List (Option Run)
 
 abbrev pub no_account : Account
-no_account = record { share = new_leaf 0; guarantee = 0; owed = 0; is_stopped = false }
+no_account = record {
+  share = new_leaf 0;
+  guarantee = 0;
+  owed = 0;
+  is_stopped = false;
+  is_inside = false;
+}
 
 -- the leaf at an index, or one without a guarantee
 abbrev pub account_at : Reservations → ℕ → Account

@@ -1,5 +1,6 @@
 -- Which event is refused, and why: the rule of reservations as a program decides it.
-use Rattle.std.specs.Prelude.{◌≡◌, ℕ, ◌+◌, ◌-◌, ◌*◌, ◌/◌, ◌<◌, ◌^◌, ◌==◌, ◌&&◌, ◌||◌, ◌↔◌, not, nat_lt}
+use Rattle.std.specs.Prelude.{◌≡◌, ℕ, ◌+◌, ◌-◌, ◌*◌, ◌/◌, ◌<◌, ◌^◌, ◌==◌, ◌&&◌, ◌||◌, ◌↔◌, not}
+use Rattle.std.specs.Prelude.{nat_lt}
 use Rattle.std.specs.Prelude.{max, Bool, true, false, List, Option, None, Some, slice_get}
 use Rattle.std.specs.Prelude.{if◌then◌else◌, Result, Ok, Err, is_ok}
 use Rattle.std.specs.List.{list_any, list_all, All, AllByRecursion}
@@ -35,14 +36,15 @@ state_of a = record {
 abbrev pub HasAmounts : Fields → Type 0
 HasAmounts a = All (λ x. 0 < x.share.amount) a.accounts.items
 
--- a leaf of this amount and guarantee, before its first task
-abbrev pub new_account : Terms → ℕ → ℕ → Account
-new_account t amount guarantee =
+-- a leaf of this amount and guarantee, inside the group with a limit or not, before its first task
+abbrev pub new_account : Terms → ℕ → ℕ → Bool → Account
+new_account t amount guarantee is_inside =
     record {
       share = new_leaf amount;
       guarantee = guarantee;
       owed = quantum_in t;
       is_stopped = false;
+      is_inside = is_inside;
     }
 
 -- ---- who is due

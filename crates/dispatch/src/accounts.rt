@@ -8,8 +8,8 @@ ghost use Rattle.dispatch.specs.Reservation.{cut_if_less, leaves_of, paid_in, se
 ghost use Rattle.dispatch.specs.Reservation.{ready_in, seen_leaf, stopped_in};
 ghost use Rattle.dispatch.specs.Steps.{new_account, is_due, ahead, back, is_earlier};
 ghost use Rattle.dispatch.specs.Steps.{is_passed_over, owed_fits, account_woken, account_picked};
-ghost use Rattle.dispatch.specs.Steps.{paid_at, account_ended, account_given, account_left, account_cut};
-ghost use Rattle.dispatch.specs.Steps.{account_stopped};
+ghost use Rattle.dispatch.specs.Steps.{paid_at, account_ended, account_given, account_left};
+ghost use Rattle.dispatch.specs.Steps.{account_cut, account_stopped};
 
 use crate::events::Refusal;
 use crate::leaves::{Leaf, charge_at_wake, leaf_ended, number, sum};
@@ -55,14 +55,15 @@ pub fn most(terms: Terms, account: Account) -> u128
 }
 
 /// A leaf of this amount and guarantee, without tasks.
-pub fn new_account(terms: Terms, amount: u64, guarantee: u64) -> Account
-    ensures { result ≡ new_account terms amount guarantee }
+pub fn new_account(terms: Terms, amount: u64, guarantee: u64, is_inside: bool) -> Account
+    ensures { result ≡ new_account terms amount guarantee is_inside }
 {
     Account {
         share: Leaf::new(amount),
         guarantee,
         owed: quantum(terms),
         is_stopped: false,
+        is_inside,
     }
 }
 
@@ -340,8 +341,8 @@ fn moved(slice: u64, level: (u64, u64), charged: u64, old: u64, new: u64) -> u12
     charge * u128::from(new) / amount + lead.min(32 * u128::from(slice))
 }
 
-/// The leaf after a new plan gives it this amount and this guarantee. Its lead over the level stays,
-/// and so does what it is owed.
+/// The leaf after a new plan gives it this amount and this guarantee. Its lead over the level
+/// stays, and so does what it is owed.
 ///
 /// # Errors
 ///

@@ -24,11 +24,18 @@ pub enum Input {
         credit: u64,
     },
     /// `leaf ID AMOUNT GUARANTEE` adds a leaf. The numbers of leaves are 0, 1, 2 and so on. A
-    /// guarantee is in 2^-20 of a processor, and 0 if it is not there.
+    /// guarantee is in 2^-20 of a processor, and 0 if it is not there. `member` in the place of
+    /// `leaf` adds one inside the group with a limit.
     Leaf {
         leaf: u64,
         amount: u64,
         guarantee: u64,
+        is_inside: bool,
+    },
+    /// `group LIMIT BURST` makes the group with a limit, in nanoseconds.
+    Group {
+        limit: u64,
+        burst: u64,
     },
     /// `pass NS`, `wake ID N`, `pick CPU ID`, `end CPU USED REMAINS`, `level`,
     /// `give ID AMOUNT GUARANTEE`, `leave ID`, `cut ID`, `stop ID STOPS` or `refill`.
@@ -184,6 +191,19 @@ fn step_of(verb: &[u8], rest: &[u8]) -> Result<Step, InputFault>
     rare_step(verb, rest)
 }
 
+// The leaf of these numbers.
+fn leaf_of(is_inside: bool, numbers: (u64, u64, u64)) -> Input
+    ensures { result ≡ Input.Leaf numbers.0 numbers.1 numbers.2 is_inside }
+{
+    let (leaf, amount, guarantee) = numbers;
+    Input::Leaf {
+        leaf,
+        amount,
+        guarantee,
+        is_inside,
+    }
+}
+
 impl Input {
     /// Reads a line without its newline.
     ///
@@ -215,12 +235,14 @@ impl Input {
             });
         }
         if verb == b"leaf".as_slice() {
-            let (leaf, amount, guarantee) = leaf_numbers(rest)?;
-            return Ok(Input::Leaf {
-                leaf,
-                amount,
-                guarantee,
-            });
+            return Ok(leaf_of(false, leaf_numbers(rest)?));
+        }
+        if verb == b"member".as_slice() {
+            return Ok(leaf_of(true, leaf_numbers(rest)?));
+        }
+        if verb == b"group".as_slice() {
+            let (limit, burst) = two_numbers(rest)?;
+            return Ok(Input::Group { limit, burst });
         }
         Ok(Input::Event(step_of(verb, rest)?))
     }

@@ -1,7 +1,7 @@
 //! Laws of the rule: each is the contract of a function that does nothing.
 //!
-//! The laws of leads, gains, shares, plans and lifts are of a model: the rule as it is where no leaf
-//! has a guarantee and no plan comes, by specs/Runs.antt. The others are of the rule that the
+//! The laws of leads, gains, shares, plans and lifts are of a model: the rule as it is where no
+//! leaf has a guarantee and no plan comes, by specs/Runs.antt. The others are of the rule that the
 //! program replays.
 ghost use Rattle.std.specs.Prelude.{◌≡◌};
 ghost use Rattle.dispatch.specs.Runs.{LeadIsBounded, GainIsBounded, ShareIsKept};
@@ -13,7 +13,7 @@ ghost use Rattle.dispatch.specs.Replay.{AcceptsExactly};
 ghost use Rattle.dispatch.specs.Accepted.{TraceIsARun};
 ghost use Rattle.dispatch.specs.Windows.{OwedIsBounded, WindowsAreServed};
 ghost use Rattle.dispatch.specs.Example.{PremisesAreMet, PremisesAreMetByTwo};
-ghost use Rattle.dispatch.specs.Groups.{LimitsAreKept};
+ghost use Rattle.dispatch.specs.Groups.{LimitsAreKept, LimitIsTold, ToldRunsAreLimited};
 ghost use Rattle.dispatch.specs.Premises.{PremisesAreTold};
 
 use crate::limits::{MAX_AMOUNT, MAX_PROCESSORS, MAX_SLICE_NS, MAX_TERM_NS};
@@ -80,17 +80,17 @@ pub fn owed_is_bounded()
 {}
 
 /// In each window of time of a run, a leaf that wants k processors has them, or its guarantee if
-/// that is less, but for two quanta for each processor, what its guarantee brings in the time of the
-/// credit, and the time that may be lost.
+/// that is less, but for two quanta for each processor, what its guarantee brings in the time of
+/// the credit, and the time that may be lost.
 ///
-/// The bound knows neither the other leaves nor their number, and the window may hold new plans that
-/// keep the guarantees. The run begins at rest. Its premises are told of each event:
+/// The bound knows neither the other leaves nor their number, and the window may hold new plans
+/// that keep the guarantees. The run begins at rest. Its premises are told of each event:
 ///
 /// - The guarantees fit the host, and no run is longer than a quantum.
-/// - While a processor is free and a leaf waits, the time of all processors is lost: no more than the
-///   time that may be lost, since no leaf waited and none was owed more than its credit.
-/// - At a pick each leaf that is owed more than its credit has a task that waits, and each leaf that
-///   waits has as many tasks as its guarantee has processors.
+/// - While a processor is free and a leaf waits, the time of all processors is lost: no more than
+///   the time that may be lost, since no leaf waited and none was owed more than its credit.
+/// - At a pick each leaf that is owed more than its credit has a task that waits, and each leaf
+///   that waits has as many tasks as its guarantee has processors.
 /// - No leaf is owed more than the most at an event of its own.
 pub fn windows_are_served()
     ensures { WindowsAreServed }
@@ -106,8 +106,12 @@ pub fn windows_are_served()
 /// - A leaf of the group is picked while something is left, and for a processor that is free.
 /// - No run uses more than a quantum.
 /// - The run begins while no processor runs a task, with no more than the limit and the burst.
+///
+/// A trace's premises are told as they are, event by event, and so of the run that it is.
 pub fn limits_are_kept()
-    ensures { LimitsAreKept }
+    ensures kept { LimitsAreKept }
+    ensures told { LimitIsTold }
+    ensures runs { ToldRunsAreLimited }
 {}
 
 /// Runs of any length meet the premises of [`windows_are_served`]: two leaves of half a processor

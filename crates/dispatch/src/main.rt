@@ -2,11 +2,13 @@
 //!
 //! Reads a trace on standard input, one event a line, and prints `allowed: N picks` or the first
 //! line that is refused. Ends with status 0 if each event is allowed, 3 if a line is refused, and 1
-//! if a read, a write or an allocation failed. Of a trace with guarantees whose events are allowed a
-//! second line tells where the premises of the law of windows fail.
+//! if a read, a write or an allocation failed. A trace whose events are allowed may have more
+//! lines: where the premises of the law of windows fail, if it has guarantees, and where a limit is
+//! passed, if it has a group with one.
 #![tactic(auto)]
 
 mod accounts;
+mod budget;
 mod events;
 mod fault;
 mod input;
@@ -18,7 +20,7 @@ mod replay;
 mod reservation;
 mod scheduler;
 
-use premises::{Premises, put_premises, tell_premises};
+use premises::{Premises, put_limit, put_premises, tell_premises};
 use replay::{Finding, put_finding, replay, status_of};
 use std::alloc::Global;
 use std::io;
@@ -33,7 +35,7 @@ fn finding_on<R: Read>(alloc: Global, reader: &mut R) -> io::Result<(Finding, Pr
     Ok((finding, tell_premises(alloc, text.as_slice())?))
 }
 
-// Prints the line of a finding, and that on the premises.
+// Prints the line of a finding, that on the premises, and that on the limit.
 fn print_finding<W: Write>(
     alloc: Global,
     writer: &mut W,
@@ -44,6 +46,9 @@ fn print_finding<W: Write>(
     put_finding(finding, &mut answer)?;
     if status_of(finding) == 0 && premises.has_terms {
         put_premises(premises, &mut answer)?;
+    }
+    if status_of(finding) == 0 && premises.group.limit > 0 {
+        put_limit(premises, &mut answer)?;
     }
     writer.write_all(answer.as_slice())
 }

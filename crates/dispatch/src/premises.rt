@@ -6,9 +6,11 @@ ghost use Rattle.dispatch.specs.Premises.{waits_beyond, has_tasks_for, is_still,
 ghost use Rattle.dispatch.specs.Premises.{is_within, has_guarantee, fit_in, one_more, told};
 ghost use Rattle.dispatch.specs.Premises.{premises_of, premises_text, told_event};
 ghost use Rattle.dispatch.specs.Premises.{unmet_text, events_text, first_text};
-ghost use Rattle.dispatch.specs.Premises.{is_whole, told_step};
+ghost use Rattle.dispatch.specs.Premises.{is_whole, told_step, passed_limit, told_limit};
+ghost use Rattle.dispatch.specs.Premises.{passed_text, limit_text};
 
 use crate::accounts::{credit, most, tasks};
+use crate::budget::Group;
 use crate::input::Input;
 use crate::replay::follow;
 use crate::reservation::{Account, Run, Step, Terms};
@@ -33,6 +35,12 @@ pub struct Premises {
     pub first: u64,
     /// Processors' time that was lost since no leaf waited, in nanoseconds.
     pub lost: u64,
+    /// The group with a limit, if it has one.
+    pub group: Group,
+    /// Number of events at which the limit is passed.
+    pub over: u64,
+    /// Line of the first of them, from 1, or 0 if there is none.
+    pub first_over: u64,
 }
 
 fn waits_beyond(terms: Terms, account: Account) -> bool
@@ -160,7 +168,6 @@ fn told_event(premises: Premises, line: u64, holds: bool, lost: u64) -> Premises
         }
     } else {
         Premises {
-            has_terms: premises.has_terms,
             events,
             unmet: one_more(premises.unmet),
             first: if premises.unmet == 0 {
@@ -169,6 +176,7 @@ fn told_event(premises: Premises, line: u64, holds: bool, lost: u64) -> Premises
                 premises.first
             },
             lost,
+            ..premises
         }
     }
 }
@@ -199,6 +207,46 @@ fn told_step(
     told_event(premises, line, holds, kept_lost(quantum, lost))
 }
 
+// The group after an event that passes its limit.
+fn passed_limit(premises: Premises, line: u64, group: Group) -> Premises
+    ensures { result ≡ passed_limit premises line group }
+{
+    Premises {
+        group,
+        over: one_more(premises.over),
+        first_over: if premises.over == 0 {
+            line
+        } else {
+            premises.first_over
+        },
+        ..premises
+    }
+}
+
+// The group after an event that keeps its limit or not. One whose numbers have no 64 bits has
+// nothing from there on.
+fn told_limit(premises: Premises, line: u64, keeps: bool, group: Option<Group>) -> Premises
+    ensures { result ≡ told_limit premises line keeps group }
+{
+    match group {
+        None => {
+            let emptied = Group {
+                left: 0,
+                debt: 0,
+                ..premises.group
+            };
+            passed_limit(premises, line, emptied)
+        }
+        Some(group) => {
+            if keeps {
+                Premises { group, ..premises }
+            } else {
+                passed_limit(premises, line, group)
+            }
+        }
+    }
+}
+
 // The premises so far, and those at the input of a line.
 fn told(scheduler: &Scheduler, line: u64, premises: Premises, input: Input) -> Premises
     ensures { result ≡ told scheduler.now line premises input }
@@ -206,8 +254,24 @@ fn told(scheduler: &Scheduler, line: u64, premises: Premises, input: Input) -> P
     match input {
         Input::Event(step) => {
             let lost = scheduler.lost_after(premises.lost, step);
-            told_step(scheduler, line, premises, step, lost)
+            let keeps = scheduler.keeps_limit(premises.group, step);
+            let group = scheduler.group_after(premises.group, step);
+            told_limit(
+                told_step(scheduler, line, premises, step, lost),
+                line,
+                keeps,
+                group,
+            )
         }
+        Input::Group { limit, burst } => Premises {
+            group: Group {
+                limit,
+                burst,
+                left: limit,
+                debt: 0,
+            },
+            ..premises
+        },
         Input::Terms { .. } => Premises {
             has_terms: true,
             ..premises
@@ -232,6 +296,14 @@ pub fn tell_premises(alloc: Global, text: &[u8]) -> Result<Premises, AllocError>
         unmet: 0,
         first: 0,
         lost: 0,
+        group: Group {
+            limit: 0,
+            burst: 0,
+            left: 0,
+            debt: 0,
+        },
+        over: 0,
+        first_over: 0,
     };
     let mut line: u64 = 1;
     let mut rest = text;
@@ -287,5 +359,29 @@ pub fn put_premises(premises: Premises, answer: &mut Vec<u8>) -> Result<(), Allo
         put_events(b"premises: hold at each of ", premises, answer)
     } else {
         put_unmet(premises, answer)
+    }
+}
+
+// Appends where the limit is passed first, and at how many events.
+fn put_passed(premises: Premises, answer: &mut Vec<u8>) -> Result<(), AllocError>
+    ensures { OnOk result (answer.new.items ≡ answer.old.items ++ passed_text premises) }
+{
+    put_number(b"limit: passed first at line ", premises.first_over, answer)?;
+    put_number(b", in all at ", premises.over, answer)
+}
+
+/// Appends the line on the limit.
+///
+/// # Errors
+///
+/// `AllocError` if an allocation failed.
+pub fn put_limit(premises: Premises, answer: &mut Vec<u8>) -> Result<(), AllocError>
+    ensures { OnOk result (answer.new.items ≡ answer.old.items ++ limit_text premises) }
+{
+    if premises.over == 0 {
+        put_events(b"limit: kept at each of ", premises, answer)
+    } else {
+        put_passed(premises, answer)?;
+        put_events(b" of ", premises, answer)
     }
 }

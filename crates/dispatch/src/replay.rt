@@ -115,10 +115,12 @@ fn add_leaf(
     leaf: u64,
     amount: u64,
     guarantee: u64,
+    is_inside: bool,
 ) -> Result<Option<LineFault>, AllocError>
-    ensures { IfOk result (λ f. (f ≡ input_fault scheduler.old (Input.Leaf leaf amount guarantee))
+    ensures { IfOk result (λ f.
+        (f ≡ input_fault scheduler.old (Input.Leaf leaf amount guarantee is_inside))
         × (f ≡ None
-        → scheduler.new ≡ input_after scheduler.old (Input.Leaf leaf amount guarantee))) }
+        → scheduler.new ≡ input_after scheduler.old (Input.Leaf leaf amount guarantee is_inside))) }
 {
     if leaf != scheduler.leaf_count() {
         return Ok(Some(LineFault::Bad(InputFault::BadLine)));
@@ -126,7 +128,7 @@ fn add_leaf(
     if is_out(MAX_AMOUNT, amount) {
         return Ok(Some(LineFault::Bad(InputFault::BadField)));
     }
-    scheduler.add_leaf(amount, guarantee)?;
+    scheduler.add_leaf(amount, guarantee, is_inside)?;
     Ok(None)
 }
 
@@ -167,7 +169,9 @@ pub fn follow(
             leaf,
             amount,
             guarantee,
-        } => add_leaf(scheduler, leaf, amount, guarantee),
+            is_inside,
+        } => add_leaf(scheduler, leaf, amount, guarantee, is_inside),
+        Input::Group { .. } => Ok(None),
         Input::Event(event) => Ok(make_event(scheduler, event)),
     }
 }

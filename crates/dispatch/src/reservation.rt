@@ -19,6 +19,8 @@ pub struct Account {
     pub owed: u64,
     /// Whether a limit stops the leaf: its tasks wait for the next period of that limit.
     pub is_stopped: bool,
+    /// Whether the leaf is inside the group with a limit.
+    pub is_inside: bool,
 }
 
 impl Account {
@@ -49,7 +51,8 @@ impl Account {
 pub struct Terms {
     /// Slice, in nanoseconds: what a pick charges to the clock of a share.
     pub slice: u64,
-    /// Quantum, in nanoseconds: a slice with its longest overrun, which a pick takes of what is owed.
+    /// Quantum, in nanoseconds: a slice with its longest overrun, which a pick takes of what is
+    /// owed.
     pub quantum: u32,
     /// Slack, in nanoseconds: a leaf is due when it is behind by this of its guarantee.
     pub slack: u32,
@@ -85,8 +88,8 @@ pub enum Step {
         processor: u64,
         leaf: u64,
     },
-    /// The task on a processor ends its run, in which it used this many nanoseconds. It waits again,
-    /// or has gone to sleep.
+    /// The task on a processor ends its run, in which it used this many nanoseconds. It waits
+    /// again, or has gone to sleep.
     End {
         processor: u64,
         used: u64,

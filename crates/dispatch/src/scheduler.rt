@@ -1,17 +1,20 @@
 //! The scheduler that is replayed: its state, and the events that the rule allows.
 ghost use Rattle.std.specs.Prelude.{◌≡◌, ◌<◌, [], ◌++◌, ◌∷◌, OnOk, slice_get, Some, None, length};
-ghost use Rattle.std.specs.Prelude.{replicate, map, true};
+ghost use Rattle.std.specs.Prelude.{replicate, map, true, if◌then◌else◌};
 ghost use Rattle.std.specs.List.{list_all};
 ghost use Rattle.dispatch.specs.Reservation.{terms_of, aged, least_clock, greatest_clock};
 ghost use Rattle.dispatch.specs.Reservation.{level_now, lesser_clock, greater_clock, least_known};
 ghost use Rattle.dispatch.specs.Steps.{allowed, happens, free_processor, run_of, new_account};
 ghost use Rattle.dispatch.specs.Steps.{age_fits};
 ghost use Rattle.dispatch.specs.Premises.{fits_host, is_fair, is_whole_at, lost_after};
+ghost use Rattle.dispatch.specs.Groups.{inside_of, fitted, balanced, group_ended, group_after};
+ghost use Rattle.dispatch.specs.Groups.{keeps_limit};
 
 use crate::accounts::{
     account_cut, account_ended, account_given, account_left, account_picked, account_stopped,
     account_woken, all_owed_fit, new_account, paid_at, pass_all,
 };
+use crate::budget::{Group, balanced, kept, refilled};
 use crate::events::Refusal;
 use crate::premises::{
     all_busy, all_have_tasks, all_still, all_wait_beyond, all_within, fit_in, has_guarantee,
@@ -234,14 +237,19 @@ impl Scheduler {
     /// # Errors
     ///
     /// `AllocError` if an allocation failed.
-    pub fn add_leaf(&mut self, amount: u64, guarantee: u64) -> Result<(), AllocError>
+    pub fn add_leaf(
+        &mut self,
+        amount: u64,
+        guarantee: u64,
+        is_inside: bool,
+    ) -> Result<(), AllocError>
         requires { 0 < amount }
         ensures { OnOk result (self.new ≡ record self.old {
           accounts = self.old.accounts
-              ++ new_account (terms_of self.old) amount guarantee ∷ [];
+              ++ new_account (terms_of self.old) amount guarantee is_inside ∷ [];
         }) }
     {
-        let account = new_account(self.terms(), amount, guarantee);
+        let account = new_account(self.terms(), amount, guarantee, is_inside);
         self.accounts.push(account)?;
         Ok(())
     }
@@ -559,6 +567,74 @@ impl Scheduler {
         match step {
             Step::Pass(ns) => self.lost_after_pass(lost, ns),
             _ => u128::from(lost),
+        }
+    }
+
+    // Whether a leaf is inside the group with a limit.
+    fn is_inside(&self, leaf: u64) -> bool
+        ensures { result ≡ inside_of self.now leaf }
+    {
+        match self.account(leaf) {
+            None => false,
+            Some(account) => account.is_inside,
+        }
+    }
+
+    // The group after a pick of a leaf.
+    fn group_picked(&self, group: Group, leaf: u64) -> Option<Group>
+        ensures { result ≡ fitted (if inside_of self.now leaf then balanced group self.now.slice 0
+            else group) }
+    {
+        if self.is_inside(leaf) {
+            balanced(group, self.slice, 0)
+        } else {
+            kept(group)
+        }
+    }
+
+    // The group after the end of a run on a processor, which used so many nanoseconds.
+    fn group_ended(&self, group: Group, used: u64, run: Option<Option<Run>>) -> Option<Group>
+        ensures { result
+            ≡ fitted (group_ended (inside_of self.now) self.now.slice used group run) }
+    {
+        match run {
+            Some(Some(run)) => {
+                if self.is_inside(run.leaf) {
+                    balanced(group, used, self.slice)
+                } else {
+                    kept(group)
+                }
+            }
+            Some(None) => kept(group),
+            None => kept(group),
+        }
+    }
+
+    /// The group with a limit after an event, if its numbers have 64 bits.
+    pub fn group_after(&self, group: Group, step: Step) -> Option<Group>
+        ensures { result ≡ fitted (group_after (inside_of self.now) self.now group step) }
+    {
+        match step {
+            Step::Pick { leaf, .. } => self.group_picked(group, leaf),
+            Step::End {
+                processor,
+                used,
+                ..
+            } => self.group_ended(group, used, self.processor(processor)),
+            Step::Refill => refilled(group),
+            _ => kept(group),
+        }
+    }
+
+    /// Whether an event that the rule allows keeps the limit: a leaf inside is picked while
+    /// something is left, and no run uses more than a quantum.
+    pub fn keeps_limit(&self, group: Group, step: Step) -> bool
+        ensures { result ≡ keeps_limit self.now group step }
+    {
+        match step {
+            Step::Pick { leaf, .. } => !self.is_inside(leaf) || group.debt < group.left,
+            Step::End { used, .. } => !(u64::from(self.quantum) < used),
+            _ => true,
         }
     }
 }

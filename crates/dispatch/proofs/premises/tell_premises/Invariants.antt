@@ -1,4 +1,5 @@
--- Invariant of each turn of the loop in `tell_premises`: what is told from here on is told of the text.
+-- Invariant of each turn of the loop in `tell_premises`: what is told from here on is told of the
+-- text.
 use Rattle.std.proofs.Common.{◌≡◌, ◌+◌, length, ◌==◌}
 use Rattle.std.specs.List.{slice_split}
 use Rattle.dispatch.specs.Premises.{premises_from, premises_of}

@@ -1,5 +1,5 @@
--- Invariant of each turn of the loop in `least_clock`: the least clock so far, lowered by the rest, is
--- that of all.
+-- Invariant of each turn of the loop in `least_clock`: the least clock so far, lowered by the rest,
+-- is that of all.
 use Rattle.std.proofs.Common.{◌≡◌, drop, None}
 use Rattle.dispatch.specs.Reservation.{least_clock}
 use Rattle.dispatch.proofs.scheduler.least_clock.Given as goal
