@@ -1,5 +1,5 @@
 -- The backlog when time passes: its bound falls by what the processors did, or by what they lost.
-use Rattle.std.proofs.Common.{◌≡◌, ℕ, zero, suc, ◌+◌, ◌-◌, ◌*◌, ◌<◌, ◌≤◌, inl, inr, List, [], ◌∷◌}
+use Rattle.std.proofs.Common.{◌≡◌, ℕ, zero, suc, ◌+◌, ◌*◌, ◌<◌, ◌≤◌, inl, inr, List, [], ◌∷◌}
 use Rattle.std.proofs.Common.{length, Option, None, Some, get_or, map, refl, ap, sym, subst, ◌∙◌}
 use Rattle.std.proofs.Common.{arith, Bool, true, false, ◌==◌, ◌||◌, if◌then◌else◌}
 use Rattle.std.specs.List.{sum_by, AllByRecursion}

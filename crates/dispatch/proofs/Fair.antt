@@ -1,6 +1,6 @@
 -- The tests of the premises tell exactly where they hold.
 use Rattle.std.proofs.Common.{◌≡◌, ℕ, zero, suc, ◌+◌, ◌-◌, ◌*◌, ◌≤◌, ◌&&◌, ◌||◌}
-use Rattle.std.proofs.Common.{◌⊎◌, inl, inr, not, nat_lt, Bool, true, false, List, [], ◌∷◌, length}
+use Rattle.std.proofs.Common.{inl, inr, not, nat_lt, Bool, true, false, List, [], ◌∷◌, length}
 use Rattle.std.proofs.Common.{get_or, Option, None, Some, slice_get, refl, ap, ◌∙◌, arith}
 use Rattle.std.proofs.Common.{if◌then◌else◌}
 use Rattle.std.specs.List.{list_all, sum_by}
@@ -17,7 +17,7 @@ use Rattle.dispatch.specs.Premises.{is_whole, is_whole_at, lost_after}
 use Rattle.dispatch.specs.declared.reservation.Terms.{Terms}
 use Rattle.dispatch.specs.Reservation.{Reservations, WHOLE, terms_of, account_at, no_account}
 use Rattle.dispatch.specs.Reservation.{credit_in, tasks_of}
-use Rattle.dispatch.specs.Windows.{FitsHost, IsFair, IsBusy, NoneWaits, RunsWithin, IsLost, IsWhole}
+use Rattle.dispatch.specs.Windows.{FitsHost, IsFair, IsBusy, NoneWaits, RunsWithin, IsLost}
 use Rattle.dispatch.specs.Windows.{IsWholeAt}
 use Rattle.dispatch.specs.Windows.{WaitsBeyondCredit, HasTasksForGuarantees}
 use Rattle.dispatch.specs.Reservation.{most_in, ready_in}

@@ -2,8 +2,8 @@
 -- overruns.
 use Rattle.std.proofs.Common.{◌≡◌, ℕ, zero, suc, ◌+◌, ◌-◌, ◌*◌, ◌<◌, ◌≤◌, List, [], ◌∷◌, ◌++◌}
 use Rattle.std.proofs.Common.{length, Bool, true, false, Option, None, Some, slice_get, slice_set}
-use Rattle.std.proofs.Common.{map, min, refl, ap, sym, subst, ◌∙◌, arith, if◌then◌else◌, nat_lt}
-use Rattle.std.proofs.Common.{not, ◌||◌, ◌↔◌, get_or}
+use Rattle.std.proofs.Common.{map, refl, ap, sym, subst, ◌∙◌, arith, if◌then◌else◌, nat_lt}
+use Rattle.std.proofs.Common.{not, ◌||◌, get_or}
 use Rattle.std.specs.List.{sum_by, AllByRecursion}
 use Rattle.std.proofs.Math.Nat.{mul-le-mul_left}
 use Rattle.std.proofs.lemmas.Bool.{ltb-true, ltb-false, lt-ltb, le-ltb}
@@ -25,7 +25,7 @@ use Rattle.dispatch.specs.Windows.{after_all}
 use Rattle.dispatch.specs.declared.budget.Group.{Group}
 use Rattle.dispatch.specs.Groups.{balanced, refilled, group_ended, group_after, KeepsLimit}
 use Rattle.dispatch.specs.Groups.{IsLimitedRun, used_by, used_at, used_in, period_at, periods_in}
-use Rattle.dispatch.specs.Groups.{LimitsAreKept, LimitIsTold, keeps_limit, inside_of, inside_at}
+use Rattle.dispatch.specs.Groups.{LimitsAreKept, LimitIsTold, inside_of, inside_at}
 use Rattle.dispatch.specs.Groups.{IsToldToKeep, ToldRunsAreLimited}
 use Rattle.dispatch.proofs.Counts.{length_set}
 use Rattle.dispatch.proofs.Totals.{sum_set}
