@@ -19,7 +19,7 @@ use Rattle.dispatch.proofs.Totals.{sum_map, one_of_sum, sum_products}
 use Rattle.dispatch.proofs.Backlog.{rest, busy, demand_by, one, Backlog, by_order, aged_busy}
 use Rattle.dispatch.proofs.Backlog.{aged_some, short_or_idle, passed_at_most, passed_idle}
 
-aged_runs : (k t : ℕ) (ps : List (Option Run))
+pub aged_runs : (k t : ℕ) (ps : List (Option Run))
     → over_runs k one (map (aged t) ps) ≡ over_runs k one ps
 aged_runs k t [] = refl
 aged_runs k t (None ∷ ps) =

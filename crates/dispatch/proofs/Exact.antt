@@ -199,7 +199,7 @@ due_is s a is =
       behind = ltb-false a.owed (quantum_in (terms_of s) + rate_of a * s.slack) p.1;
     }
 
-is_due_of : (s : Reservations) (a : Account) → IsDue s a → is_due (terms_of s) a ≡ true
+pub is_due_of : (s : Reservations) (a : Account) → IsDue s a → is_due (terms_of s) a ≡ true
 is_due_of s a due =
     ap (λ (b : Bool). b && not (nat_lt a.owed (quantum_in (terms_of s) + rate_of a * s.slack)))
     (lt-ltb 0 (rate_of a) due.owes)

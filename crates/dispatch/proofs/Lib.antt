@@ -5,6 +5,7 @@ mod BacklogEnds
 mod BacklogPicks
 mod BacklogRuns
 mod BacklogTime
+mod Beside
 mod Counts
 mod Deadlines
 mod Demands

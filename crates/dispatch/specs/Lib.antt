@@ -1,5 +1,6 @@
 -- The files of definitions.
 pub mod Accepted
+pub mod Beside
 pub mod Example
 pub mod Faults
 pub mod Groups

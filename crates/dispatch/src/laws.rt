@@ -11,6 +11,7 @@ ghost use Rattle.dispatch.specs.Runs.{LiftIsAtMostTheLeast};
 ghost use Rattle.dispatch.specs.Steps.{RefusalIsExact};
 ghost use Rattle.dispatch.specs.Replay.{AcceptsExactly};
 ghost use Rattle.dispatch.specs.Accepted.{TraceIsARun};
+ghost use Rattle.dispatch.specs.Beside.{LeadIsDue};
 ghost use Rattle.dispatch.specs.Windows.{OwedIsBounded, WindowsAreServed};
 ghost use Rattle.dispatch.specs.Example.{PremisesAreMet, PremisesAreMetByTwo};
 ghost use Rattle.dispatch.specs.Groups.{LimitsAreKept, LimitIsTold, ToldRunsAreLimited};
@@ -112,6 +113,18 @@ pub fn limits_are_kept()
     ensures kept { LimitsAreKept }
     ensures told { LimitIsTold }
     ensures runs { ToldRunsAreLimited }
+{}
+
+/// No leaf i gets further ahead, by its clock, of a leaf j that waits throughout than in
+/// [`lead_is_bounded`], but for a quantum for each pick at which i was due.
+///
+/// So what no guarantee takes is divided by the amounts. The premises are:
+///
+/// - At first no processor runs a task, and i is not ahead.
+/// - At each pick a task of j waits, and no wake lifts j.
+/// - No plan gives i or j anything, and no run uses more than a quantum.
+pub fn lead_is_due()
+    ensures { LeadIsDue }
 {}
 
 /// Runs of any length meet the premises of [`windows_are_served`]: two leaves of half a processor
