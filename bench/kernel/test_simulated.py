@@ -12,7 +12,7 @@ from pathlib import Path
 
 import pytest
 
-from laboratory import outside, traced
+from laboratory import limited, outside, traced
 
 TOP = Path(__file__).resolve().parents[2]
 SOURCE = TOP / "tests/kernel/simulated.c"
@@ -391,6 +391,11 @@ def test_waits_beside_shares_alone(program, name, rows):
         assert all(had <= than + TICK for had, than in zip(here[row], plain[row], strict=True))
 
 
+def passed_by(trace: str) -> list[int]:
+    """How often each group passes its limit, by the proved program."""
+    return [traced.passed(trace, group) for group in limited.numbers(trace)]
+
+
 @pytest.mark.parametrize("name", HELD_BACK)
 def test_picks_past_who_is_held_back(program, name):
     """No pick is wrong, and the proved program allows each with tasks that wait for other CPUs on
@@ -404,6 +409,7 @@ def test_picks_past_who_is_held_back(program, name):
     assert (replay.most_away or "stop " in trace) and "cut " in trace
     if traced.DISPATCH.is_file():
         assert traced.replayed(trace) == f"allowed: {replay.text.count('pick ')} picks"
+        assert passed_by(trace) == [limited.long_runs(trace)] * len(limited.numbers(trace))
 
 
 # Of each kind the microseconds for which its tasks work, and sleep.
@@ -450,7 +456,8 @@ def random_host(seed: int) -> tuple[list[str], int, list[str]]:
 
 @pytest.mark.parametrize("seed", range(16))
 def test_random_hosts(program, seed):
-    """No pick is wrong, and the proved program allows each, where all of this meets."""
+    """No pick is wrong, and the proved program allows each, where all of this meets. No group is
+    picked past its limit: runs beyond their quantum alone count there."""
     options, cpus, groups = random_host(seed)
     lines = lines_of(program, options, seed, 1.5, cpus, groups)
     trace = "".join(line for line in lines if not line.startswith(FOUND))
@@ -458,6 +465,7 @@ def test_random_hosts(program, seed):
     assert not replay.found[outside.WRONG], (options, cpus, groups)
     if traced.DISPATCH.is_file():
         assert traced.replayed(trace) == f"allowed: {replay.text.count('pick ')} picks"
+        assert passed_by(trace) == [limited.long_runs(trace)] * len(limited.numbers(trace))
 
 
 # Hosts in which an interrupt and a task take up to so long from one CPU to another.

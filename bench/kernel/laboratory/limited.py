@@ -31,6 +31,12 @@ def members(trace: str, group: int) -> set[int]:
     return found
 
 
+def long_runs(trace: str) -> int:
+    """Runs that used more than the quantum."""
+    quantum = next(words[0] for name, words in words_of(trace) if name == "terms")
+    return sum(name == "end" and words[1] > quantum for name, words in words_of(trace))
+
+
 def lines_of(trace: str, group: int) -> Iterator[str]:
     """The lines for the program."""
     inside = members(trace, group)

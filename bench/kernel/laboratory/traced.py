@@ -18,7 +18,7 @@ from pathlib import Path
 from kernel import faults, held, layout, machine, packages
 from kernel.planned import begin
 from kernel.scenario import Scenario
-from laboratory import outside
+from laboratory import limited, outside
 from laboratory.__main__ import sources
 from laboratory.held import entitled, guaranteed, own_limits
 
@@ -43,15 +43,28 @@ def traces(kernel: packages.Kernel, setting: machine.Setting, found: Sequence[Sc
     return lines, "".join(steps.values())
 
 
-def replayed(trace: str) -> str:
-    """What the program says of the picks of a trace, whose tasks that are held back are on
-    processors of their own while others go first. (Whether the law's premises hold it says behind.)
-    """
+def said_of(text: str) -> list[str]:
+    """What the program says of a text, by lines."""
     if not DISPATCH.is_file():
         raise faults.KernelFault(f"no {DISPATCH}: `rt run` in crates/dispatch makes it")
-    ended = subprocess.run([DISPATCH], input=outside.Replay(trace).text, capture_output=True,
-                           text=True, check=False, timeout=SECONDS)
-    return ended.stdout.partition("\n")[0]
+    ended = subprocess.run([DISPATCH], input=text, capture_output=True, text=True, check=False,
+                           timeout=SECONDS)
+    return ended.stdout.splitlines()
+
+
+def replayed(trace: str) -> str:
+    """What the program says of the picks of a trace, whose tasks that wait for other CPUs are on
+    processors of their own while others go first. (Whether the law's premises hold it says behind.)
+    """
+    return said_of(outside.Replay(trace).text)[0]
+
+
+def passed(trace: str, group: int) -> int:
+    """Events of a trace at which a group passes its limit."""
+    said = said_of(limited.text_of(trace, group))
+    if len(said) != 3:
+        raise faults.KernelFault(f"of group {group}: {said}")
+    return 0 if "kept at each of" in said[2] else int(said[2].split()[-4])
 
 
 def shown(kernel: packages.Kernel, found: Sequence[Scenario]) -> Iterator[tuple[str, str, str]]:
