@@ -5,13 +5,13 @@ ghost use Rattle.dispatch.specs.Groups.{balanced, refilled, fitted};
 /// A group with a limit, in nanoseconds.
 #[derive(Clone, Copy, Debug, PartialEq)]
 pub struct Group {
-    /// What it may use in a period, 0 if there is no such group.
+    /// Time of its leaves in a period at most, 0 if there is no such group.
     pub limit: u64,
-    /// What it may keep of that for later periods.
+    /// Part of that which it may keep for later periods.
     pub burst: u64,
-    /// What it has left.
+    /// Time that it has left.
     pub left: u64,
-    /// What was taken beyond what it had.
+    /// Time that was taken beyond what it had.
     pub debt: u64,
 }
 

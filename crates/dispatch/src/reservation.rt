@@ -105,7 +105,7 @@ pub enum Step {
     },
     /// A task of the leaf that waits leaves it, or sleeps before it is picked.
     Leave(u64),
-    /// What the leaf is owed beyond its credit is cut.
+    /// Cuts what the leaf is owed beyond its credit.
     Cut(u64),
     /// A limit stops the leaf, which keeps no more than its credit, or stops it no longer.
     Stop {

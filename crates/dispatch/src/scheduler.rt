@@ -420,7 +420,7 @@ impl Scheduler {
         Ok(())
     }
 
-    /// What a leaf is owed beyond its credit is cut.
+    /// Cuts what a leaf is owed beyond its credit.
     ///
     /// # Errors
     ///
