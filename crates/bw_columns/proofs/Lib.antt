@@ -12,3 +12,4 @@ mod PlannedHosts
 mod Questions
 mod RefusedRow
 mod Spelling
+mod Turns

@@ -17,6 +17,12 @@ use Rattle.bw_model.proofs.CallerLemmas.{IsHost-accepted, capacity_le}
 use Rattle.bw_columns.specs.PlannedHosts.{groups_on, HaveSamePlans, can_share, cut}
 use Rattle.bw_columns.specs.PlannedHosts.{IsPlannedHost, IsUnplannedHost}
 
+-- the capacity of a host, by the slices of each processor of the host with at most 64 of them
+pub capacity_by : (asked host : Shape) (each : ℕ) → host ≡ cut asked
+    → each ≡ slices_per_processor host → asked.processors * each ≡ capacity_of asked
+capacity_by asked host each same is =
+    ap (λ (n : ℕ). asked.processors * n) (is ∙ ap slices_per_processor same)
+
 -- hosts of one capacity have the same limit for each group
 limit_same : (one other : Shape) (rows : List Row) → capacity_of one ≡ capacity_of other → (g : ℕ)
     → limit_of (groups_on one rows) g ≡ limit_of (groups_on other rows) g

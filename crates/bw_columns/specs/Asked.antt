@@ -19,21 +19,6 @@ pub record Table : Type 0 where
   pub limits : List ℕ
   pub demands : List ℕ
 
--- the program's columns, as lists
-abbrev pub table_of : Columns → Table
-table_of columns =
-    record {
-      parents = columns.parents.now;
-      weights = columns.weights.now;
-      limits = columns.limits.now;
-      demands = columns.demands.now;
-    }
-
--- the program's host, as its value
-abbrev pub shape_of : Host → Shape
-shape_of host =
-    record { processors = host.processors; period_us = host.period_us; slice_us = host.slice_us }
-
 -- the host of three numbers
 abbrev pub asked_host : ℕ → ℕ → ℕ → Shape
 asked_host processors period_us slice_us =
@@ -43,6 +28,15 @@ asked_host processors period_us slice_us =
 abbrev pub asked_table : List ℕ → List ℕ → List ℕ → List ℕ → Table
 asked_table parents weights limits demands =
     record { parents = parents; weights = weights; limits = limits; demands = demands }
+
+-- the program's columns, as lists
+abbrev pub table_of : Columns → Table
+table_of columns =
+    asked_table columns.parents.now columns.weights.now columns.limits.now columns.demands.now
+
+-- the program's host, as its value
+abbrev pub shape_of : Host → Shape
+shape_of host = asked_host host.processors host.period_us host.slice_us
 
 -- the parent that a number names: the greatest number of 32 bits names none
 abbrev pub parent_in : ℕ → Option ℕ

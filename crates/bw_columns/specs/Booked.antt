@@ -34,26 +34,14 @@ counter_columns usage_usec nr_periods nr_throttled throttled_usec nr_bursts burs
 -- the program's counters, as lists
 abbrev pub counters_of : CounterColumns → Counters
 counters_of c =
-    record {
-      usage_usec = c.usage_usec.now;
-      nr_periods = c.nr_periods.now;
-      nr_throttled = c.nr_throttled.now;
-      throttled_usec = c.throttled_usec.now;
-      nr_bursts = c.nr_bursts.now;
-      burst_usec = c.burst_usec.now;
-    }
+    counter_columns c.usage_usec.now c.nr_periods.now c.nr_throttled.now c.throttled_usec.now
+    c.nr_bursts.now c.burst_usec.now
 
 -- the program's counters after a period, as lists
 abbrev pub counters_in : BookedColumns → Counters
 counters_in c =
-    record {
-      usage_usec = c.usage_usec.items;
-      nr_periods = c.nr_periods.items;
-      nr_throttled = c.nr_throttled.items;
-      throttled_usec = c.throttled_usec.items;
-      nr_bursts = c.nr_bursts.items;
-      burst_usec = c.burst_usec.items;
-    }
+    counter_columns c.usage_usec.items c.nr_periods.items c.nr_throttled.items
+    c.throttled_usec.items c.nr_bursts.items c.burst_usec.items
 
 -- one entry for each row in each column of counters
 pub record AreCountersLong (counters : Counters) (count : ℕ) : Type 0 where

@@ -23,13 +23,7 @@ claimed_columns flags nums dens places =
 
 -- the program's claim, as lists
 abbrev pub claimed_of : Claim → Claimed
-claimed_of claim =
-    record {
-      flags = claim.flags.now;
-      nums = claim.nums.now;
-      dens = claim.dens.now;
-      places = claim.places.now;
-    }
+claimed_of claim = claimed_columns claim.flags.now claim.nums.now claim.dens.now claim.places.now
 
 -- the flags of a column: set where the number is not 0
 abbrev pub flags_in : List ℕ → List Bool
@@ -85,22 +79,13 @@ place_of_level (Some mark) = mark.place
 -- the columns that spell a certificate
 abbrev pub columns_of : Certified → Claimed
 columns_of certificate =
-    record {
-      flags = map flag_number certificate.tight;
-      nums = map num_of certificate.levels;
-      dens = map den_of certificate.levels;
-      places = map place_of_level certificate.levels;
-    }
+    claimed_columns (map flag_number certificate.tight) (map num_of certificate.levels)
+    (map den_of certificate.levels) (map place_of_level certificate.levels)
 
 -- the program's columns of a certificate, as lists
 abbrev pub columns_in : CertificateColumns → Claimed
 columns_in found =
-    record {
-      flags = found.flags.items;
-      nums = found.nums.items;
-      dens = found.dens.items;
-      places = found.places.items;
-    }
+    claimed_columns found.flags.items found.nums.items found.dens.items found.places.items
 
 -- one entry for each row in each column of a certificate
 pub record AreClaimedLong (claimed : Claimed) (count : ℕ) : Type 0 where

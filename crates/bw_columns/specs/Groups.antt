@@ -67,30 +67,6 @@ told_of h = record {
   names = name_lines h.tree.groups (keys_of h.tree.groups);
 }
 
--- the program's columns, as lists
-abbrev pub columns_of : GroupColumns → Told
-columns_of c = record {
-  parents = c.parents.items;
-  weights = c.weights.items;
-  limits = c.limits.items;
-  demands = c.demands.items;
-  quotas = c.quotas.items;
-  periods = c.periods.items;
-  bursts = c.bursts.items;
-  carries = c.carries.items;
-  names = c.names.items;
-}
-
--- one entry for each group in each column of numbers
-pub record AreLong (told : Told) : Type 0 where
-  pub weights : length told.weights ≡ length told.parents
-  pub limits : length told.limits ≡ length told.parents
-  pub demands : length told.demands ≡ length told.parents
-  pub quotas : length told.quotas ≡ length told.parents
-  pub periods : length told.periods ≡ length told.parents
-  pub bursts : length told.bursts ≡ length told.parents
-  pub carries : length told.carries ≡ length told.parents
-
 -- nine columns
 abbrev pub columns_with : List ℕ → List ℕ → List ℕ → List ℕ → List ℕ → List ℕ → List ℕ → List ℕ
     → List ℕ → Told
@@ -106,6 +82,22 @@ columns_with parents weights limits demands quotas periods bursts carries names 
       carries = carries;
       names = names;
     }
+
+-- the program's columns, as lists
+abbrev pub columns_of : GroupColumns → Told
+columns_of c =
+    columns_with c.parents.items c.weights.items c.limits.items c.demands.items c.quotas.items
+    c.periods.items c.bursts.items c.carries.items c.names.items
+
+-- one entry for each group in each column of numbers
+pub record AreLong (told : Told) : Type 0 where
+  pub weights : length told.weights ≡ length told.parents
+  pub limits : length told.limits ≡ length told.parents
+  pub demands : length told.demands ≡ length told.parents
+  pub quotas : length told.quotas ≡ length told.parents
+  pub periods : length told.periods ≡ length told.parents
+  pub bursts : length told.bursts ≡ length told.parents
+  pub carries : length told.carries ≡ length told.parents
 
 -- a list at the front of a column, and behind it what stood there
 abbrev pub on_front : List ℕ → List ℕ → List ℕ

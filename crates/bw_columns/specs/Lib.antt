@@ -20,6 +20,7 @@ pub mod PlannedHosts
 pub mod Questions
 pub mod Reasoned
 pub mod RefusedRow
+pub mod Requests
 pub mod Served
 pub mod Tallies
 pub mod Walks

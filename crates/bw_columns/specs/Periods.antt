@@ -46,13 +46,7 @@ setting_columns parents weights quotas periods bursts = record {
 
 -- the program's settings, as lists
 abbrev pub settings_of : SettingColumns → Settings
-settings_of c = record {
-  parents = c.parents.now;
-  weights = c.weights.now;
-  quotas = c.quotas.now;
-  periods = c.periods.now;
-  bursts = c.bursts.now;
-}
+settings_of c = setting_columns c.parents.now c.weights.now c.quotas.now c.periods.now c.bursts.now
 
 -- the quota that a number gives
 abbrev pub quota_named : Option ℕ → Quota

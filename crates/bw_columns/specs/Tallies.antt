@@ -132,17 +132,8 @@ sum_columns amounts wants limits nr_throttled throttled_usec nr_bursts burst_use
 -- the program's sums, as lists
 abbrev pub sums_in : SumColumns → Sums
 sums_in c =
-    record {
-      amounts = c.amounts.items;
-      wants = c.wants.items;
-      limits = c.limits.items;
-      nr_throttled = c.nr_throttled.items;
-      throttled_usec = c.throttled_usec.items;
-      nr_bursts = c.nr_bursts.items;
-      burst_usec = c.burst_usec.items;
-      nr_short = c.nr_short.items;
-      nr_starved = c.nr_starved.items;
-    }
+    sum_columns c.amounts.items c.wants.items c.limits.items c.nr_throttled.items
+    c.throttled_usec.items c.nr_bursts.items c.burst_usec.items c.nr_short.items c.nr_starved.items
 
 -- the columns are those of the numbers
 pub record AreSums (tallies : List Tally) (sums : Sums) : Type 0 where

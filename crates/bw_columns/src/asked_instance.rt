@@ -1,8 +1,9 @@
 //! The instance of a call.
-ghost use Rattle.std.specs.Prelude.{◌≡◌, true, IfOk, IfErr, OnOk};
+ghost use Rattle.std.specs.Prelude.{◌≡◌, true, length, IfOk, IfErr, OnOk};
 ghost use Rattle.bw_model.specs.Groups.{IsInstance};
 ghost use Rattle.bw_columns.specs.Asked.{groups_asked, refusal_of, refusal_where, Answers};
 ghost use Rattle.bw_columns.specs.Numbers.{number_of_refusal};
+ghost use Rattle.bw_columns.specs.Requests.{IsReplyTo, groups_for, row_count};
 
 use crate::columns::Columns;
 use crate::refusal::Refusal;
@@ -84,4 +85,31 @@ pub fn instance_where(
         return Err(Refusal::WrongLength);
     }
     instance_of(alloc, host, columns)
+}
+
+/// What a caller gives: a host, the rows of a tree, and whether the other columns fit the rows.
+#[derive(Clone, Copy)]
+pub struct Request<'a> {
+    /// Whether each of the caller's other columns has the rows' length.
+    pub fit: bool,
+    /// The numbers of the host.
+    pub host: Host,
+    /// The rows, by column.
+    pub columns: Columns<'a>,
+}
+
+impl Request<'_> {
+    /// The instance of the request.
+    ///
+    /// # Errors
+    /// The refusals of [`instance_where`].
+    pub fn instance(&self, alloc: Global) -> Result<Instance, Refusal>
+        ensures groups { IfOk result (λ i. i ≡ groups_for self.now) }
+        ensures rows { IfOk result (λ i. length i.rows ≡ row_count self.now) }
+        ensures valid { IfOk result IsInstance }
+        ensures reply { IsReplyTo self.now result }
+    {
+        let instance = instance_where(alloc, self.fit, self.host, &self.columns)?;
+        Ok(instance)
+    }
 }

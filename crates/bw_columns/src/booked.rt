@@ -1,13 +1,12 @@
 //! A period that the groups of a host and its rows have drawn.
-ghost use Rattle.std.specs.Prelude.{◌≡◌, ◌<◌, true, length, map, IfOk, IfErr, OnOk};
+ghost use Rattle.std.specs.Prelude.{◌≡◌, ◌<◌, true, length, map, IfOk};
 ghost use Rattle.std.specs.List.{range_with_len};
-ghost use Rattle.bw_columns.specs.Asked.{groups_asked, refusal_where, Answers};
+ghost use Rattle.bw_columns.specs.Requests.{IsReplyTo, groups_for, row_count};
 ghost use Rattle.bw_columns.specs.Booked.{counters_of, counters_in, AreCountersLong, stat_in};
 ghost use Rattle.bw_columns.specs.Booked.{AreCounters, stat_after, carry_after, IsBookedPeriod};
-ghost use Rattle.bw_columns.specs.Numbers.{number_of_refusal};
 
-use crate::asked_instance::{Host, instance_where};
-use crate::columns::{Columns, limit_of};
+use crate::asked_instance::Request;
+use crate::columns::limit_of;
 use crate::refusal::Refusal;
 use bw_demand::gather_rows;
 use bw_model::{Instance, Row, Stat};
@@ -148,42 +147,6 @@ pub(crate) fn carries_after(
     Ok(carries)
 }
 
-fn usages(alloc: Global, stats: &[Stat]) -> Result<Vec<u64>, AllocError>
-    ensures { IfOk result (λ v. v.items ≡ map (λ s. s.usage_usec) stats.now) }
-{
-    stats.iter().map(|stat| stat.usage_usec).collect(alloc)
-}
-
-fn periods(alloc: Global, stats: &[Stat]) -> Result<Vec<u64>, AllocError>
-    ensures { IfOk result (λ v. v.items ≡ map (λ s. s.nr_periods) stats.now) }
-{
-    stats.iter().map(|stat| stat.nr_periods).collect(alloc)
-}
-
-fn throttled_periods(alloc: Global, stats: &[Stat]) -> Result<Vec<u64>, AllocError>
-    ensures { IfOk result (λ v. v.items ≡ map (λ s. s.nr_throttled) stats.now) }
-{
-    stats.iter().map(|stat| stat.nr_throttled).collect(alloc)
-}
-
-fn throttled_times(alloc: Global, stats: &[Stat]) -> Result<Vec<u64>, AllocError>
-    ensures { IfOk result (λ v. v.items ≡ map (λ s. s.throttled_usec) stats.now) }
-{
-    stats.iter().map(|stat| stat.throttled_usec).collect(alloc)
-}
-
-fn burst_periods(alloc: Global, stats: &[Stat]) -> Result<Vec<u64>, AllocError>
-    ensures { IfOk result (λ v. v.items ≡ map (λ s. s.nr_bursts) stats.now) }
-{
-    stats.iter().map(|stat| stat.nr_bursts).collect(alloc)
-}
-
-fn burst_times(alloc: Global, stats: &[Stat]) -> Result<Vec<u64>, AllocError>
-    ensures { IfOk result (λ v. v.items ≡ map (λ s. s.burst_usec) stats.now) }
-{
-    stats.iter().map(|stat| stat.burst_usec).collect(alloc)
-}
-
 // The columns of the carries and the counters.
 fn booked_columns(
     alloc: Global,
@@ -195,57 +158,51 @@ fn booked_columns(
 {
     Ok(BookedColumns {
         carries,
-        usage_usec: usages(alloc, stats)?,
-        nr_periods: periods(alloc, stats)?,
-        nr_throttled: throttled_periods(alloc, stats)?,
-        throttled_usec: throttled_times(alloc, stats)?,
-        nr_bursts: burst_periods(alloc, stats)?,
-        burst_usec: burst_times(alloc, stats)?,
+        usage_usec: stats.iter().map(|s| s.usage_usec).collect(alloc)?,
+        nr_periods: stats.iter().map(|s| s.nr_periods).collect(alloc)?,
+        nr_throttled: stats.iter().map(|s| s.nr_throttled).collect(alloc)?,
+        throttled_usec: stats.iter().map(|s| s.throttled_usec).collect(alloc)?,
+        nr_bursts: stats.iter().map(|s| s.nr_bursts).collect(alloc)?,
+        burst_usec: stats.iter().map(|s| s.burst_usec).collect(alloc)?,
     })
 }
 
 /// Counts a period for each row of a host, and gives what each carries into the next one.
 ///
-/// `quotas` and `drawn` are in slices, each quota without what was carried in. `fit` is whether
-/// each of the caller's columns has the rows' length.
+/// `quotas` and `drawn` are in slices, each quota without what was carried in.
 ///
 /// # Errors
-/// The refusals of [`instance_where`].
+/// The refusals of [`Request::instance`].
 pub fn booked_of(
     alloc: Global,
-    fit: bool,
-    host: Host,
-    columns: &Columns<'_>,
+    request: &Request<'_>,
     quotas: &[u64],
     drawn: &[u64],
     counters: &CounterColumns<'_>,
 ) -> Result<BookedColumns, Refusal>
-    requires quotas { fit ≡ true → length quotas.now ≡ length columns.now.parents.now }
-    requires drawn { fit ≡ true → length drawn.now ≡ length columns.now.parents.now }
-    requires usage_usec { fit ≡ true
-        → length counters.now.usage_usec.now ≡ length columns.now.parents.now }
-    requires nr_periods { fit ≡ true
-        → length counters.now.nr_periods.now ≡ length columns.now.parents.now }
-    requires nr_throttled { fit ≡ true
-        → length counters.now.nr_throttled.now ≡ length columns.now.parents.now }
-    requires throttled_usec { fit ≡ true
-        → length counters.now.throttled_usec.now ≡ length columns.now.parents.now }
-    requires nr_bursts { fit ≡ true
-        → length counters.now.nr_bursts.now ≡ length columns.now.parents.now }
-    requires burst_usec { fit ≡ true
-        → length counters.now.burst_usec.now ≡ length columns.now.parents.now }
-    ensures booked { IfOk result (λ b. IsBookedPeriod (groups_asked host columns.now) quotas.now
+    requires quotas { request.now.fit ≡ true → length quotas.now ≡ row_count request.now }
+    requires drawn { request.now.fit ≡ true → length drawn.now ≡ row_count request.now }
+    requires usage_usec { request.now.fit ≡ true
+        → length counters.now.usage_usec.now ≡ row_count request.now }
+    requires nr_periods { request.now.fit ≡ true
+        → length counters.now.nr_periods.now ≡ row_count request.now }
+    requires nr_throttled { request.now.fit ≡ true
+        → length counters.now.nr_throttled.now ≡ row_count request.now }
+    requires throttled_usec { request.now.fit ≡ true
+        → length counters.now.throttled_usec.now ≡ row_count request.now }
+    requires nr_bursts { request.now.fit ≡ true
+        → length counters.now.nr_bursts.now ≡ row_count request.now }
+    requires burst_usec { request.now.fit ≡ true
+        → length counters.now.burst_usec.now ≡ row_count request.now }
+    ensures booked { IfOk result (λ b. IsBookedPeriod (groups_for request.now) quotas.now
         drawn.now b.carries.items (counters_of counters.now) (counters_in b)) }
     ensures carries { IfOk result
-        (λ b. length b.carries.items ≡ length columns.now.parents.now) }
+        (λ b. length b.carries.items ≡ row_count request.now) }
     ensures counters { IfOk result
-        (λ b. AreCountersLong (counters_in b) (length columns.now.parents.now)) }
-    ensures fit { OnOk result (fit ≡ true) }
-    ensures none { OnOk result (refusal_where fit host columns.now ≡ 0) }
-    ensures err { IfErr result
-        (λ e. Answers (refusal_where fit host columns.now) (number_of_refusal e)) }
+        (λ b. AreCountersLong (counters_in b) (row_count request.now)) }
+    ensures reply { IsReplyTo request.now result }
 {
-    let instance = instance_where(alloc, fit, host, columns)?;
+    let instance = request.instance(alloc)?;
     let gathered = gather_rows(alloc, &instance)?;
     let wants = gathered.want.as_slice();
     let stats = stats_after(alloc, &instance, wants, quotas, drawn, counters)?;

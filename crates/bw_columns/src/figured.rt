@@ -1,12 +1,10 @@
 //! The figures of a host and its rows.
-ghost use Rattle.std.specs.Prelude.{◌≡◌, true, length, IfOk, IfErr, OnOk};
+ghost use Rattle.std.specs.Prelude.{IfOk};
 ghost use Rattle.bw_columns.specs.Figured.{AreFigured, AreFiguresLong};
-ghost use Rattle.bw_columns.specs.Asked.{groups_asked, refusal_where, Answers};
-ghost use Rattle.bw_columns.specs.Numbers.{number_of_refusal};
+ghost use Rattle.bw_columns.specs.Requests.{IsReplyTo, groups_for, row_count};
 
-use crate::asked_instance::{Host, instance_where};
+use crate::asked_instance::Request;
 use crate::certificate::flag_numbers;
-use crate::columns::Columns;
 use crate::refusal::Refusal;
 use bw_demand::{Figures, figures, gather_rows};
 use std::alloc::Global;
@@ -26,24 +24,14 @@ pub struct FigureColumns {
 
 /// The figures of a host and its rows.
 ///
-/// `fit` is whether the caller's columns for the answer have the rows' length.
-///
 /// # Errors
-/// The refusals of [`instance_where`].
-pub fn figures_of(
-    alloc: Global,
-    fit: bool,
-    host: Host,
-    columns: &Columns<'_>,
-) -> Result<FigureColumns, Refusal>
-    ensures held { IfOk result (AreFigured (groups_asked host columns.now)) }
-    ensures long { IfOk result (λ f. AreFiguresLong f (length columns.now.parents.now)) }
-    ensures fit { OnOk result (fit ≡ true) }
-    ensures none { OnOk result (refusal_where fit host columns.now ≡ 0) }
-    ensures err { IfErr result
-        (λ e. Answers (refusal_where fit host columns.now) (number_of_refusal e)) }
+/// The refusals of [`Request::instance`].
+pub fn figures_of(alloc: Global, request: &Request<'_>) -> Result<FigureColumns, Refusal>
+    ensures held { IfOk result (AreFigured (groups_for request.now)) }
+    ensures long { IfOk result (λ f. AreFiguresLong f (row_count request.now)) }
+    ensures reply { IsReplyTo request.now result }
 {
-    let instance = instance_where(alloc, fit, host, columns)?;
+    let instance = request.instance(alloc)?;
     let gathered = gather_rows(alloc, &instance)?;
     Ok(FigureColumns {
         tights: flag_numbers(alloc, gathered.tight.as_slice())?,

@@ -1,13 +1,11 @@
 //! The weights with which all goals of a host and its rows are met.
-ghost use Rattle.std.specs.Prelude.{◌≡◌, true, length, IfOk, IfErr, OnOk};
-ghost use Rattle.bw_columns.specs.Asked.{groups_asked, refusal_where, Answers};
+ghost use Rattle.std.specs.Prelude.{◌≡◌, true, length, IfOk};
+ghost use Rattle.bw_columns.specs.Requests.{IsReplyTo, groups_for, row_count};
 ghost use Rattle.bw_columns.specs.Certificates.{flags_in};
 ghost use Rattle.bw_columns.specs.FromRoot.{IsFromRootTold, IsToldOfRoot, measure_of, weights_of};
-ghost use Rattle.bw_columns.specs.Numbers.{number_of_refusal};
 
-use crate::asked_instance::{Host, instance_where};
+use crate::asked_instance::Request;
 use crate::claim::flags_of;
-use crate::columns::Columns;
 use crate::refusal::Refusal;
 use bw_model::Instance;
 use bw_questions::{Measure, Tuned, tune};
@@ -63,31 +61,26 @@ fn told(alloc: Global, instance: &Instance, tuned: &Tuned) -> Result<FromRootCol
 /// The weights with which all goals of a host and its rows are met.
 ///
 /// `goals` has the least slices that each row is to get by the measure, 0 for none. `may` is not 0
-/// for a row whose weight may change. `fit` is whether the caller's columns have the rows' length.
+/// for a row whose weight may change.
 ///
 /// # Errors
-/// The refusals of [`instance_where`].
+/// The refusals of [`Request::instance`].
 pub fn from_root_of(
     alloc: Global,
-    fit: bool,
-    host: Host,
-    columns: &Columns<'_>,
+    request: &Request<'_>,
     goals: &[u64],
     may: &[u8],
     measure: Measure,
 ) -> Result<FromRootColumns, Refusal>
-    requires goals { fit ≡ true → length goals.now ≡ length columns.now.parents.now }
-    requires may { fit ≡ true → length may.now ≡ length columns.now.parents.now }
-    ensures told { IfOk result (λ t. IsFromRootTold measure (groups_asked host columns.now)
+    requires goals { request.now.fit ≡ true → length goals.now ≡ row_count request.now }
+    requires may { request.now.fit ≡ true → length may.now ≡ row_count request.now }
+    ensures told { IfOk result (λ t. IsFromRootTold measure (groups_for request.now)
         goals.now (flags_in may.now) t.weights.items t.unmet) }
     ensures weights { IfOk result
-        (λ t. length t.weights.items ≡ length columns.now.parents.now) }
-    ensures fit { OnOk result (fit ≡ true) }
-    ensures none { OnOk result (refusal_where fit host columns.now ≡ 0) }
-    ensures err { IfErr result
-        (λ e. Answers (refusal_where fit host columns.now) (number_of_refusal e)) }
+        (λ t. length t.weights.items ≡ row_count request.now) }
+    ensures reply { IsReplyTo request.now result }
 {
-    let instance = instance_where(alloc, fit, host, columns)?;
+    let instance = request.instance(alloc)?;
     let flags = flags_of(alloc, may)?;
     let tuned = tune(alloc, &instance, goals, flags.as_slice(), measure)?;
     let told = told(alloc, &instance, &tuned)?;

@@ -1,15 +1,14 @@
 //! The limits of a round of a host and its rows.
-ghost use Rattle.std.specs.Prelude.{◌≡◌, true, length, map, IfOk, IfErr, OnOk};
+ghost use Rattle.std.specs.Prelude.{◌≡◌, true, length, map, IfOk};
 ghost use Rattle.bw_columns.specs.Held.{IsHeldRound, AreHeldLong};
-ghost use Rattle.bw_columns.specs.Asked.{groups_asked, refusal_where, Answers};
+ghost use Rattle.bw_columns.specs.Requests.{IsReplyTo, groups_for, row_count};
 ghost use Rattle.bw_columns.specs.Asked.{limit_number};
 ghost use Rattle.bw_columns.specs.Certificates.{columns_in, flags_in};
-ghost use Rattle.bw_columns.specs.Numbers.{number_of_refusal};
 
-use crate::asked_instance::{Host, instance_where};
+use crate::asked_instance::Request;
 use crate::certificate::{CertificateColumns, certificate_columns};
 use crate::claim::flags_of;
-use crate::columns::{Columns, limit_number};
+use crate::columns::limit_number;
 use crate::refusal::Refusal;
 use bw_questions::hold;
 use std::alloc::{AllocError, Global};
@@ -43,28 +42,17 @@ pub(crate) fn limit_numbers(alloc: Global, limits: &[Option<u64>]) -> Result<Vec
 
 /// The round of a host, its rows and their flags: 0 for a leaf that would not have used more.
 ///
-/// `fit` is whether the caller's columns for the answer have the rows' length.
-///
 /// # Errors
-/// The refusals of [`instance_where`].
-pub fn held_of(
-    alloc: Global,
-    fit: bool,
-    host: Host,
-    columns: &Columns<'_>,
-    hungry: &[u8],
-) -> Result<HeldColumns, Refusal>
-    requires { fit ≡ true → length hungry.now ≡ length columns.now.parents.now }
-    ensures held { IfOk result (λ h. IsHeldRound (groups_asked host columns.now)
+/// The refusals of [`Request::instance`].
+pub fn held_of(alloc: Global, request: &Request<'_>, hungry: &[u8]) -> Result<HeldColumns, Refusal>
+    requires { request.now.fit ≡ true → length hungry.now ≡ row_count request.now }
+    ensures held { IfOk result (λ h. IsHeldRound (groups_for request.now)
         (flags_in hungry.now) h.limits.items h.demands.items h.amounts.items
         (columns_in h.certificate)) }
-    ensures long { IfOk result (λ h. AreHeldLong h (length columns.now.parents.now)) }
-    ensures fit { OnOk result (fit ≡ true) }
-    ensures none { OnOk result (refusal_where fit host columns.now ≡ 0) }
-    ensures err { IfErr result
-        (λ e. Answers (refusal_where fit host columns.now) (number_of_refusal e)) }
+    ensures long { IfOk result (λ h. AreHeldLong h (row_count request.now)) }
+    ensures reply { IsReplyTo request.now result }
 {
-    let instance = instance_where(alloc, fit, host, columns)?;
+    let instance = request.instance(alloc)?;
     let tested = flags_of(alloc, hungry)?;
     let held = hold(alloc, &instance, tested.as_slice())?;
     Ok(HeldColumns {

@@ -42,7 +42,7 @@ mod tally;
 mod walk;
 mod written;
 
-pub use asked_instance::{Host, instance_of, instance_where};
+pub use asked_instance::{Host, Request, instance_of, instance_where};
 pub use booked::{BookedColumns, CounterColumns, booked_of};
 pub use certificate::{CertificateColumns, certificate_columns, flag_numbers, write_certificate};
 pub use certified::{CertifiedColumns, certified_plan_of};
@@ -70,4 +70,4 @@ pub use refusal::Refusal;
 pub use served::{ServedColumns, served_of};
 pub use set_rows::SettingColumns;
 pub use sum_columns::SumColumns;
-pub use written::{are_groups_even, write_groups};
+pub use written::write_groups;

@@ -1,15 +1,14 @@
 //! The greatest limits of rows away from all goals, with which the goals of a host and its rows can
 //! be met.
-ghost use Rattle.std.specs.Prelude.{◌≡◌, ◌<◌, true, length, map, IfOk, IfErr, OnOk};
-ghost use Rattle.bw_columns.specs.Asked.{groups_asked, refusal_where, Answers};
+ghost use Rattle.std.specs.Prelude.{◌≡◌, ◌<◌, true, length, map, IfOk};
+ghost use Rattle.bw_columns.specs.Requests.{IsReplyTo, groups_for, row_count};
 ghost use Rattle.bw_columns.specs.Certificates.{flags_in};
-ghost use Rattle.bw_columns.specs.Numbers.{number_of_refusal};
 ghost use Rattle.bw_columns.specs.OtherLimits.{AreOtherLimitsTold, number_of_row};
 ghost use Rattle.bw_columns.specs.OtherLimits.{cut_number, cut_numbers};
 
-use crate::asked_instance::{Host, instance_where};
+use crate::asked_instance::Request;
 use crate::claim::flags_of;
-use crate::columns::{Columns, limit_number};
+use crate::columns::limit_number;
 use crate::refusal::Refusal;
 use bw_model::Instance;
 use bw_questions::{Limited, Measure, limit_others};
@@ -72,34 +71,28 @@ fn cut_numbers(alloc: Global, instance: &Instance, limits: &[u64]) -> Result<Vec
 /// met.
 ///
 /// Goals, rows that may change and measure are those of [`from_root_of`](crate::from_root_of).
-/// `lowest` has the lowest limit in slices that each row may get. `fit` is whether the caller's
-/// columns have the rows' length.
+/// `lowest` has the lowest limit in slices that each row may get.
 ///
 /// # Errors
-/// The refusals of [`instance_where`].
+/// The refusals of [`Request::instance`].
 pub fn other_limits_of(
     alloc: Global,
-    fit: bool,
-    host: Host,
-    columns: &Columns<'_>,
+    request: &Request<'_>,
     goals: &[u64],
     may: &[u8],
     lowest: &[u64],
     measure: Measure,
 ) -> Result<OtherLimitColumns, Refusal>
-    requires goals { fit ≡ true → length goals.now ≡ length columns.now.parents.now }
-    requires may { fit ≡ true → length may.now ≡ length columns.now.parents.now }
-    requires lowest { fit ≡ true → length lowest.now ≡ length columns.now.parents.now }
-    ensures told { IfOk result (λ t. AreOtherLimitsTold measure (groups_asked host columns.now)
+    requires goals { request.now.fit ≡ true → length goals.now ≡ row_count request.now }
+    requires may { request.now.fit ≡ true → length may.now ≡ row_count request.now }
+    requires lowest { request.now.fit ≡ true → length lowest.now ≡ row_count request.now }
+    ensures told { IfOk result (λ t. AreOtherLimitsTold measure (groups_for request.now)
         goals.now (flags_in may.now) lowest.now t.limits.items t.met) }
     ensures limits { IfOk result
-        (λ t. length t.limits.items ≡ length columns.now.parents.now) }
-    ensures fit { OnOk result (fit ≡ true) }
-    ensures none { OnOk result (refusal_where fit host columns.now ≡ 0) }
-    ensures err { IfErr result
-        (λ e. Answers (refusal_where fit host columns.now) (number_of_refusal e)) }
+        (λ t. length t.limits.items ≡ row_count request.now) }
+    ensures reply { IsReplyTo request.now result }
 {
-    let instance = instance_where(alloc, fit, host, columns)?;
+    let instance = request.instance(alloc)?;
     let flags = flags_of(alloc, may)?;
     let limited = limit_others(alloc, &instance, goals, flags.as_slice(), lowest, measure)?;
     match limited {

@@ -1,11 +1,9 @@
 //! The reasons of the plan of a host and its rows.
-ghost use Rattle.std.specs.Prelude.{◌≡◌, true, length, IfOk, IfErr, OnOk};
+ghost use Rattle.std.specs.Prelude.{◌≡◌, length, IfOk};
 ghost use Rattle.bw_columns.specs.Reasoned.{AreReasonColumns};
-ghost use Rattle.bw_columns.specs.Asked.{groups_asked, refusal_where, Answers};
-ghost use Rattle.bw_columns.specs.Numbers.{number_of_refusal};
+ghost use Rattle.bw_columns.specs.Requests.{IsReplyTo, groups_for, row_count};
 
-use crate::asked_instance::{Host, instance_where};
-use crate::columns::Columns;
+use crate::asked_instance::Request;
 use crate::reason_columns::{blamed_rows, reason_numbers};
 use crate::refusal::Refusal;
 use bw_demand::gather_rows;
@@ -24,27 +22,17 @@ pub struct ReasonColumns {
 
 /// The reasons of the plan of a host and its rows.
 ///
-/// `fit` is whether the caller's columns for the answer have the rows' length.
-///
 /// # Errors
-/// The refusals of [`instance_where`].
-pub fn reasons_of(
-    alloc: Global,
-    fit: bool,
-    host: Host,
-    columns: &Columns<'_>,
-) -> Result<ReasonColumns, Refusal>
+/// The refusals of [`Request::instance`].
+pub fn reasons_of(alloc: Global, request: &Request<'_>) -> Result<ReasonColumns, Refusal>
     ensures held { IfOk result
-        (λ r. AreReasonColumns (groups_asked host columns.now) r.numbers.items r.blamed.items) }
+        (λ r. AreReasonColumns (groups_for request.now) r.numbers.items r.blamed.items) }
     ensures numbers { IfOk result
-        (λ r. length r.numbers.items ≡ length columns.now.parents.now) }
-    ensures blamed { IfOk result (λ r. length r.blamed.items ≡ length columns.now.parents.now) }
-    ensures fit { OnOk result (fit ≡ true) }
-    ensures none { OnOk result (refusal_where fit host columns.now ≡ 0) }
-    ensures err { IfErr result
-        (λ e. Answers (refusal_where fit host columns.now) (number_of_refusal e)) }
+        (λ r. length r.numbers.items ≡ row_count request.now) }
+    ensures blamed { IfOk result (λ r. length r.blamed.items ≡ row_count request.now) }
+    ensures reply { IsReplyTo request.now result }
 {
-    let instance = instance_where(alloc, fit, host, columns)?;
+    let instance = request.instance(alloc)?;
     let gathered = gather_rows(alloc, &instance)?;
     let planned = plan_rows(alloc, &instance, &gathered)?;
     let found = reasons(alloc, &instance, &gathered, &planned)?;

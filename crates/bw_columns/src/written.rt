@@ -6,30 +6,6 @@ ghost use Rattle.bw_columns.specs.Groups.{columns_of, columns_with, on_columns, 
 use crate::front::write_front;
 use crate::groups::GroupColumns;
 
-/// Whether a caller's columns are of one length.
-pub fn are_groups_even(
-    parents: &[u32],
-    weights: &[u64],
-    limits: &[u64],
-    demands: &[u64],
-    quotas: &[u64],
-    periods: &[u64],
-    bursts: &[u64],
-    carries: &[u64],
-) -> bool
-    ensures { result ≡ are_of_length (length parents.now) (weights.now ∷ limits.now ∷ demands.now
-        ∷ quotas.now ∷ periods.now ∷ bursts.now ∷ carries.now ∷ []) }
-{
-    let count = parents.len();
-    weights.len() == count
-        && limits.len() == count
-        && demands.len() == count
-        && quotas.len() == count
-        && periods.len() == count
-        && bursts.len() == count
-        && carries.len() == count
-}
-
 /// Writes the columns of groups to the front of a caller's columns.
 pub fn write_groups(
     found: &GroupColumns,

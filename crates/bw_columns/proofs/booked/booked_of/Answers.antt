@@ -6,10 +6,9 @@ use Rattle.std.proofs.lemmas.List.FromFn.{length-map-range_with_len}
 use Rattle.bw_model.specs.declared.stat.Stat.{Stat}
 use Rattle.bw_model.specs.Groups.{Groups}
 use Rattle.bw_demand.specs.Demands.{demands_of}
-use Rattle.bw_columns.specs.Asked.{table_of}
+use Rattle.bw_columns.specs.Requests.{row_count}
 use Rattle.bw_columns.specs.Booked.{Counters, counters_of, counters_in, AreCounters}
 use Rattle.bw_columns.specs.Booked.{AreCountersLong, stat_after, carry_after, IsBookedPeriod}
-use Rattle.bw_columns.proofs.Asked.{rows_length}
 use Rattle.bw_columns.proofs.booked.booked_of.Goals as goal
 
 -- columns of counters are as long as the list of them
@@ -31,37 +30,18 @@ pub stats_after-requires-clause-wants : goal.stats_after-requires-clause-wants
 stats_after-requires-clause-wants c =
     ap (length {A = ℕ}) c.as_slice-wants.ensures.value ∙ c.in_ok-gathered.ensures.wants_each
 
-pub stats_after-requires-clause-quotas : goal.stats_after-requires-clause-quotas
-stats_after-requires-clause-quotas c =
-    c.requires.quotas c.in_ok-instance.ensures.fit
-    ∙ sym (rows_length (table_of c.args.columns.now))
-    ∙ ap (λ (g : Groups). length g.rows) (sym c.in_ok-instance.ensures.groups)
-
-pub stats_after-requires-clause-drawn : goal.stats_after-requires-clause-drawn
-stats_after-requires-clause-drawn c =
-    c.requires.drawn c.in_ok-instance.ensures.fit
-    ∙ sym (rows_length (table_of c.args.columns.now))
-    ∙ ap (λ (g : Groups). length g.rows) (sym c.in_ok-instance.ensures.groups)
-
 pub stats_after-requires-clause-counters : goal.stats_after-requires-clause-counters
 stats_after-requires-clause-counters c =
     subst (AreCountersLong (counters_of c.args.counters.now))
-    (sym (rows_length (table_of c.args.columns.now))
-    ∙ ap (λ (g : Groups). length g.rows) (sym c.in_ok-instance.ensures.groups))
+    (sym c.in_ok-instance.ensures.rows)
     (record {
-      usage_usec = c.requires.usage_usec c.in_ok-instance.ensures.fit;
-      nr_periods = c.requires.nr_periods c.in_ok-instance.ensures.fit;
-      nr_throttled = c.requires.nr_throttled c.in_ok-instance.ensures.fit;
-      throttled_usec = c.requires.throttled_usec c.in_ok-instance.ensures.fit;
-      nr_bursts = c.requires.nr_bursts c.in_ok-instance.ensures.fit;
-      burst_usec = c.requires.burst_usec c.in_ok-instance.ensures.fit;
+      usage_usec = c.requires.usage_usec c.in_ok-instance.ensures.reply.0;
+      nr_periods = c.requires.nr_periods c.in_ok-instance.ensures.reply.0;
+      nr_throttled = c.requires.nr_throttled c.in_ok-instance.ensures.reply.0;
+      throttled_usec = c.requires.throttled_usec c.in_ok-instance.ensures.reply.0;
+      nr_bursts = c.requires.nr_bursts c.in_ok-instance.ensures.reply.0;
+      burst_usec = c.requires.burst_usec c.in_ok-instance.ensures.reply.0;
     })
-
-pub carries_after-requires : goal.carries_after-requires
-carries_after-requires c =
-    c.requires.drawn c.in_ok-instance.ensures.fit
-    ∙ sym (rows_length (table_of c.args.columns.now))
-    ∙ ap (λ (g : Groups). length g.rows) (sym c.in_ok-instance.ensures.groups)
 
 pub returns-clause-booked : goal.returns-clause-booked
 returns-clause-booked c =
@@ -89,8 +69,7 @@ returns-clause-carries c =
     let i : Groups = c.in_ok-instance.instance in
     ap (length {A = ℕ}) (c.in_ok-booked_columns.ensures.carries ∙ c.in_ok-carries.ensures)
     ∙ length-map-range_with_len (carry_after i c.args.drawn.now) 0 (length i.rows)
-    ∙ ap (λ (g : Groups). length g.rows) c.in_ok-instance.ensures.groups
-    ∙ rows_length (table_of c.args.columns.now)
+    ∙ c.in_ok-instance.ensures.rows
 
 pub returns-clause-counters : goal.returns-clause-counters
 returns-clause-counters c =
@@ -99,8 +78,7 @@ returns-clause-counters c =
     let each = stat_after i c.as_slice-wants.result.now c.args.quotas.now c.args.drawn.now
     (counters_of c.args.counters.now) in
     counters_long c.as_slice.result.now (counters_in booked)
-    (length c.args.columns.now.parents.now) c.in_ok-booked_columns.ensures.counters
+    (row_count c.args.request.now) c.in_ok-booked_columns.ensures.counters
     (ap (length {A = Stat}) (c.as_slice.ensures.value ∙ c.in_ok-stats.ensures)
     ∙ length-map-range_with_len each 0 (length i.rows)
-    ∙ ap (λ (g : Groups). length g.rows) c.in_ok-instance.ensures.groups
-    ∙ rows_length (table_of c.args.columns.now))
+    ∙ c.in_ok-instance.ensures.rows)

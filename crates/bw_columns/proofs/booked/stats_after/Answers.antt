@@ -1,14 +1,13 @@
 -- The goals of `stats_after` that are answered by hand.
-use Rattle.std.proofs.Common.{rules, arith}
-use Rattle.std.proofs.lemmas.List.FromFn.{map-range_with_len_more}
+use Rattle.std.proofs.Common.{rules}
 use Rattle.bw_columns.specs.Booked.{stat_after, counters_of}
+use Rattle.bw_columns.proofs.Turns.{map_more}
 use Rattle.bw_columns.proofs.booked.stats_after.Goals as goal
 
 pub loop-g-preserved : goal.loop-g-preserved
 loop-g-preserved c =
     search (
-      map-range_with_len_more
-          (stat_after c.args.instance.now c.args.wants.now c.args.quotas.now c.args.drawn.now
-          (counters_of c.args.counters.now)) 0 c.loop-g.g c.loop-g.g (omega arith),
+      map_more (stat_after c.args.instance.now c.args.wants.now c.args.quotas.now c.args.drawn.now
+          (counters_of c.args.counters.now)) c.loop-g.g,
       rules,
     )

@@ -4,7 +4,8 @@ use Rattle.bw_model.specs.Groups.{Groups}
 use Rattle.bw_model.specs.Plan.{IsPlan}
 use Rattle.bw_model.specs.Certificate.{Certified, certified_of, IsAccepted}
 use Rattle.bw_cert.specs.Levels.{AreTightFlags, AreLevels}
-use Rattle.bw_columns.specs.Asked.{groups_asked, table_of}
+use Rattle.bw_columns.specs.Asked.{table_of}
+use Rattle.bw_columns.specs.Requests.{groups_for, row_count}
 use Rattle.bw_columns.specs.Certificates.{columns_in}
 use Rattle.bw_columns.proofs.Asked.{rows_length}
 use Rattle.bw_columns.proofs.Spelling.{columns_are_spelled, columns_long}
@@ -31,9 +32,9 @@ returns-clause-held c =
 
 pub returns-clause-long : goal.returns-clause-long
 returns-clause-long c =
-    let rows : length (groups_asked c.args.host c.args.columns.now).rows
-    ≡ length c.args.columns.now.parents.now = rows_length (table_of c.args.columns.now) in
-    let accepted : IsAccepted (groups_asked c.args.host c.args.columns.now)
+    let rows : length (groups_for c.args.request.now).rows
+    ≡ row_count c.args.request.now = rows_length (table_of c.args.request.now.columns) in
+    let accepted : IsAccepted (groups_for c.args.request.now)
     c.in_ok-plan.plan.amounts.items (certified_of c.in_ok-certificate.certificate) =
     subst (λ (g : Groups). IsAccepted g c.in_ok-plan.plan.amounts.items
     (certified_of c.in_ok-certificate.certificate)) c.in_ok-instance.ensures.groups
@@ -43,10 +44,10 @@ returns-clause-long c =
 pub returns-clause-certificate_long : goal.returns-clause-certificate_long
 returns-clause-certificate_long c =
     let certificate : Certified = certified_of c.in_ok-certificate.certificate in
-    let count : ℕ = length c.args.columns.now.parents.now in
-    let rows : length (groups_asked c.args.host c.args.columns.now).rows ≡ count =
-    rows_length (table_of c.args.columns.now) in
-    let accepted : IsAccepted (groups_asked c.args.host c.args.columns.now)
+    let count : ℕ = row_count c.args.request.now in
+    let rows : length (groups_for c.args.request.now).rows ≡ count =
+    rows_length (table_of c.args.request.now.columns) in
+    let accepted : IsAccepted (groups_for c.args.request.now)
     c.in_ok-plan.plan.amounts.items certificate =
     subst (λ (g : Groups). IsAccepted g c.in_ok-plan.plan.amounts.items certificate)
     c.in_ok-instance.ensures.groups c.in_ok-certificate.ensures.certified in

@@ -9,10 +9,10 @@ use Rattle.bw_questions.specs.declared.from_root.least.Tuned.TheVariants.{Met, U
 use Rattle.bw_questions.specs.declared.from_root.measure.Measure.{Measure}
 use Rattle.bw_questions.specs.FromRoot.{IsTunedFromRoot, weighed_row}
 use Rattle.bw_questions.specs.Lowered.{IsTuned, level_weights, lowered, own_rows}
-use Rattle.bw_columns.specs.Asked.{groups_asked, table_of}
+use Rattle.bw_columns.specs.Requests.{groups_for}
 use Rattle.bw_columns.specs.Certificates.{flags_in}
 use Rattle.bw_columns.specs.FromRoot.{IsFromRootTold, IsToldOfRoot}
-use Rattle.bw_columns.proofs.Asked.{rows_length, moved}
+use Rattle.bw_columns.proofs.Asked.{moved}
 use Rattle.bw_columns.proofs.from_root.from_root_of.Goals as goal
 
 -- one row for each row
@@ -36,19 +36,11 @@ weights_long measure groups goals may (Met tuned) weights unmet held told =
 weights_long measure groups goals may (Unmet top) weights unmet held told =
     ap (length {A = ℕ}) told.0 ∙ length-map groups.rows (λ (r : Row). r.weight)
 
-pub tune-requires-clause-goals : goal.tune-requires-clause-goals
-tune-requires-clause-goals c =
-    c.requires.goals c.in_ok-instance.ensures.fit
-    ∙ sym (rows_length (table_of c.args.columns.now))
-    ∙ ap (λ (g : Groups). length g.rows) (sym c.in_ok-instance.ensures.groups)
-
 pub tune-requires-clause-may : goal.tune-requires-clause-may
 tune-requires-clause-may c =
     ap (length {A = Bool}) (c.as_slice.ensures.value ∙ c.in_ok-flags.ensures)
     ∙ length-map c.args.may.now _
-    ∙ c.requires.may c.in_ok-instance.ensures.fit
-    ∙ sym (rows_length (table_of c.args.columns.now))
-    ∙ ap (λ (g : Groups). length g.rows) (sym c.in_ok-instance.ensures.groups)
+    ∙ c.requires.may c.in_ok-instance.ensures.reply.0 ∙ sym c.in_ok-instance.ensures.rows
 
 told_here : (measure : Measure) (groups asked : Groups) (goals : List ℕ) (may flags : List Bool)
     (tuned : Tuned) (weights : List ℕ) (unmet : ℕ) → groups ≡ asked → may ≡ flags
@@ -63,7 +55,7 @@ told_here measure groups asked goals may flags tuned weights unmet same_groups s
 pub returns-clause-told : goal.returns-clause-told
 returns-clause-told c =
     let told = c.in_ok-told.told in
-    told_here c.args.measure c.in_ok-instance.instance (groups_asked c.args.host c.args.columns.now)
+    told_here c.args.measure c.in_ok-instance.instance (groups_for c.args.request.now)
     c.args.goals.now c.as_slice.result.now (flags_in c.args.may.now) c.in_ok-tuned.tuned
     told.weights.items told.unmet c.in_ok-instance.ensures.groups
     (c.as_slice.ensures.value ∙ c.in_ok-flags.ensures) c.in_ok-tuned.ensures
@@ -74,5 +66,4 @@ returns-clause-weights c =
     let told = c.in_ok-told.told in
     weights_long c.args.measure c.in_ok-instance.instance c.args.goals.now c.as_slice.result.now
     c.in_ok-tuned.tuned told.weights.items told.unmet c.in_ok-tuned.ensures c.in_ok-told.ensures
-    ∙ ap (λ (g : Groups). length g.rows) c.in_ok-instance.ensures.groups
-    ∙ rows_length (table_of c.args.columns.now)
+    ∙ c.in_ok-instance.ensures.rows

@@ -6,8 +6,10 @@ use Rattle.bw_model.specs.declared.row.Row.{Row}
 use Rattle.bw_model.specs.Groups.{Groups}
 use Rattle.bw_model.specs.Certificate.{Certified, certified_of, IsAccepted}
 use Rattle.bw_cert.specs.Levels.{AreTightFlags, AreLevels}
-use Rattle.bw_questions.specs.HeldRule.{IsRound, round_of, round_limit, row_asking, demand_where, is_hungry}
-use Rattle.bw_columns.specs.Asked.{groups_asked, table_of, limit_number}
+use Rattle.bw_questions.specs.HeldRule.{IsRound, round_of, round_limit, row_asking, demand_where}
+use Rattle.bw_questions.specs.HeldRule.{is_hungry}
+use Rattle.bw_columns.specs.Asked.{table_of, limit_number}
+use Rattle.bw_columns.specs.Requests.{groups_for, row_count}
 use Rattle.bw_columns.specs.Certificates.{columns_in, flags_in}
 use Rattle.bw_columns.proofs.Asked.{rows_length, moved}
 use Rattle.bw_columns.proofs.Spelling.{columns_are_spelled, columns_long, long_by}
@@ -41,14 +43,12 @@ pub hold-requires : goal.hold-requires
 hold-requires c =
     ap (length {A = Bool}) (c.as_slice.ensures.value ∙ c.in_ok-tested.ensures)
     ∙ length-map c.args.hungry.now _
-    ∙ c.requires c.in_ok-instance.ensures.fit
-    ∙ sym (rows_length (table_of c.args.columns.now))
-    ∙ ap (λ (g : Groups). length g.rows) (sym c.in_ok-instance.ensures.groups)
+    ∙ c.requires c.in_ok-instance.ensures.reply.0 ∙ sym c.in_ok-instance.ensures.rows
 
 pub returns-clause-held : goal.returns-clause-held
 returns-clause-held c =
     let held = c.in_ok-held.held in
-    let asked : Groups = groups_asked c.args.host c.args.columns.now in
+    let asked : Groups = groups_for c.args.request.now in
     let hungry : List Bool = flags_in c.args.hungry.now in
     let certificate : Certified = certified_of held.certificate in
     let groups = c.in_ok-instance.ensures.groups in
@@ -87,8 +87,8 @@ returns-clause-held c =
 pub returns-clause-long : goal.returns-clause-long
 returns-clause-long c =
     let held = c.in_ok-held.held in
-    let count : ℕ = length c.args.columns.now.parents.now in
-    let asked : Groups = groups_asked c.args.host c.args.columns.now in
+    let count : ℕ = row_count c.args.request.now in
+    let asked : Groups = groups_for c.args.request.now in
     let hungry : List Bool = flags_in c.args.hungry.now in
     let certificate : Certified = certified_of held.certificate in
     let groups = c.in_ok-instance.ensures.groups in
@@ -102,7 +102,8 @@ returns-clause-long c =
     moved (λ g h. IsAccepted (round_of g h) held.amounts.items certificate)
     c.in_ok-instance.instance asked c.as_slice.result.now hungry groups tested
     c.in_ok-held.ensures.certified in
-    let asked_rows : length asked.rows ≡ count = rows_length (table_of c.args.columns.now) in
+    let asked_rows : length asked.rows ≡ count =
+    rows_length (table_of c.args.request.now.columns) in
     let rows : length (round_of asked hungry).rows ≡ count =
     round_rows asked hungry ∙ asked_rows in
     record {

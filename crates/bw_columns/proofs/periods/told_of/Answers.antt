@@ -27,11 +27,9 @@ returns-in_err-groups-clause-err c =
 
 pub returns-in_err-before-clause-err : goal.returns-in_err-before-clause-err
 returns-in_err-before-clause-err c =
-    search (
-      periods_memory c.args.hosts.units (settings_of c.args.settings.now) c.args.count
-          c.args.demands.now,
-      rules,
-    )
+    let known = periods_memory c.args.hosts.units (settings_of c.args.settings.now) c.args.count
+    c.args.demands.now in
+    search (known, rules)
 
 pub samples_of-requires-clause-whole : goal.samples_of-requires-clause-whole
 samples_of-requires-clause-whole c =
@@ -57,11 +55,9 @@ returns-in_err-samples-clause-err c =
 
 pub returns-in_err-sum_columns-clause-err : goal.returns-in_err-sum_columns-clause-err
 returns-in_err-sum_columns-clause-err c =
-    search (
-      periods_memory c.args.hosts.units (settings_of c.args.settings.now) c.args.count
-          c.args.demands.now,
-      rules,
-    )
+    let known = periods_memory c.args.hosts.units (settings_of c.args.settings.now) c.args.count
+    c.args.demands.now in
+    search (known, rules)
 
 pub returns-clause-carries : goal.returns-clause-carries
 returns-clause-carries c =

@@ -8,7 +8,7 @@ use Rattle.bw_columns.proofs.planned.plan_of.Goals as goal
 
 pub returns-clause-long : goal.returns-clause-long
 returns-clause-long c =
-    planned_length (shape_of c.args.host) (table_of c.args.columns.now)
+    planned_length (shape_of c.args.request.now.host) (table_of c.args.request.now.columns)
     c.in_ok-plan.field-0.amounts.items
     (subst (λ (g : Groups). IsPlan g c.in_ok-plan.field-0.amounts.items)
     c.in_ok-instance.ensures.groups c.in_ok-plan.ensures)

@@ -1,11 +1,11 @@
 -- The goals of `blamed_rows` that are answered by hand.
-use Rattle.std.proofs.Common.{rules, arith, ◌≡◌, ◌<◌, length, get_or}
+use Rattle.std.proofs.Common.{rules, ◌≡◌, ◌<◌, length, get_or}
 use Rattle.std.specs.Prelude.{slice_index_or}
 use Rattle.std.proofs.lemmas.List.{get_or_default}
-use Rattle.std.proofs.lemmas.List.FromFn.{map-range_with_len_more}
 use Rattle.bw_questions.specs.declared.why.reason.Reason.{Reason}
 use Rattle.bw_questions.specs.declared.why.reason.Reason.TheVariants.{NothingAsked}
 use Rattle.bw_columns.specs.Reasoned.{blamed_row}
+use Rattle.bw_columns.proofs.Turns.{map_more}
 use Rattle.bw_columns.proofs.reason_columns.blamed_rows.Goals as goal
 
 pub loop-g-preserved : goal.loop-g-preserved
@@ -15,9 +15,7 @@ loop-g-preserved c =
     ≡ get_or c.args.reasons.now c.loop-g.g NothingAsked =
     λ r. get_or_default c.args.reasons.now c.loop-g.g r NothingAsked within in
     search (
-      map-range_with_len_more
-          (λ g. blamed_row g (slice_index_or c.args.reasons.now g NothingAsked)) 0 c.loop-g.g
-          c.loop-g.g (omega arith),
+      map_more (λ g. blamed_row g (slice_index_or c.args.reasons.now g NothingAsked)) c.loop-g.g,
       same,
       rules,
     )

@@ -4,9 +4,9 @@ use Rattle.std.proofs.lemmas.List.{length-map}
 use Rattle.std.proofs.lemmas.List.FromFn.{length-map-range_with_len}
 use Rattle.bw_model.specs.Groups.{Groups}
 use Rattle.bw_questions.specs.Served.{IsServedRound, amount_in}
-use Rattle.bw_columns.specs.Asked.{groups_asked, table_of, limit_number}
+use Rattle.bw_columns.specs.Asked.{limit_number}
+use Rattle.bw_columns.specs.Requests.{groups_for, row_count}
 use Rattle.bw_columns.specs.Certificates.{flags_in}
-use Rattle.bw_columns.proofs.Asked.{rows_length}
 use Rattle.bw_columns.proofs.Spelling.{long_by}
 use Rattle.bw_columns.proofs.served.served_of.Goals as goal
 
@@ -14,9 +14,7 @@ pub serve-requires : goal.serve-requires
 serve-requires c =
     ap (length {A = Bool}) (c.as_slice.ensures.value ∙ c.in_ok-tested.ensures)
     ∙ length-map c.args.hungry.now _
-    ∙ c.requires c.in_ok-instance.ensures.fit
-    ∙ sym (rows_length (table_of c.args.columns.now))
-    ∙ ap (λ (g : Groups). length g.rows) (sym c.in_ok-instance.ensures.groups)
+    ∙ c.requires c.in_ok-instance.ensures.reply.0 ∙ sym c.in_ok-instance.ensures.rows
 
 -- What is given for groups and flags is given for equal ones.
 moved : (g h : Groups) (xs ys : List Bool) (amounts : List ℕ) (limits : List (Option ℕ)) → g ≡ h
@@ -36,7 +34,7 @@ amount_each used hungry amounts limits served =
 pub returns-clause-served : goal.returns-clause-served
 returns-clause-served c = record {
   limit_of_each = c.in_ok-served.served.limits.items;
-  round = moved c.in_ok-instance.instance (groups_asked c.args.host c.args.columns.now)
+  round = moved c.in_ok-instance.instance (groups_for c.args.request.now)
       c.as_slice.result.now (flags_in c.args.hungry.now) c.in_ok-served.served.amounts.items
       c.in_ok-served.served.limits.items c.in_ok-instance.ensures.groups
       (c.as_slice.ensures.value ∙ c.in_ok-tested.ensures) c.in_ok-served.ensures;
@@ -48,15 +46,13 @@ pub returns-clause-amounts : goal.returns-clause-amounts
 returns-clause-amounts c =
     amount_each c.in_ok-instance.instance c.as_slice.result.now
     c.in_ok-served.served.amounts.items c.in_ok-served.served.limits.items c.in_ok-served.ensures
-    ∙ ap (λ (g : Groups). length g.rows) c.in_ok-instance.ensures.groups
-    ∙ rows_length (table_of c.args.columns.now)
+    ∙ c.in_ok-instance.ensures.rows
 
 pub returns-clause-limits : goal.returns-clause-limits
 returns-clause-limits c =
     long_by limit_number c.in_ok-served.served.limits.items
-    c.in_ok-limit_numbers.field-0.items (length c.args.columns.now.parents.now)
+    c.in_ok-limit_numbers.field-0.items (row_count c.args.request.now)
     (c.in_ok-limit_numbers.ensures ∙ ap (λ (l : List (Option ℕ)). map limit_number l)
     c.as_slice-2.ensures.value)
     (c.in_ok-served.ensures.one_each
-    ∙ ap (λ (g : Groups). length g.rows) c.in_ok-instance.ensures.groups
-    ∙ rows_length (table_of c.args.columns.now))
+    ∙ c.in_ok-instance.ensures.rows)
