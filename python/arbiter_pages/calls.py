@@ -2,7 +2,7 @@
 
 `python -m arbiter_pages` makes of this table what declares, exports and describes a call: header,
 exported names, types for ctypes, the program of the pipe, Rust's declarations and wrappers, the
-tables of EMBEDDING.md, and libarbiter(3). Each call itself is a file of crates/bw_exports, whose
+tables of EMBEDDING.md, and libarbiter(3). Each call itself stands in crates/bw_exports, whose
 names and types a test compares with this table.
 
 An amount, a limit and a demand are slices of one period, unless a text names another unit.
@@ -17,6 +17,20 @@ U8, U32, U64, CHAR = "u8", "u32", "u64", "char"
 # What a call does with a word: reads it, writes it, or reads it and writes it.
 READ, WRITTEN, CHANGED = "read", "written", "changed"
 NO_LIMIT = "ARBITER_NO_LIMIT"
+# The files of bw_exports that have the calls of one kind, or another name than their call.
+FILES = {
+    "goal_calls": ("goals", "tune", "limit_others"),
+    "held_calls": ("hold", "serve"),
+    "host_calls": ("demand", "slices", "period_limit", "planned_host", "written"),
+    "owned_calls": ("owned_number", "owned_weight", "owned_limit"),
+    "period_calls": ("book", "periods"),
+    "plan_calls": ("plan", "certify", "figures", "reasons", "limiting"),
+    "question_calls": ("guarantee", "least_weight", "least_limit", "least_processors"),
+    "reading_calls": ("reading", "leaf_reading"),
+    "round_calls": ("round", "swings", "judged", "lost"),
+    "shares_call": ("weight_of_shares",),
+}
+FILE_OF = {call: file for file, calls in FILES.items() for call in calls}
 
 
 class CallWord(NamedTuple):
@@ -72,8 +86,6 @@ class Call(NamedTuple):
     allocates: bool = True
     # Whether Rust's public function is made too. Any other is written by hand in lib.rs.
     is_plain: bool = False
-    # The file of bw_exports, without its ending.
-    file: str = ""
 
     @property
     def words(self) -> list[CallWord]:
@@ -84,7 +96,7 @@ class Call(NamedTuple):
     @property
     def module(self) -> str:
         """The file of bw_exports, without its ending."""
-        return self.file or f"{self.name}_call"
+        return FILE_OF.get(self.name, f"{self.name}_call")
 
     @property
     def own(self) -> list[CallWord]:
@@ -601,7 +613,7 @@ NUMBERS = (
          (CallWord("shares", U64, "cpu.shares; below 2 they count as 2, above 262144 as 262144"),
           CallWord("conversion",
                U32, "ARBITER_SHARES_LINEAR or ARBITER_SHARES_LOGARITHMIC")), answer=U64,
-         allocates=False, file="shares_call"),
+         allocates=False),
 )
 OWNED = (
     Call("owned_weight", "the weight of a number that an owner set",

@@ -10,7 +10,7 @@ use bw_columns::{Claim, Columns, Host, verdict_of};
 use std::alloc::Global;
 
 /// Whether the flags and levels show that the amounts are the plan of the rows, as
-/// [`crate::plan_call::arbiter_plan`] has them.
+/// [`crate::plan_calls::arbiter_plan`] has them.
 ///
 /// A flag that is not 0 says that the group's own limit bounds its amount. The level of a group is
 /// `num / den` at `place`, and none if `num` or `den` is 0. Amounts, flags and levels may be any

@@ -9,7 +9,7 @@ use bw_owned::{WeightFormula, least_number};
 
 /// The least number of those that an owner can set whose weight is at least so much.
 ///
-/// The formulas are those of [`crate::owned_weight_call::arbiter_owned_weight`]. The number is the
+/// The formulas are those of [`crate::owned_calls::arbiter_owned_weight`]. The number is the
 /// greatest one if logarithms do not tell a weight on the way, which no test has seen.
 ///
 /// The answer is 0 if `least` is written. A refusal leaves it unchanged.

@@ -1,52 +1,31 @@
-//! The planner as a library for C and for languages that call C. Each call has a file of its name.
+//! The planner as a library for C and for languages that call C. A call has a file of its name, or
+//! stands in the file of its kind.
 #![tactic(auto)]
 
 mod allowed_call;
-mod asking;
-mod book_call;
-mod certify_call;
 mod check_call;
 mod check_text_call;
-mod demand_call;
 mod fault;
-mod figures_call;
 mod fit;
-mod goals_call;
+mod goal_calls;
 mod greatest_part_call;
-mod guarantee_call;
-mod hold_call;
-mod judged_call;
-mod leaf_reading_call;
-mod least_limit_call;
+mod held_calls;
+mod host_calls;
 mod least_owned_call;
-mod least_processors_call;
 mod least_setting_call;
-mod least_weight_call;
 mod let_go_call;
-mod limit_others_call;
-mod limiting_call;
-mod lost_call;
 mod name_call;
-mod owned_limit_call;
-mod owned_number_call;
-mod owned_weight_call;
-mod period_limit_call;
-mod periods_call;
-mod plan_call;
-mod planned_host_call;
+mod owned_calls;
+mod period_calls;
+mod plan_calls;
 mod pod_amount_call;
-mod reading_call;
-mod reasons_call;
+mod question_calls;
+mod reading_calls;
 mod refused_row_call;
 mod rest_call;
 mod room;
-mod round_call;
+mod round_calls;
 mod script_call;
-mod serve_call;
 mod shares_call;
-mod slices_call;
-mod swings_call;
 mod told;
-mod tune_call;
 mod version_call;
-mod written_call;

@@ -4,8 +4,9 @@ ghost use Rattle.bw_columns.specs.Asked.{are_of_length, asked_host};
 ghost use Rattle.bw_columns.specs.Groups.{columns_with};
 ghost use Rattle.bw_exports.specs.Script.{IsScriptAnswer, room_of};
 
+use crate::fit::are_all;
 use crate::told::told_by;
-use bw_columns::{Refusal, are_groups_even, write_front, write_groups};
+use bw_columns::{Refusal, write_front, write_groups};
 use bw_model::HostShape;
 use std::alloc::{AllocError, Global};
 
@@ -26,15 +27,22 @@ fn are_even(
         ∷ quotas.now ∷ periods.now ∷ bursts.now ∷ carries.now ∷ [])
         && length lines.now == length faults.now) }
 {
-    are_groups_even(
-        parents, weights, limits, demands, quotas, periods, bursts, carries,
-    ) && lines.len() == faults.len()
+    let of_groups = [
+        weights.len(),
+        limits.len(),
+        demands.len(),
+        quotas.len(),
+        periods.len(),
+        bursts.len(),
+        carries.len(),
+    ];
+    are_all(parents.len(), &of_groups) && lines.len() == faults.len()
 }
 
 /// Reads a script, as `arbiter run` does on a host: the groups after its last line by column, and
 /// the refused lines.
 ///
-/// The host is that of [`crate::plan_call::arbiter_plan`]. `hash_key` is a number that whoever
+/// The host is that of [`crate::plan_calls::arbiter_plan`]. `hash_key` is a number that whoever
 /// writes the script cannot know: one who does can choose names that take long. No answer depends
 /// on it. A line that only asks for an answer changes nothing. Each leaf uses the slices of its
 /// periods: `period` leaves of the limit of each group what the plan does not give it.

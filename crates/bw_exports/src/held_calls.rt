@@ -1,46 +1,25 @@
-//! `arbiter_hold`: the limits of a round, called from C.
+//! The next round of a loop that sets limits, and of a scheduler, called from C.
 ghost use Rattle.std.specs.Prelude.{◌≡◌, ◌<◌, ◌∷◌, [], length};
 ghost use Rattle.bw_columns.specs.Asked.{Answers, are_of_length, asked_host, asked_table};
 ghost use Rattle.bw_columns.specs.Asked.{groups_in, asked_number_where};
 ghost use Rattle.bw_columns.specs.Certificates.{claimed_columns, flags_in};
 ghost use Rattle.bw_columns.specs.Held.{IsHeldRound};
+ghost use Rattle.bw_columns.specs.Served.{IsServedColumns};
 
-use crate::fit::is_certificate_fit;
-use bw_columns::{Columns, Host, held_of, write_certificate};
+use crate::fit::are_all;
+use bw_columns::{Columns, Host, Request, held_of, served_of, write_certificate};
 use std::alloc::Global;
-
-// Whether each column beside the rows has so many entries.
-fn are_fit(
-    count: usize,
-    hungry: &[u8],
-    held: &[u64],
-    demands: &[u64],
-    amounts: &[u64],
-    flags: &[u8],
-    nums: &[u64],
-    dens: &[u64],
-    places: &[u32],
-) -> bool
-    ensures { result ≡ are_of_length count (hungry.now ∷ held.now ∷ demands.now ∷ amounts.now
-        ∷ flags.now ∷ nums.now ∷ dens.now ∷ places.now ∷ []) }
-{
-    hungry.len() == count
-        && held.len() == count
-        && demands.len() == count
-        && amounts.len() == count
-        && is_certificate_fit(count, flags, nums, dens, places)
-}
 
 /// The limits of the next round, from what each leaf used in the last one.
 ///
-/// The rows are those of [`crate::plan_call::arbiter_plan`], with the slices that each leaf used,
+/// The rows are those of [`crate::plan_calls::arbiter_plan`], with the slices that each leaf used,
 /// rounded up, in the place of its demand. `hungry` is not 0 if the leaf would have used more.
 ///
 /// The answer is 0 if the columns are written. `demands` are those of the round: 1,000,000 at a
 /// hungry leaf, else what it used. `amounts` is their plan, and `held` each leaf's limit for the
 /// next round, in slices. If the plan gives each leaf its demand or its own limit, that is its own
 /// limit, the greatest number for none, as in any round of another group. The other columns are the
-/// certificate, as [`crate::certify_call::arbiter_certify`] has them. A refusal leaves each column
+/// certificate, as [`crate::plan_calls::arbiter_certify`] has them. A refusal leaves each column
 /// unchanged.
 ///
 /// # Errors
@@ -82,25 +61,76 @@ pub extern "C" fn arbiter_hold(
     ensures dens_kept { 0 < result → dens.new ≡ dens.old }
     ensures places_kept { 0 < result → places.new ≡ places.old }
 {
-    let fit = are_fit(
+    let fit = are_all(
         parents.len(),
-        hungry,
-        held,
-        demands,
-        amounts,
-        flags,
-        nums,
-        dens,
-        places,
+        &[
+            hungry.len(),
+            held.len(),
+            demands.len(),
+            amounts.len(),
+            flags.len(),
+            nums.len(),
+            dens.len(),
+            places.len(),
+        ],
     );
     let host = Host::new(processors, period_us, slice_us);
     let columns = Columns::new(parents, weights, limits, used);
-    match held_of(alloc, fit, host, &columns, hungry) {
+    match held_of(alloc, &Request { fit, host, columns }, hungry) {
         Ok(round) => {
             held.copy_from_slice(round.limits.as_slice());
             demands.copy_from_slice(round.demands.as_slice());
             amounts.copy_from_slice(round.amounts.as_slice());
             write_certificate(&round.certificate, flags, nums, dens, places);
+            0
+        }
+        Err(refusal) => refusal.number(),
+    }
+}
+
+/// Amounts and limits of the next round for a scheduler, from what each leaf used in the last one.
+///
+/// The rows and `hungry` are those of [`crate::held_calls::arbiter_hold`]. The answer is 0 if the
+/// columns are written. `amounts` are the plan of the round. A row that is planned less than its
+/// floor, which it gets if each leaf asks for everything, has as much beside the plans of the
+/// others as its floor is beside theirs. So they may be above the capacity together. `most` has
+/// limits, the greatest number for none: of a leaf, its least part of the limits at or above it,
+/// and of another group its own. All are in slices. A refusal leaves each column unchanged.
+///
+/// # Errors
+/// The numbers of `arbiter_plan`, with 50 also if a column does not have the rows' length.
+#[unsafe(no_mangle)]
+pub extern "C" fn arbiter_serve(
+    alloc: Global,
+    processors: u64,
+    period_us: u64,
+    slice_us: u64,
+    parents: &[u32],
+    weights: &[u64],
+    limits: &[u64],
+    used: &[u64],
+    hungry: &[u8],
+    amounts: &mut [u64],
+    most: &mut [u64],
+) -> u32
+    ensures number { Answers (asked_number_where
+        (are_of_length (length parents.now) (hungry.now ∷ amounts.old ∷ most.old ∷ []))
+        (asked_host processors period_us slice_us)
+        (asked_table parents.now weights.now limits.now used.now)) result }
+    ensures round { result ≡ 0 → IsServedColumns
+        (groups_in (asked_host processors period_us slice_us)
+        (asked_table parents.now weights.now limits.now used.now))
+        (flags_in hungry.now) amounts.new most.new }
+    ensures amounts_kept { 0 < result → amounts.new ≡ amounts.old }
+    ensures most_kept { 0 < result → most.new ≡ most.old }
+{
+    let fit = are_all(parents.len(), &[hungry.len(), amounts.len(), most.len()]);
+    let host = Host::new(processors, period_us, slice_us);
+    let columns = Columns::new(parents, weights, limits, used);
+    match served_of(alloc, &Request { fit, host, columns }, hungry) {
+        Ok(round) => {
+            amounts.copy_from_slice(round.amounts.as_slice());
+            most.copy_from_slice(round.limits.as_slice());
             0
         }
         Err(refusal) => refusal.number(),
