@@ -59,7 +59,7 @@ pub asks_nothing : (groups : Groups) (h : ℕ) → length groups.rows ≤ h → 
 asks_nothing groups h past = ap (λ (r : Row). r.demand) (get_or_past groups.rows h no_row past)
 
 -- A group has one guarantee.
-one_guarantee : (groups : Groups) (h x y : ℕ) → IsGuaranteed groups h x → IsGuaranteed groups h y
+pub one_guarantee : (groups : Groups) (h x y : ℕ) → IsGuaranteed groups h x → IsGuaranteed groups h y
     → x ≡ y
 one_guarantee groups h x y one two =
     omega (

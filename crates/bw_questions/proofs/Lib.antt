@@ -3,6 +3,7 @@ mod AllBusy
 mod AskingRows
 mod AtGroup
 mod Blame
+mod BusyGets
 mod BusyPair
 mod BusyRows
 mod ByAll

@@ -5,6 +5,7 @@ pub mod Change
 pub mod Exact
 pub mod Fault
 pub mod FromRoot
+pub mod Gets
 pub mod Guarantee
 pub mod HeldLaws
 pub mod HeldRule

@@ -6,7 +6,7 @@ ghost use Rattle.bw_questions.specs.Fault.{IsRefused};
 mod busy;
 mod fault;
 
-use busy::busy_instance;
+pub(crate) use busy::busy_instance;
 use bw_model::Instance;
 use bw_plan::plan;
 pub use fault::GuaranteeFault;

@@ -19,8 +19,12 @@ use changed::{changed, relimited};
 use setting::{Setting, greatest};
 use std::alloc::{AllocError, Global};
 
-// Whether the plan gives a group at least so many slices. It makes one plan, and counts it.
-fn reaches(
+/// Whether the plan gives a group at least so many slices of one period. It makes one plan, and
+/// counts it.
+///
+/// # Errors
+/// `AllocError` if memory was refused.
+pub(crate) fn reaches(
     alloc: Global,
     instance: &Instance,
     group: u32,

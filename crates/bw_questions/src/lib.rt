@@ -4,6 +4,7 @@
 //! which limits hold the plan on a host. The answers stand on laws of what a change does to a plan.
 #![tactic(auto)]
 
+mod enough;
 mod from_root;
 mod guaranteed;
 mod held;
@@ -12,6 +13,7 @@ mod least;
 mod other_limits;
 mod why;
 
+pub use enough::gets;
 pub use from_root::{
     Measure, Tuned, goal_sums, goals_come_to, halves_are_had, halves_kept, level_numbers,
     there_is_one_from_root, tune,
