@@ -1,62 +1,61 @@
 -- What the plan for a number says of it and of lesser ones.
-use Rattle.std.proofs.Common.{◌≡◌, ℕ, ◌<◌, ◌≤◌, List, Bool, false, length, get_or, ap, sym, ◌∙◌}
-use Rattle.std.proofs.Common.{arith, leb, true≢false}
+use Rattle.std.proofs.Common.{◌≡◌, ℕ, ◌<◌, ◌≤◌, Bool, false, sym, ◌∙◌, arith, length}
+use Rattle.std.proofs.Common.{◌+◌, inl, inr, true≢false}
+use Rattle.std.proofs.lemmas.Bool.{cases_lt}
 use Rattle.std.specs.Prelude.{IsTrue, ◌↔◌}
-use Rattle.std.proofs.lemmas.Bool.{leb-true, le-leb}
-use Rattle.bw_model.specs.Groups.{Groups, IsInstance, AreTreeRows}
-use Rattle.bw_model.specs.Plan.{IsPlan}
-use Rattle.bw_model.proofs.CallerLemmas.{IsPlan-unique, mosts, mosts-capped}
-use Rattle.bw_plan.proofs.CallerLemmas.{plan-IsPlanning}
-use Rattle.bw_plan.specs.Laws.{HasOnePlan, ThereIsOnePlan}
-use Rattle.bw_settings.specs.Following.{Follows, AreOneEach, AreOnPath, IsNumbered}
-use Rattle.bw_settings.specs.Settings.{Reaches, GivesAt, GreaterSettingsGiveNoLess}
-
--- A plan has an amount for each group.
-pub inside_plan : (groups : Groups) → IsInstance groups → (amounts : List ℕ) → IsPlan groups amounts
-    → (group : ℕ) → group < length groups.rows → group < length amounts
-inside_plan groups valid amounts plan group below =
-    omega (
-      arith,
-      below,
-      (plan-IsPlanning groups valid (mosts groups valid.tree) (mosts-capped groups valid.tree)
-          amounts plan).one_each,
-    )
-
--- The amount of a plan tells what is reached.
-pub reached_by : (groups : Groups) (group amount value : ℕ) (amounts : List ℕ)
-    → AreTreeRows groups.rows → IsPlan groups amounts → value ≡ get_or amounts group 0
-    → IsTrue (leb amount value) ↔ Reaches groups group amount
-reached_by groups group amount value amounts tree plan is = (
-  λ enough. record {
-    amounts = amounts;
-    plan = plan;
-    enough = let h : amount ≤ value = leb-true amount value enough in omega (arith, h, is);
-  },
-  λ reached. le-leb amount value
-      (let same : reached.amounts ≡ amounts =
-      IsPlan-unique groups reached.amounts amounts tree reached.plan plan in
-      let here : get_or reached.amounts group 0 ≡ get_or amounts group 0 =
-      ap (λ xs. get_or xs group 0) same in
-      omega (arith, reached.enough, here, is)),
-)
+use Rattle.bw_model.specs.Groups.{Groups, IsInstance}
+use Rattle.bw_questions.specs.Gets.{Gets}
+use Rattle.bw_questions.specs.declared.from_root.measure.Measure.{Measure}
+use Rattle.bw_settings.specs.Following.{Follows, AreOneEach, AreOnPath, IsNumbered, number_at}
+use Rattle.bw_settings.specs.Settings.{GivesAt, IsLeastSetting, GreaterSettingsGiveNoLess}
+use Rattle.bw_settings.specs.declared.least.Setting.{Setting}
+use Rattle.bw_settings.specs.declared.least.Setting.TheVariants.{Least, NoNumber, Untold}
 
 -- Where a number is not enough, no lesser one is.
-pub lesser_fall_short : ThereIsOnePlan → GreaterSettingsGiveNoLess → (groups : Groups)
+pub lesser_fall_short : GreaterSettingsGiveNoLess → (measure : Measure) (groups : Groups)
     (follows : Follows) (group amount number : ℕ) (other : Groups) (enough : Bool)
     → IsInstance groups → AreOneEach groups follows
     → AreOnPath groups.rows follows.formulas group → group < length groups.rows
-    → IsNumbered groups follows number other
-    → (IsTrue enough ↔ Reaches other group amount) → enough ≡ false
-    → (lesser : ℕ) → lesser ≤ number → GivesAt groups follows group amount lesser → ⊥
-lesser_fall_short one law groups follows group amount number other enough valid each path inside
+    → IsNumbered groups follows.formulas (number_at follows number) other
+    → (IsTrue enough ↔ Gets measure other group amount) → enough ≡ false
+    → (lesser : ℕ) → lesser ≤ number → GivesAt measure groups follows group amount lesser → ⊥
+lesser_fall_short law measure groups follows group amount number other enough valid each path inside
     numbered reached short lesser le given =
-    let here : HasOnePlan other = one other numbered.valid in
-    let more : get_or given.reached.amounts group 0 ≤ get_or here.amounts group 0 =
-    law groups follows group lesser number given.others other given.reached.amounts here.amounts
-    valid each path inside le given.numbered numbered given.reached.plan here.plan in
-    let so_here : Reaches other group amount = record {
-      amounts = here.amounts;
-      plan = here.plan;
-      enough = omega (arith, given.reached.enough, more);
-    } in
-    true≢false (sym (reached.1 so_here) ∙ short)
+    let more : Gets measure other group amount =
+    law measure groups follows group lesser number amount given.others other valid each path inside
+    le given.numbered numbered given.reached in
+    true≢false (sym (reached.1 more) ∙ short)
+
+module _ (measure : Measure) (groups : Groups) (follows : Follows)
+    (group amount first near last : ℕ) where
+  -- The least number up to one that is enough is that up to any greater one.
+  pub up_to_more : (setting : Setting) → first ≤ near → near ≤ last
+      → GivesAt measure groups follows group amount near
+      → IsLeastSetting measure groups follows group amount first near setting
+      → IsLeastSetting measure groups follows group amount first last setting
+  up_to_more (Least number) order within enough least =
+      (least.0, omega (arith, least.1, within), least.2, least.3)
+  up_to_more NoNumber order within enough none = absurd (none near order (omega arith) enough)
+  up_to_more Untold order within enough untold = untold
+
+  -- Where no number up to one is enough, the least after it is the least of all.
+  pub from_less : (setting : Setting) → first ≤ near
+      → ((lesser : ℕ) → lesser ≤ near → GivesAt measure groups follows group amount lesser → ⊥)
+      → IsLeastSetting measure groups follows group amount (near + 1) last setting
+      → IsLeastSetting measure groups follows group amount first last setting
+  from_less (Least number) order short least = (
+    omega (arith, least.0, order),
+    least.1,
+    least.2,
+    λ lesser above below gives.
+        elim (cases_lt near lesser) [
+          | inl after ↦ least.3 lesser (omega (arith, after)) below gives
+          | inr before ↦ short lesser before gives
+        ],
+  )
+  from_less NoNumber order short none = λ number above below gives.
+      elim (cases_lt near number) [
+        | inl after ↦ none number (omega (arith, after)) below gives
+        | inr before ↦ short number before gives
+      ]
+  from_less Untold order short untold = untold

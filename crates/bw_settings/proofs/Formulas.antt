@@ -53,3 +53,23 @@ weights_by_grow grow standing code number more weight greater le first second = 
     | inr none ↦ omega (arith, stays.1, none.1)
   ]
 ]
+
+-- The number 0 is of no formula.
+pub no_zero : (formula : WeightFormula) → weight_formula_number formula ≡ 0 → ⊥
+no_zero SharesLinear is = omega (arith, is)
+no_zero SharesLogarithmic is = omega (arith, is)
+no_zero RequestLinear is = omega (arith, is)
+no_zero RequestLogarithmic is = omega (arith, is)
+no_zero UnitShares is = omega (arith, is)
+no_zero UnitWeight is = omega (arith, is)
+
+-- The weight of one number is one.
+pub one_weight : WeightsGrow → (standing code number weight other : ℕ)
+    → IsWeightBy standing code number weight → IsWeightBy standing code number other
+    → weight ≡ other
+one_weight grow standing code number weight other first second =
+    omega (
+      arith,
+      weights_by_grow grow standing code number number weight other (omega arith) first second,
+      weights_by_grow grow standing code number number other weight (omega arith) second first,
+    )

@@ -2,5 +2,7 @@
 mod Answered
 mod Formulas
 mod Loads
+mod Open
 mod Rows
+mod Sums
 mod Ways

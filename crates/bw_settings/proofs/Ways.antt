@@ -1,6 +1,6 @@
 -- The way from the root to a group: the parents on it, and the siblings beside it.
-use Rattle.std.proofs.Common.{◌≡◌, ◌≢◌, ℕ, ◌<◌, ◌≤◌, List, true, false, None, Some, refl}
-use Rattle.std.proofs.Common.{ap, sym, ◌∙◌, arith, inl, inr, eqb}
+use Rattle.std.proofs.Common.{◌≡◌, ◌≢◌, ◌⊎◌, ℕ, ◌<◌, ◌≤◌, List, true, false, None, Some, refl}
+use Rattle.std.proofs.Common.{ap, sym, ◌∙◌, arith, inl, inr, eqb, true≢false}
 use Rattle.std.proofs.lemmas.Bool.{cases_Bool, eqb-true, or_cases, or_right}
 use Rattle.std.proofs.lemmas.Option.{same_Some}
 use Rattle.bw_model.specs.declared.row.Row.{Row}
@@ -30,16 +30,51 @@ module _ (rows : List Row) (tree : AreTreeRows rows) where
       let up : g ≤ q = before q less above in
       omega (arith, up, less)))
 
+  -- What is below a group that is below another is below that other.
+  pub under_under : (g c : ℕ) → is_under rows g c ≡ true → (l : ℕ) → is_under rows c l ≡ true
+      → is_under rows g l ≡ true
+  under_under g c up = strong (λ l. is_under rows c l ≡ true → is_under rows g l ≡ true)
+      (λ l before under.
+      at_or_below c l under (is_under rows g l ≡ true)
+      (λ same. ap (is_under rows g) same ∙ up)
+      (λ q e above. is_under-step rows tree g l q e
+      ∙ or_right (eqb l g) (is_under rows g q) (before q (parent_lt rows tree l q e) above)))
+
   -- A group below another is below that one's parent.
   pub above_parent : (c p : ℕ) → parent_of rows c ≡ Some p → (l : ℕ) → is_under rows c l ≡ true
       → is_under rows p l ≡ true
-  above_parent c p up = strong (λ l. is_under rows c l ≡ true → is_under rows p l ≡ true)
-      (λ l before under.
-      at_or_below c l under (is_under rows p l ≡ true)
-      (λ same. ap (is_under rows p) same ∙ is_under-step rows tree p c p up
+  above_parent c p up =
+      under_under p c
+      (is_under-step rows tree p c p up
       ∙ or_right (eqb c p) (is_under rows p p) (is_under-self rows tree p))
-      (λ q e above. is_under-step rows tree p l q e
-      ∙ or_right (eqb l p) (is_under rows p q) (before q (parent_lt rows tree l q e) above)))
+
+  -- Of two groups above a third one is above the other.
+  pub on_one_way : (a b l : ℕ) → is_under rows a l ≡ true → is_under rows b l ≡ true
+      → (is_under rows a b ≡ true) ⊎ (is_under rows b a ≡ true)
+  on_one_way a b = strong
+      (λ l. is_under rows a l ≡ true → is_under rows b l ≡ true
+      → (is_under rows a b ≡ true) ⊎ (is_under rows b a ≡ true))
+      (λ l before one other.
+      at_or_below a l one ((is_under rows a b ≡ true) ⊎ (is_under rows b a ≡ true))
+      (λ here. inr (ap (is_under rows b) (sym here) ∙ other))
+      (λ q e above.
+      at_or_below b l other ((is_under rows a b ≡ true) ⊎ (is_under rows b a ≡ true))
+      (λ there. inl (ap (is_under rows a) (sym there) ∙ one))
+      (λ r d high.
+      let same : q ≡ r = same_Some q r (sym e ∙ d) in
+      before q (parent_lt rows tree l q e) above (ap (is_under rows b) same ∙ high))))
+
+  -- A row above an owner's is a group above or below that owner's row, above it or below it.
+  pub off_way : (h group owner : ℕ) → is_under rows h owner ≡ true
+      → (is_under rows owner group ≡ true) ⊎ (is_under rows group owner ≡ true)
+      → is_under rows h group ≡ false → is_under rows group h ≡ false → ⊥
+  off_way h group owner over way not_above not_below = elim way [
+    | inl above ↦ true≢false (sym (under_under h owner over group above) ∙ not_above)
+    | inr below ↦ elim (on_one_way h group owner over below) [
+      | inl up ↦ true≢false (sym up ∙ not_above)
+      | inr down ↦ true≢false (sym down ∙ not_below)
+    ]
+  ]
 
   module _ (c s p : ℕ) (up : parent_of rows c ≡ Some p) (also : parent_of rows s ≡ Some p)
       (apart : s ≢ c) where

@@ -47,23 +47,23 @@ abbrev pub IsUntold : Type 0
 IsUntold = (formula : WeightFormula) × (number : ℕ) × IsUntoldNumber formula number
 
 -- Groups that differ in weights alone. Those of the rows below the root that stand before one are
--- as an owner's number makes them, and the others as they were.
-pub record IsNumberedTo (groups : Groups) (follows : Follows) (number to : ℕ) (others : Groups)
-    : Type 0 where
+-- as formulas make them of the rows' numbers, and the others as they were.
+pub record IsNumberedTo (groups : Groups) (formulas : List ℕ) (number_of : ℕ → ℕ) (to : ℕ)
+    (others : Groups) : Type 0 where
   pub shape : others.shape ≡ groups.shape
   pub as_many : length others.rows ≡ length groups.rows
   pub alike : (h : ℕ) → row_of others.rows h
       ≡ record (row_of groups.rows h) { weight = weight_of others.rows h }
   pub root : weight_of others.rows 0 ≡ weight_of groups.rows 0
   pub weights : (h : ℕ) → 0 < h → h < to → IsWeightBy (weight_of groups.rows h)
-      (slice_index follows.formulas h) (number_at follows number h) (weight_of others.rows h)
+      (slice_index formulas h) (number_of h) (weight_of others.rows h)
   pub later : (h : ℕ) → to ≤ h → weight_of others.rows h ≡ weight_of groups.rows h
 
--- the instance that an owner's number makes
-pub record IsNumbered (groups : Groups) (follows : Follows) (number : ℕ) (others : Groups)
+-- the instance that the rows' numbers make
+pub record IsNumbered (groups : Groups) (formulas : List ℕ) (number_of : ℕ → ℕ) (others : Groups)
     : Type 0 where
   pub valid : IsInstance others
-  pub numbered : IsNumberedTo groups follows number (length groups.rows) others
+  pub numbered : IsNumberedTo groups formulas number_of (length groups.rows) others
 
 -- a row whose weight follows by a formula, and that is neither a group nor above it nor below it
 abbrev pub IsBeside : List Row → ℕ → ℕ → ℕ → Type 0

@@ -1,57 +1,70 @@
-//! Rows that follow an owner's number and are not on the way of a group.
-ghost use Rattle.std.specs.Prelude.{◌≡◌, ◌<◌, ◌==◌, length, true, false, IfSome, IfNone};
-ghost use Rattle.std.specs.Prelude.{slice_index};
-ghost use Rattle.std.specs.List.{list_any};
-ghost use Rattle.bw_model.specs.Groups.{is_under};
-ghost use Rattle.bw_settings.specs.Following.{AreOnPath, IsBeside};
+//! The least number of one goal, the others as they are.
+ghost use Rattle.std.specs.Prelude.{◌≡◌, ◌<◌, length, IfOk};
+ghost use Rattle.bw_settings.specs.Following.{follows_of, AreOneEach};
+ghost use Rattle.bw_settings.specs.Several.{aims_of, AreAims, IsLeastNow};
 
+use crate::columns::{bases_with, formulas_of, without};
+use crate::following::Following;
+use crate::goals::Goals;
+use crate::least::{Setting, least_near};
+use crate::numbered::{Numbered, instance_at};
 use bw_model::Instance;
-use bw_owned::WeightFormula;
+use bw_owned::weights_grow;
+use std::alloc::{AllocError, Global};
 
-fn has_row(path: &[u32], group: u32) -> bool
-    ensures { result ≡ list_any (λ above. above == group) path.now }
-{
-    path.iter().any(|above| *above == group)
-}
-
-// Whether a row is a group or below it.
-fn is_under(instance: &Instance, group: u32, h: u32) -> bool
-    requires { h < length instance.now.rows }
-    ensures { result ≡ is_under instance.now.rows group h }
-{
-    let path = instance.path_up(h);
-    has_row(path.as_slice(), group)
-}
-
-// Whether the weight of a row follows a number, and the row is neither a group nor above it nor
-// below it.
-fn is_beside(instance: &Instance, formula: u32, group: u32, h: u32) -> bool
-    requires group { group < length instance.now.rows }
-    requires row { h < length instance.now.rows }
-    ensures beside { result ≡ true → IsBeside instance.now.rows formula group h }
-    ensures on_path { result ≡ false → IsBeside instance.now.rows formula group h → ⊥ }
-{
-    WeightFormula::of_number(formula).is_some()
-        && !is_under(instance, h, group)
-        && !is_under(instance, group, h)
-}
-
-/// The first row whose weight follows an owner's number and that is neither a group nor above it
-/// nor below it. None: there is no such row.
+/// The least number of one goal's range with which it is met, the others as they are.
 ///
-/// `formulas` has a number for each row: of a formula, or of none where the weight stays.
-pub fn first_beside(instance: &Instance, formulas: &[u32], group: u32) -> Option<u32>
-    requires group { group < length instance.now.rows }
-    requires formulas { length formulas.now ≡ length instance.now.rows }
-    ensures some { IfSome result
-        (λ h. IsBeside instance.now.rows (slice_index formulas.now h) group h) }
-    ensures none { IfNone result (AreOnPath instance.now.rows formulas.now group) }
+/// The weights of rows that do not sum it are made once. Then it is the one number that is open.
+///
+/// # Errors
+/// `AllocError` if memory was refused.
+pub(crate) fn least_now(
+    alloc: Global,
+    instance: &Instance,
+    following: &Following<'_>,
+    goals: &Goals<'_>,
+    numbers: &[u64],
+    k: usize,
+) -> Result<Setting, AllocError>
+    requires columns { AreOneEach instance.now (follows_of following.now) }
+    requires goals { AreAims instance.now.rows (aims_of goals.now) }
+    requires numbers { length numbers.now ≡ length goals.now.owners.now }
+    requires goal { k < length numbers.now }
+    ensures { IfOk result
+        (IsLeastNow instance.now (follows_of following.now) (aims_of goals.now) numbers.now k) }
 {
-    let count = instance.rows().len();
-    for h in 0..count {
-        if is_beside(instance, formulas[h], group, h as u32) {
-            return Some(h as u32);
-        }
-    }
-    None
+    let _rows = instance.rows();
+    weights_grow();
+    let (formulas, floors) = (following.formulas, following.floors);
+    let others = without(alloc, numbers, k)?;
+    let beside = bases_with(alloc, instance, following, goals, others.as_slice())?;
+    let bases = beside.as_slice();
+    let every = Following {
+        formulas,
+        floors,
+        bases,
+    };
+    let standing = match instance_at(alloc, instance, &every, 0)? {
+        Numbered::NoWeight => return Ok(Setting::Untold),
+        Numbered::Made(standing) => standing,
+    };
+    let those = formulas_of(alloc, instance, formulas, goals, k)?;
+    let open = Following {
+        formulas: those.as_slice(),
+        floors,
+        bases,
+    };
+    let (group, amount) = (goals.groups[k], goals.amounts[k]);
+    let (first, last) = (goals.firsts[k], goals.lasts[k]);
+    least_near(
+        alloc,
+        &standing,
+        &open,
+        goals.measure,
+        group,
+        amount,
+        first,
+        last,
+        numbers[k],
+    )
 }

@@ -1,13 +1,14 @@
-//! Whether the plan for an owner's number gives a group so much.
-ghost use Rattle.std.specs.Prelude.{◌≡◌, ◌<◌, length, IfOk, IsTrue, ◌↔◌};
+//! Whether a group gets so much for an owner's number.
+ghost use Rattle.std.specs.Prelude.{◌≡◌, ◌<◌, length, IfOk};
 ghost use Rattle.bw_settings.specs.Following.{follows_of, AreOneEach, AreOnPath};
-ghost use Rattle.bw_settings.specs.Settings.{IsAnswered, Reaches};
+ghost use Rattle.bw_settings.specs.Settings.{IsAnswered};
 
 use crate::following::Following;
 use crate::laws::greater_settings_give_no_less;
 use crate::numbered::{Numbered, instance_at};
+use bw_machine::Count;
 use bw_model::Instance;
-use bw_plan::{plan, there_is_one_plan};
+use bw_questions::{Measure, gets};
 use std::alloc::{AllocError, Global};
 
 /// Whether an owner's number is enough.
@@ -21,18 +22,7 @@ pub(crate) enum Answer {
     NoWeight,
 }
 
-// Whether the plan gives a group at least so many slices.
-fn gives(alloc: Global, other: &Instance, group: u32, amount: u64) -> Result<bool, AllocError>
-    requires { group < length other.now.rows }
-    ensures { IfOk result (λ enough. IsTrue enough ↔ Reaches other.now group amount) }
-{
-    // its contract says that this is an instance
-    let _rows = other.rows();
-    let plan = plan(alloc, other)?;
-    Ok(plan.amounts[group as usize] >= amount)
-}
-
-/// Whether the plan for an owner's number gives a group at least so many slices.
+/// Whether a group gets at least so many slices for an owner's number.
 ///
 /// # Errors
 /// `AllocError` if memory was refused.
@@ -40,6 +30,7 @@ pub(crate) fn answer_at(
     alloc: Global,
     instance: &Instance,
     following: &Following<'_>,
+    measure: Measure,
     group: u32,
     amount: u64,
     number: u64,
@@ -47,16 +38,16 @@ pub(crate) fn answer_at(
     requires row { group < length instance.now.rows }
     requires columns { AreOneEach instance.now (follows_of following.now) }
     requires path { AreOnPath instance.now.rows following.now.formulas.now group }
-    ensures { IfOk result (IsAnswered instance.now (follows_of following.now) group amount number) }
+    ensures { IfOk result
+        (IsAnswered measure instance.now (follows_of following.now) group amount number) }
 {
     let _rows = instance.rows();
-    there_is_one_plan();
     greater_settings_give_no_less();
     let other = match instance_at(alloc, instance, following, number)? {
         Numbered::NoWeight => return Ok(Answer::NoWeight),
         Numbered::Made(other) => other,
     };
-    let enough = gives(alloc, &other, group, amount)?;
+    let enough = gets(alloc, &other, measure, group, amount, &mut Count::none())?;
     Ok(if enough {
         Answer::Enough
     } else {

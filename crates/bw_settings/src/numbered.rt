@@ -4,6 +4,7 @@ ghost use Rattle.bw_model.specs.declared.limits.TheConstants.{MIN_WEIGHT, MAX_WE
 ghost use Rattle.bw_model.specs.Groups.{row_of};
 ghost use Rattle.bw_model.specs.OneRow.{with_row};
 ghost use Rattle.bw_settings.specs.Following.{follows_of, AreOneEach, IsNumberedTo, IsUntold};
+ghost use Rattle.bw_settings.specs.Following.{number_at};
 ghost use Rattle.bw_settings.specs.Settings.{IsMade};
 
 use crate::following::Following;
@@ -47,9 +48,11 @@ fn follow(
 ) -> bool
     requires columns { AreOneEach instance.now (follows_of following.now) }
     requires row { (0 < h) × (h < length instance.now.rows) }
-    requires so_far { IsNumberedTo instance.now (follows_of following.now) number h other.old }
+    requires so_far { IsNumberedTo instance.now following.now.formulas.now
+        (number_at (follows_of following.now) number) h other.old }
     ensures done { result ≡ true
-        → IsNumberedTo instance.now (follows_of following.now) number (h + 1) other.new }
+        → IsNumberedTo instance.now following.now.formulas.now
+        (number_at (follows_of following.now) number) (h + 1) other.new }
     ensures untold { result ≡ false → IsUntold }
 {
     let _rows = instance.rows();

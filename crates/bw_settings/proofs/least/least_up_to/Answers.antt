@@ -8,7 +8,7 @@ pub loop-low-preserved : goal.loop-low-preserved
 loop-low-preserved c =
     let none : (lesser : ℕ)
     → lesser ≤ c.loop-low.low + (c.loop-low.high - c.loop-low.low) / 2
-    → GivesAt c.args.instance.now (follows_of c.args.following.now) c.args.group c.args.amount
+    → GivesAt c.args.measure c.args.instance.now (follows_of c.args.following.now) c.args.group c.args.amount
     lesser → ⊥ = rw c.in-TooLittle.is at c.in_ok-answer_at.ensures in
     record {
       first = omega (arith, c.loop-low.invariant.first);

@@ -9,9 +9,9 @@ invariant-loop-low l = record {
   first : l.first ≤ l.low;
   order : l.low ≤ l.high;
   last : l.high ≤ l.last;
-  enough : GivesAt l.instance (follows_of l.following) l.group l.amount l.high;
+  enough : GivesAt l.measure l.instance (follows_of l.following) l.group l.amount l.high;
   short : (lesser : ℕ) → l.first ≤ lesser → lesser < l.low
-      → GivesAt l.instance (follows_of l.following) l.group l.amount lesser → ⊥;
+      → GivesAt l.measure l.instance (follows_of l.following) l.group l.amount lesser → ⊥;
 }
 
 abbrev pub decreases-loop-low : goal.decreases-loop-low

@@ -2,7 +2,7 @@
 use Rattle.std.proofs.Common.{◌∙◌, ap, eqb}
 use Rattle.std.specs.List.{list_any}
 use Rattle.bw_model.specs.Groups.{is_under}
-use Rattle.bw_settings.proofs.beside.is_under.Goals as goal
+use Rattle.bw_settings.proofs.goals.is_under.Goals as goal
 
 pub returns : goal.returns
 unfolding is_under
