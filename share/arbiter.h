@@ -241,31 +241,41 @@ uint32_t arbiter_least_processors(uint64_t processors, uint64_t period_us, uint6
                                   const uint64_t *demands, size_t demands_length, uint32_t group, uint64_t amount,
                                   uint64_t *least);
 
-/* The least number that an owner can set with which the plan gives a group at least `amount` slices: a request, shares or a
- * weight. The weights of some rows follow it, each by its formula. A row's own number is the owner's and that of `bases`, and
- * no less than that of `floors`. So a request of a container makes the weights of the container, of its pod and of the pod's
- * class. All else is as the rows say. A greater number gives the group no less. One plan, and one for each halving of the
- * range.
+/* The least numbers of their ranges that owners can set with which groups get at least so many slices, each the least beside
+ * the others: requests, shares or weights. The weights of some rows follow them, each by its formula. A row has the numbers of
+ * the goals whose `owners` is that row, or lies below it and whose `tops` is it or above it. A row's own number is these and
+ * that of `bases`, and no less than that of `floors`. So requests of containers make the weights of the containers, of their
+ * pods and of the pods' classes. All else is as the rows say. A greater number gives its group no less. Numbers begin as
+ * `firsts`. Each becomes the least that meets its goal, the others as they are then, goal after goal, until none changes, at
+ * most 200 times. Each time makes two plans for a number that stays, and one where that is the first of its range.
  * Reads:
- *   group     the row of the group
- *   amount    the slices that it is to get at least
- *   formulas  the formula of arbiter_owned_weight by which the row's weight follows; 0 or any other number where it stays, as
- *             that of row 0 does
- *   floors    the least number of the row
- *   bases     what the row's number has beside the owner's
- *   first     the least number that may be set
- *   last      the greatest number that may be set
+ *   formulas    the formula of arbiter_owned_weight by which the row's weight follows; 0 or any other number where it stays, as
+ *               that of row 0 does
+ *   floors      the least number of the row
+ *   bases       what the row's number has beside the owners'
+ *   groups      the row of each goal's group
+ *   amounts     the slices that it is to get at least
+ *   owners      the row whose number is set for the goal
+ *   tops        the highest row that has the number too; the owner's for none
+ *   firsts      the least number that may be set
+ *   lasts       the greatest number that may be set
+ *   guaranteed  not 0 where goals are met whatever the others ask for, as arbiter_guarantee has it; 0 where the plan meets them
  * Writes:
- *   least  the number; ARBITER_NO_LIMIT where no number does, or logarithms do not tell a weight, which is of no number of
- *          shares
+ *   numbers  the number of each goal's owner
+ *   stuck    the place of a goal that no number of its range meets beside the others; the number of goals where numbers change
+ *            200 times, or logarithms do not tell a weight, which is of no number of shares; ARBITER_NO_LIMIT where all goals
+ *            are met, and each number is the least beside the others
  * Answers 0, or 50 where columns differ in length; 1 to 3 where the host is refused; 4 to 10 where the rows are refused; 20
- *   where the group is no row, or a row that follows is neither it nor above it nor below it. */
-uint32_t arbiter_least_setting(uint64_t processors, uint64_t period_us, uint64_t slice_us,
-                               const uint32_t *parents, size_t parents_length, const uint64_t *weights, size_t weights_length,
-                               const uint64_t *limits, size_t limits_length, const uint64_t *demands, size_t demands_length,
-                               uint32_t group, uint64_t amount, const uint32_t *formulas, size_t formulas_length,
-                               const uint64_t *floors, size_t floors_length, const uint64_t *bases, size_t bases_length,
-                               uint64_t first, uint64_t last, uint64_t *least);
+ *   where a goal's group or its owner's row is no row, or neither of them is the other or below it. */
+uint32_t arbiter_settle(uint64_t processors, uint64_t period_us, uint64_t slice_us,
+                        const uint32_t *parents, size_t parents_length, const uint64_t *weights, size_t weights_length,
+                        const uint64_t *limits, size_t limits_length, const uint64_t *demands, size_t demands_length,
+                        const uint32_t *formulas, size_t formulas_length, const uint64_t *floors, size_t floors_length,
+                        const uint64_t *bases, size_t bases_length, const uint32_t *groups, size_t groups_length,
+                        const uint64_t *amounts, size_t amounts_length, const uint32_t *owners, size_t owners_length,
+                        const uint32_t *tops, size_t tops_length, const uint64_t *firsts, size_t firsts_length,
+                        const uint64_t *lasts, size_t lasts_length, uint32_t guaranteed,
+                        uint64_t *numbers, size_t numbers_length, uint64_t *stuck);
 
 /* Weights under which each row has its goal. Goals may be of groups with children, of rows inside one another, and of rows
  * whose weight stays. A weight is the goals' own if a goal is at its row or below it. Own weights are the least from the root

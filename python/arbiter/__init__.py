@@ -15,11 +15,11 @@ from arbiter.columns import (Certificate, Columns, Counters, Figures, Host, Kind
                              QuotaColumns, Reading, Reason, Round, RoundTimes, Row, Samples,
                              Script)
 from arbiter.found import Unavailable
-from arbiter.library import (JUDGED_ROUNDS, Follower, Library, LimitFormula, PartKind, Refused,
-                             WeightFormula)
+from arbiter.library import (JUDGED_ROUNDS, Follower, Library, LimitFormula, OwnerGoal, PartKind,
+                             Refused, Settled, WeightFormula)
 
 __all__ = ["JUDGED_ROUNDS", "Certificate", "Columns", "Counters", "Figures", "Follower", "Host",
-           "Kind", "LeafTimes", "Level", "Library", "LimitFormula", "PartKind", "QuotaColumns",
-           "Reading", "Reason", "Refused", "Round", "RoundTimes", "Row", "Samples", "Script",
-           "Unavailable", "WeightFormula"]
+           "Kind", "LeafTimes", "Level", "Library", "LimitFormula", "OwnerGoal", "PartKind",
+           "QuotaColumns", "Reading", "Reason", "Refused", "Round", "RoundTimes", "Row", "Samples",
+           "Script", "Settled", "Unavailable", "WeightFormula"]
 __version__ = "1.0.0"

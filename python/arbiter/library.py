@@ -51,6 +51,27 @@ class Follower(NamedTuple):
     base: int = 0
 
 
+class OwnerGoal(NamedTuple):
+    """A goal of a group, and the number that an owner sets for it: the rows of the group and of the
+    owner's number, the highest row that has the number too, and the range of the number."""
+
+    group: int
+    amount: int
+    owner: int
+    top: int
+    first: int
+    last: int
+
+
+class Settled(NamedTuple):
+    """Numbers that owners set, one for each goal. Each is the least beside the others if
+    `is_settled`. No number of the goal at the place `stuck` meets it beside the others."""
+
+    numbers: list[int]
+    is_settled: bool
+    stuck: int | None
+
+
 class Refused(Exception):
     """A refusal: its `number` and `name`, and the `row` that it speaks of, if it speaks of one."""
 
@@ -327,22 +348,27 @@ class Library:
         """
         return self.ask("least_processors", host, rows, group, amount)[0] or None
 
-    def least_setting(self, host: Host, rows: Rows, group: int, amount: int,
-                      followers: Mapping[int, Follower], first: int, last: int) -> int | None:
-        """The least number from `first` to `last` that an owner can set with which a group gets at
-        least `amount` slices of one period, None if no such number does.
+    def settle(self, host: Host, rows: Rows, followers: Mapping[int, Follower],
+               goals: Sequence[OwnerGoal], guaranteed: bool = False) -> Settled:
+        """The least numbers of their ranges that owners can set with which groups get at least so
+        many slices of one period, each the least beside the others.
 
-        The weights of `followers` follow the number: they are at the group, above it or below it.
-        All else is as the rows say. Refused as a plan is, then 20 NotFound if the group is no row
-        or a follower is none of these.
+        The plan is to give them, or they are to be guaranteed. The weights of `followers` follow
+        the numbers of goals that are set at or below them. All else is as the rows say. Refused as a plan is, then 20 NotFound if a group or an owner's row
+        is no row, or neither of the two is the other or below it.
         """
         columns = Columns.of(rows)
         formulas, floors, bases = (zeros(kind, len(columns)) for kind in (U32, U64, U64))
         for row, each in followers.items():
             formulas[row], floors[row], bases[row] = each
-        least, = self.ask("least_setting", host, columns, group, amount, formulas, floors, bases,
-                          first, last)
-        return None if least == c.NO_LIMIT else int(least)
+        number, (numbers, stuck) = self.call(
+            "settle", len(goals), *self.host(host), *columns.all, formulas, floors, bases,
+            *([each[at] for each in goals] for at in range(len(OwnerGoal._fields))),
+            int(guaranteed))
+        if number:
+            raise self.of_rows(number, columns)
+        return Settled(numbers.tolist(), stuck == c.NO_LIMIT,
+                       stuck if stuck < len(goals) else None)
 
     def script(self, host: Host, text: bytes) -> Script:
         """The reading of a script on a host: the groups at its end, and the lines that it refuses.

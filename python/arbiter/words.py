@@ -20,8 +20,8 @@ WORDS = {
     "least_weight": f"{HOST} {ROWS} group:I amount:Q >weight:Q",
     "least_limit": f"{HOST} {ROWS} group:I amount:Q >limit:Q",
     "least_processors": f"{HOST} {ROWS} group:I amount:Q >least:Q",
-    "least_setting": f"{HOST} {ROWS} group:I amount:Q formulas:I[] floors:Q[] bases:Q[] first:Q "
-                     "last:Q >least:Q",
+    "settle": f"{HOST} {ROWS} formulas:I[] floors:Q[] bases:Q[] groups:I[] amounts:Q[] owners:I[] "
+              "tops:I[] firsts:Q[] lasts:Q[] guaranteed:I >numbers:Q[] >stuck:Q",
     "tune": f"{HOST} {ROWS} goals:Q[] may:B[] guaranteed:I >tuned:Q[] >unmet:Q",
     "goals": f"{HOST} {ROWS} goals:Q[] guaranteed:I >kept:Q[] >come_to:Q[]",
     "limit_others": f"{HOST} {ROWS} goals:Q[] may:B[] lowest:Q[] guaranteed:I >limited:Q[] >met:I",

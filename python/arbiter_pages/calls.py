@@ -285,26 +285,37 @@ QUESTIONS = (
          " most 7 plans.",
          (HOST, ROWS, GROUP, AMOUNT, result("least", U64, "1 to 64", "0", "no number does")),
          (*OF_PLAN, NO_ROW), is_plain=True),
-    Call("least_setting", "the least number that an owner sets that does",
-         "The least number that an owner can set with which the plan gives a group at least"
-         " `amount` slices: a request, shares or a weight. The weights of some rows follow it, each"
-         " by its formula. A row's own number is the owner's and that of `bases`, and no less than"
-         " that of `floors`. So a request of a container makes the weights of the container, of its"
-         " pod and of the pod's class. All else is as the rows say. A greater number gives the"
-         " group no less. One plan, and one for each halving of the range.",
-         (HOST, ROWS, GROUP, AMOUNT,
+    Call("settle", "the least numbers that owners set that do",
+         "The least numbers of their ranges that owners can set with which groups get at least so"
+         " many slices, each the least beside the others: requests, shares or weights. The weights"
+         " of some rows follow them, each by its formula. A row has the numbers of the"
+         " goals whose `owners` is that row, or lies below it and whose `tops` is it or above it. A"
+         " row's own number is these and that of `bases`, and no less than that of `floors`. So"
+         " requests of containers make the weights of the containers, of their pods and of the"
+         " pods' classes. All else is as the rows say. A greater number gives its group no less."
+         " Numbers begin as `firsts`. Each becomes the least that meets its goal, the others as"
+         " they are then, goal after goal, until none changes, at most 200 times. Each time makes"
+         " two plans for a number that stays, and one where that is the first of its range.",
+         (HOST, ROWS,
           column("formulas", U32, "the formula of arbiter_owned_weight by which the row's weight"
                                   " follows; 0 or any other number where it stays, as that of row"
                                   " 0 does"),
           column("floors", U64, "the least number of the row"),
-          column("bases", U64, "what the row's number has beside the owner's"),
-          CallWord("first", U64, "the least number that may be set"),
-          CallWord("last", U64, "the greatest number that may be set"),
-          result("least", U64, "the number", NO_LIMIT,
-                 "no number does, or logarithms do not tell a weight, which is of no number of"
-                 " shares")),
-         (*OF_PLAN, Refusal("20", "the group is no row, or a row that follows is neither it nor"
-                                  " above it nor below it")), is_plain=True),
+          column("bases", U64, "what the row's number has beside the owners'"),
+          column("groups", U32, "the row of each goal's group"),
+          column("amounts", U64, "the slices that it is to get at least"),
+          column("owners", U32, "the row whose number is set for the goal"),
+          column("tops", U32, "the highest row that has the number too; the owner's for none"),
+          column("firsts", U64, "the least number that may be set"),
+          column("lasts", U64, "the greatest number that may be set"), GUARANTEED,
+          room("numbers", U64, "the number of each goal's owner"),
+          result("stuck",
+                 U64, "the place of a goal that no number of its range meets beside the others; the"
+                 " number of goals where numbers change 200 times, or logarithms do not tell a"
+                 " weight, which is of no number of shares", NO_LIMIT,
+                 "all goals are met, and each number is the least beside the others")),
+         (*OF_PLAN, Refusal("20", "a goal's group or its owner's row is no row, or neither of them"
+                                  " is the other or below it"))),
     Call("tune", "weights that meet goals of any rows",
          "Weights under which each row has its goal. Goals may be of groups with children, of rows"
          " inside one another, and of rows whose weight stays. A weight is the goals' own if a goal"

@@ -254,14 +254,17 @@ uint32_t arbiter_least_processors(uint64_t processors, uint64_t period_us, uint6
     return answer;
 }
 
-uint32_t arbiter_least_setting(uint64_t processors, uint64_t period_us, uint64_t slice_us,
-                               const uint32_t *parents, size_t parents_length, const uint64_t *weights, size_t weights_length,
-                               const uint64_t *limits, size_t limits_length, const uint64_t *demands, size_t demands_length,
-                               uint32_t group, uint64_t amount, const uint32_t *formulas, size_t formulas_length,
-                               const uint64_t *floors, size_t floors_length, const uint64_t *bases, size_t bases_length,
-                               uint64_t first, uint64_t last, uint64_t *least)
+uint32_t arbiter_settle(uint64_t processors, uint64_t period_us, uint64_t slice_us,
+                        const uint32_t *parents, size_t parents_length, const uint64_t *weights, size_t weights_length,
+                        const uint64_t *limits, size_t limits_length, const uint64_t *demands, size_t demands_length,
+                        const uint32_t *formulas, size_t formulas_length, const uint64_t *floors, size_t floors_length,
+                        const uint64_t *bases, size_t bases_length, const uint32_t *groups, size_t groups_length,
+                        const uint64_t *amounts, size_t amounts_length, const uint32_t *owners, size_t owners_length,
+                        const uint32_t *tops, size_t tops_length, const uint64_t *firsts, size_t firsts_length,
+                        const uint64_t *lasts, size_t lasts_length, uint32_t guaranteed,
+                        uint64_t *numbers, size_t numbers_length, uint64_t *stuck)
 {
-    begin("least_setting");
+    begin("settle");
     put(' ', processors);
     put(' ', period_us);
     put(' ', slice_us);
@@ -269,16 +272,21 @@ uint32_t arbiter_least_setting(uint64_t processors, uint64_t period_us, uint64_t
     COLUMN(weights, weights_length);
     COLUMN(limits, limits_length);
     COLUMN(demands, demands_length);
-    put(' ', group);
-    put(' ', amount);
     COLUMN(formulas, formulas_length);
     COLUMN(floors, floors_length);
     COLUMN(bases, bases_length);
-    put(' ', first);
-    put(' ', last);
-    put(' ', *least);
+    COLUMN(groups, groups_length);
+    COLUMN(amounts, amounts_length);
+    COLUMN(owners, owners_length);
+    COLUMN(tops, tops_length);
+    COLUMN(firsts, firsts_length);
+    COLUMN(lasts, lasts_length);
+    put(' ', guaranteed);
+    COLUMN(numbers, numbers_length);
+    put(' ', *stuck);
     uint32_t answer = (uint32_t)sent_line();
-    *least = (uint64_t)get();
+    TOLD(numbers, numbers_length);
+    *stuck = (uint64_t)get();
     pthread_mutex_unlock(&lock);
     return answer;
 }

@@ -1,50 +1,63 @@
--- The least number that an owner sets for a goal, as the call answers it.
+-- Numbers that owners set for goals, as the call answers them.
 use Rattle.std.specs.Prelude.{◌≡◌, ◌⊎◌, ◌<◌, ◌≤◌, ℕ, List, length, slice_index}
 use Rattle.bw_model.specs.Groups.{Groups}
 use Rattle.bw_columns.specs.declared.columns.TheConstants.{NO_LIMIT}
 use Rattle.bw_columns.specs.Asked.{Answers}
-use Rattle.bw_settings.specs.declared.least.Setting.{Setting}
-use Rattle.bw_settings.specs.declared.least.Setting.TheVariants.{Least, NoNumber, Untold}
-use Rattle.bw_settings.specs.Following.{Follows, AreOnPath, IsBeside}
-use Rattle.bw_settings.specs.Settings.{IsLeastSetting}
+use Rattle.bw_questions.specs.declared.from_root.measure.Measure.{Measure}
+use Rattle.bw_settings.specs.declared.several.Settling.{Settling}
+use Rattle.bw_settings.specs.declared.several.Settling.TheVariants.{Settled, Stuck, Unsettled, Untold}
+use Rattle.bw_settings.specs.Following.{Follows}
+use Rattle.bw_settings.specs.Several.{Aims, AreAims, IsOnWay, IsSettling}
 
 -- three columns of rows whose weights follow
 abbrev pub follows_in : List ℕ → List ℕ → List ℕ → Follows
 follows_in formulas floors bases =
     record { formulas = formulas; floors = floors; bases = bases }
 
--- the number of what an owner sets, and the greatest number where there is none
-abbrev pub setting_number : Setting → ℕ
-setting_number (Least number) = number
-setting_number NoNumber = NO_LIMIT
-setting_number Untold = NO_LIMIT
+-- six columns of goals, and their measure
+abbrev pub aims_in : Measure → List ℕ → List ℕ → List ℕ → List ℕ → List ℕ → List ℕ → Aims
+aims_in measure groups amounts owners tops firsts lasts =
+    record {
+      measure = measure;
+      groups = groups;
+      amounts = amounts;
+      owners = owners;
+      tops = tops;
+      firsts = firsts;
+      lasts = lasts;
+    }
 
--- the setting of an owner for a goal of a group on whose way the weights follow
-pub record IsSettingOf (groups : Groups) (follows : Follows) (group amount first last : ℕ)
-    (setting : Setting) : Type 0 where
-  pub within : group < length groups.rows
-  pub path : AreOnPath groups.rows follows.formulas group
-  pub least : IsLeastSetting groups follows group amount first last setting
+-- The number of what came of goals, of which there are so many: the greatest number where numbers
+-- are settled, the place of a goal that is stuck, and else the number of goals.
+abbrev pub settling_number : ℕ → Settling → ℕ
+settling_number count Settled = NO_LIMIT
+settling_number count (Stuck k) = k
+settling_number count Unsettled = count
+settling_number count Untold = count
 
--- its number
-pub record IsSettingTold (groups : Groups) (follows : Follows) (group amount first last told : ℕ)
-    : Type 0 where
-  pub setting : Setting
-  pub is_least : IsSettingOf groups follows group amount first last setting
-  pub told_is : told ≡ setting_number setting
+-- numbers of owners for goals, and what came of them
+pub record IsSettlingOf (groups : Groups) (follows : Follows) (aims : Aims) (numbers : List ℕ)
+    (settling : Settling) : Type 0 where
+  pub aims_are : AreAims groups.rows aims
+  pub is : IsSettling groups follows aims numbers settling
 
--- a group that is no row, or beside which a row's weight follows
-abbrev pub IsNoWay : Groups → List ℕ → ℕ → Type 0
-IsNoWay groups formulas group =
-    (length groups.rows ≤ group)
-    ⊎ ((h : ℕ) × IsBeside groups.rows (slice_index formulas h) group h)
+-- these and their number
+pub record IsSettlingTold (groups : Groups) (follows : Follows) (aims : Aims) (numbers : List ℕ)
+    (told : ℕ) : Type 0 where
+  pub settling : Settling
+  pub is_settling : IsSettlingOf groups follows aims numbers settling
+  pub told_is : told ≡ settling_number (length aims.owners) settling
 
--- the refusal of a goal of a group: of the group, or of memory
-abbrev pub IsGoalRefused : Groups → List ℕ → ℕ → ℕ → Type 0
-IsGoalRefused groups formulas group answer =
-    ((answer ≡ 20) × IsNoWay groups formulas group) ⊎ (answer ≡ 71)
+-- a goal of which the group or the owner's row is no row, or neither is the other or below it
+abbrev pub IsAstray : Groups → Aims → Type 0
+IsAstray groups aims = (k : ℕ) × (k < length aims.owners)
+    × (IsOnWay groups.rows (slice_index aims.groups k) (slice_index aims.owners k) → ⊥)
 
--- the refusal of a goal: of the host and the rows, else of its group
-abbrev pub IsSettingRefused : ℕ → Groups → List ℕ → ℕ → ℕ → Type 0
-IsSettingRefused refused groups formulas group answer =
-    Answers refused answer ⊎ ((refused ≡ 0) × IsGoalRefused groups formulas group answer)
+-- the refusal of goals: of one of them, or of memory
+abbrev pub IsGoalRefused : Groups → Aims → ℕ → Type 0
+IsGoalRefused groups aims answer = ((answer ≡ 20) × IsAstray groups aims) ⊎ (answer ≡ 71)
+
+-- the refusal of goals: of the host and the rows, else of one of them
+abbrev pub IsSettlingRefused : ℕ → Groups → Aims → ℕ → Type 0
+IsSettlingRefused refused groups aims answer =
+    Answers refused answer ⊎ ((refused ≡ 0) × IsGoalRefused groups aims answer)

@@ -100,42 +100,6 @@ pub fn least_processors(host: Host, rows: &[Row], group: u32, amount: u64) -> Re
     Ok(Some(least).filter(|number| *number != 0))
 }
 
-/// The least number that an owner can set with which the plan gives a group at least `amount` slices: a request, shares or
-/// a weight. The weights of some rows follow it, each by its formula. A row's own number is the owner's and that of
-/// `bases`, and no less than that of `floors`. So a request of a container makes the weights of the container, of its pod
-/// and of the pod's class. All else is as the rows say. A greater number gives the group no less. One plan, and one for
-/// each halving of the range.
-///
-/// `group`: the row of the group.
-///
-/// `amount`: the slices that it is to get at least.
-///
-/// `formulas`: the formula of arbiter_owned_weight by which the row's weight follows; 0 or any other number where it stays,
-/// as that of row 0 does.
-///
-/// `floors`: the least number of the row.
-///
-/// `bases`: what the row's number has beside the owner's.
-///
-/// `first`: the least number that may be set.
-///
-/// `last`: the greatest number that may be set.
-///
-/// Gives the number; none where no number does, or logarithms do not tell a weight, which is of no number of shares.
-///
-/// # Errors
-/// - 1 to 3: the host is refused.
-/// - 4 to 10: the rows are refused.
-/// - 20: the group is no row, or a row that follows is neither it nor above it nor below it.
-/// - 71: memory was refused.
-pub fn least_setting(host: Host, rows: &[Row], group: u32, amount: u64, formulas: &[u32], floors: &[u64], bases: &[u64],
-                     first: u64, last: u64) -> Result<Option<u64>, Fault> {
-    let columns = Columns::of(rows);
-    let mut least = 0;
-    of_rows(raw::least_setting(host, &columns, group, amount, formulas, floors, bases, first, last, &mut least), &columns)?;
-    Ok(Some(least).filter(|number| *number != raw::NO_LIMIT))
-}
-
 /// The whole slices of one period of the host that a quota or burst allows, rounded down: a limit of a row. Below one slice
 /// it allows none.
 ///

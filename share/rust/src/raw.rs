@@ -50,11 +50,14 @@ extern "C" {
     fn arbiter_least_processors(processors: u64, period_us: u64, slice_us: u64, parents: *const u32, parents_length: usize,
                                 weights: *const u64, weights_length: usize, limits: *const u64, limits_length: usize,
                                 demands: *const u64, demands_length: usize, group: u32, amount: u64, least: *mut u64) -> u32;
-    fn arbiter_least_setting(processors: u64, period_us: u64, slice_us: u64, parents: *const u32, parents_length: usize,
-                             weights: *const u64, weights_length: usize, limits: *const u64, limits_length: usize,
-                             demands: *const u64, demands_length: usize, group: u32, amount: u64,
-                             formulas: *const u32, formulas_length: usize, floors: *const u64, floors_length: usize,
-                             bases: *const u64, bases_length: usize, first: u64, last: u64, least: *mut u64) -> u32;
+    fn arbiter_settle(processors: u64, period_us: u64, slice_us: u64, parents: *const u32, parents_length: usize,
+                      weights: *const u64, weights_length: usize, limits: *const u64, limits_length: usize,
+                      demands: *const u64, demands_length: usize, formulas: *const u32, formulas_length: usize,
+                      floors: *const u64, floors_length: usize, bases: *const u64, bases_length: usize,
+                      groups: *const u32, groups_length: usize, amounts: *const u64, amounts_length: usize,
+                      owners: *const u32, owners_length: usize, tops: *const u32, tops_length: usize,
+                      firsts: *const u64, firsts_length: usize, lasts: *const u64, lasts_length: usize, guaranteed: u32,
+                      numbers: *mut u64, numbers_length: usize, stuck: *mut u64) -> u32;
     fn arbiter_tune(processors: u64, period_us: u64, slice_us: u64, parents: *const u32, parents_length: usize,
                     weights: *const u64, weights_length: usize, limits: *const u64, limits_length: usize,
                     demands: *const u64, demands_length: usize, goals: *const u64, goals_length: usize,
@@ -378,14 +381,18 @@ pub(crate) fn least_processors(host: Host, columns: &Columns, group: u32, amount
     }
 }
 
-pub(crate) fn least_setting(host: Host, columns: &Columns, group: u32, amount: u64, formulas: &[u32], floors: &[u64],
-                            bases: &[u64], first: u64, last: u64, least: &mut u64) -> u32 {
+pub(crate) fn settle(host: Host, columns: &Columns, formulas: &[u32], floors: &[u64], bases: &[u64], groups: &[u32],
+                     amounts: &[u64], owners: &[u32], tops: &[u32], firsts: &[u64], lasts: &[u64], guaranteed: u32,
+                     numbers: &mut [u64], stuck: &mut u64) -> u32 {
     // SAFETY: as the head of this file says
     unsafe {
-        arbiter_least_setting(host.processors, host.period_us, host.slice_us, columns.parents.as_ptr(), columns.parents.len(),
-                              columns.weights.as_ptr(), columns.weights.len(), columns.limits.as_ptr(), columns.limits.len(),
-                              columns.demands.as_ptr(), columns.demands.len(), group, amount, formulas.as_ptr(), formulas.len(),
-                              floors.as_ptr(), floors.len(), bases.as_ptr(), bases.len(), first, last, least)
+        arbiter_settle(host.processors, host.period_us, host.slice_us, columns.parents.as_ptr(), columns.parents.len(),
+                       columns.weights.as_ptr(), columns.weights.len(), columns.limits.as_ptr(), columns.limits.len(),
+                       columns.demands.as_ptr(), columns.demands.len(), formulas.as_ptr(), formulas.len(),
+                       floors.as_ptr(), floors.len(), bases.as_ptr(), bases.len(), groups.as_ptr(), groups.len(),
+                       amounts.as_ptr(), amounts.len(), owners.as_ptr(), owners.len(), tops.as_ptr(), tops.len(),
+                       firsts.as_ptr(), firsts.len(), lasts.as_ptr(), lasts.len(), guaranteed,
+                       numbers.as_mut_ptr(), numbers.len(), stuck)
     }
 }
 
