@@ -5,7 +5,8 @@ use Rattle.bw_columns.specs.declared.columns.TheConstants.{NO_LIMIT}
 use Rattle.bw_columns.specs.Asked.{Answers}
 use Rattle.bw_questions.specs.declared.from_root.measure.Measure.{Measure}
 use Rattle.bw_settings.specs.declared.several.Settling.{Settling}
-use Rattle.bw_settings.specs.declared.several.Settling.TheVariants.{Settled, Stuck, Unsettled, Untold}
+use Rattle.bw_settings.specs.declared.several.Settling.TheVariants.{Settled, Stuck, Unsettled}
+use Rattle.bw_settings.specs.declared.several.Settling.TheVariants.{Untold}
 use Rattle.bw_settings.specs.Following.{Follows}
 use Rattle.bw_settings.specs.Several.{Aims, AreAims, IsOnWay, IsSettling}
 

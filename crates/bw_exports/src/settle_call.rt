@@ -133,7 +133,7 @@ fn settled_of(
 /// The least numbers of their ranges that owners can set, with which groups get at least so many
 /// slices: each is the least beside the others.
 ///
-/// The rows are those of [`crate::plan_call::arbiter_plan`]. A goal has its group, the slices of one
+/// The rows are those of [`crate::plan_call::arbiter_plan`]. A goal has its group, the slices of a
 /// period that it is to get, and the row of its owner's number: the group, one above it or below
 /// it. The plan is to give them or, if `guaranteed` is not 0, the group is to get them whatever the
 /// groups ask for that are not under it. The number is one from the goal's `firsts` to its `lasts`.

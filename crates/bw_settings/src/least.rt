@@ -51,7 +51,7 @@ fn least_up_to(
     Ok(Setting::Least(high))
 }
 
-// The least number from `first` to `last`. It makes one plan, and one for each halving of the range.
+// The least number from `first` to `last`, by one plan and one for each halving of the range.
 fn least_setting(
     alloc: Global,
     instance: &Instance,
