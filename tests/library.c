@@ -169,7 +169,9 @@ int main(void)
         return 28;
     uint32_t by_weight[3] = {0, ARBITER_UNIT_WEIGHT, 0};
     uint64_t nothing[3] = {0};
-    if (arbiter_least_setting(1, 100000, 5000, parents, 3, alike, 3, limits, 3, demands, 3, 1, 14, by_weight, 3, nothing, 3, nothing, 3, 1, 10000, &least) != 0 || least != 208)
+    uint32_t own[1] = {1};
+    uint64_t share[1] = {14}, begin[1] = {1}, end[1] = {10000}, number[1];
+    if (arbiter_settle(1, 100000, 5000, parents, 3, alike, 3, limits, 3, demands, 3, by_weight, 3, nothing, 3, nothing, 3, own, 1, share, 1, own, 1, own, 1, begin, 1, end, 1, 0, number, 1, &least) != 0 || least != ARBITER_NO_LIMIT || *number != 208)
         return 74;
     if (arbiter_least_limit(1, 100000, 5000, parents, 3, alike, 3, limits, 3, demands, 3, 1, 10, &least) != 0 || least != 10)
         return 29;

@@ -64,6 +64,9 @@ static const uint64_t quotas[5] = {ARBITER_NO_LIMIT, 50000, ARBITER_NO_LIMIT, AR
 static const uint64_t lasting[5] = {100000, 100000, 100000, 100000, 100000}, bursts[5] = {0, 25000, 0, 0, 0};
 static const uint64_t two_samples[10] = {0, 0, 2, 2, 20, 0, 0, 20, 20, 20};
 static uint64_t carried[5], cells[9][10];
+/* Goals of two rows, each with a number of its own. */
+static const uint32_t owners[2] = {3, 4};
+static const uint64_t asked[2] = {9, 3}, firsts[2] = {1, 1}, lasts[2] = {10000, 10000};
 
 #define ROWS 1, 100000, 5000, parents, 5, weights, 5, limits, 5, demands, 5
 /* The calls before the check. */
@@ -142,7 +145,7 @@ static uint32_t call(int which)
     case 17: return arbiter_limit_others(ROWS, just_one, 5, none, 5, lowest, 5, 0, tuned, 5, &met);
     case 18: return arbiter_serve(ROWS, hungry, 5, asks, 5, caps, 5);
     case 19: return arbiter_goals(ROWS, just_one, 5, 1, tuned, 5, caps, 5);
-    case 20: return arbiter_least_setting(ROWS, 3, 9, by_weight, 5, lowest, 5, lowest, 5, 1, 10000, &rest);
+    case 20: return arbiter_settle(ROWS, by_weight, 5, lowest, 5, lowest, 5, owners, 2, asked, 2, owners, 2, owners, 2, firsts, 2, lasts, 2, 1, caps, 2, &rest);
     default: return arbiter_check(ROWS, amounts, 5, flags, 5, nums, 5, dens, 5, places, 5, &row);
     }
 }

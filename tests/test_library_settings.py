@@ -1,5 +1,5 @@
-"""The least number that an owner sets for a goal: the call beside brute force over all numbers of a
-small range, on nodes of pods that a model weighs."""
+"""Numbers that owners set for goals: the call beside brute force over all numbers of a small range,
+on nodes of pods that a model weighs, and on any rows that follow several numbers."""
 import ctypes
 import random
 
@@ -7,7 +7,7 @@ import pytest
 
 import arbiter
 from arbiter import columns as columns_
-from arbiter import Follower, Host, PartKind, Row, WeightFormula, c
+from arbiter import Follower, Host, OwnerGoal, PartKind, Row, Settled, WeightFormula, c
 from owned_model import WEIGHTS, pod_amount
 from plan_model import Instance
 from plan_model import Row as ModelRow
@@ -88,6 +88,24 @@ def planned(rows):
     return Instance([ModelRow(*row) for row in rows], 20).plan()
 
 
+def got(rows, group, guaranteed):
+    """The slices of a group by the model's plan, or by that in which all others ask for the most."""
+    def is_inside(row):
+        return row is not None and (row == group or is_inside(rows[row][0]))
+
+    parents = {row[0] for row in rows}
+    most = [[*row[:3], 10**6 if guaranteed and at not in parents and not is_inside(at) else row[3]]
+            for at, row in enumerate(rows)]
+    return planned(most)[group]
+
+
+def least_of(calls, rows, followers, goal, guaranteed=False):
+    """The least number of one goal; None where it is stuck."""
+    settled = calls.settle(HOST, rows, followers, [goal], guaranteed)
+    same((settled.is_settled, settled.stuck), (True, None) if settled.is_settled else (False, 0))
+    return settled.numbers[0] if settled.is_settled else None
+
+
 @pytest.mark.parametrize("seed", range(40))
 def test_requests_beside_brute_force(calls, seed):
     """The least request is the first of all that gives so much, by a model that tries each."""
@@ -96,15 +114,105 @@ def test_requests_beside_brute_force(calls, seed):
         node = Node(drawn)
         pod = drawn.choice(node.pods)
         part = drawn.randrange(len(node.parts[pod]))
-        group = drawn.choice((node.parts[pod][part], node.parts[pod][part], pod, 1))
+        own = node.parts[pod][part]
+        group, guaranteed = drawn.choice((own, own, pod, 1)), drawn.random() < 0.3
         first, last = sorted(drawn.sample(range(MOST), 2))
-        gets = [planned(node.weighed(pod, part, request))[group]
+        gets = [got(node.weighed(pod, part, request), group, guaranteed)
                 for request in range(first, last + 1)]
         rows = [Row(*row) for row in node.weighed(pod, part, drawn.randint(0, MOST))]
         for amount in {0, *gets, max(gets) + 1}:
             least = next((first + at for at, each in enumerate(gets) if each >= amount), None)
-            same(calls.least_setting(HOST, rows, group, amount, node.followers(pod, part), first,
-                                     last), least, f"{rows}, {amount}")
+            goal = OwnerGoal(group, amount, own, 1, first, last)
+            same(least_of(calls, rows, node.followers(pod, part), goal, guaranteed), least,
+                 f"{rows}, {goal}")
+
+
+class Several:
+    """Any rows, of which some follow the numbers of a few goals."""
+
+    def __init__(self, drawn):
+        self.rows = [[None, 100, None, 0]]
+        for row in range(1, drawn.randint(3, 9)):
+            self.rows.append([drawn.randrange(row), drawn.randint(1, 60),
+                              drawn.choice((None, None, None, drawn.randint(0, 20))),
+                              drawn.choice((0, drawn.randint(0, 25)))])
+        for parent in {row[0] for row in self.rows[1:]}:
+            self.rows[parent][3] = 0
+        self.followers = {
+            row: Follower(drawn.choice(tuple(WeightFormula)), drawn.choice((0, 0, 40)),
+                          drawn.choice((0, 0, 25, NO_LIMIT - 30)))
+            for row in range(1, len(self.rows)) if drawn.random() < 0.8}
+        self.goals = [self.goal(drawn) for _ in range(drawn.randint(1, 4))]
+        self.guaranteed = drawn.random() < 0.3
+
+    def above(self, row):
+        """A row and those above it."""
+        return [row, *self.above(self.rows[row][0])] if row else [0]
+
+    def goal(self, drawn):
+        owner = drawn.randrange(1, len(self.rows))
+        below = [row for row in range(len(self.rows)) if owner in self.above(row)]
+        first = drawn.choice((0, 1, drawn.randint(0, 60)))
+        return OwnerGoal(drawn.choice((owner, owner, *below, *self.above(owner))),
+                         drawn.choice((0, 1, 3, 6, 12)), owner, drawn.choice(self.above(owner)),
+                         first, first + drawn.randint(0, 30))
+
+    def has(self, row, goal):
+        """Whether a row has the number of a goal: on the way up from its owner's to the top."""
+        way = self.above(goal.owner)
+        return row in way[:way.index(goal.top) + 1]
+
+    def weighed(self, numbers):
+        """The rows for some numbers of the goals."""
+        rows = [list(row) for row in self.rows]
+        for row, (formula, floor, base) in self.followers.items():
+            own = sum(each for goal, each in zip(self.goals, numbers) if self.has(row, goal))
+            rows[row][1] = WEIGHTS[formula](max(floor, min(base + own, NO_LIMIT)))
+        return rows
+
+    def meets(self, numbers, place):
+        goal = self.goals[place]
+        return got(self.weighed(numbers), goal.group, self.guaranteed) >= goal.amount
+
+    def meeting(self, numbers, place, numbers_tried):
+        """The numbers of one goal that meet it beside the others."""
+        return [each for each in numbers_tried
+                if self.meets([*numbers[:place], each, *numbers[place + 1:]], place)]
+
+
+@pytest.mark.parametrize("seed", range(60))
+def test_several_beside_brute_force(calls, seed):
+    """Each number is the least beside the others, or none of a goal's range meets it beside them,
+    by a model that tries each."""
+    drawn = random.Random(20261202 + seed)
+    for _ in range(10):
+        tried = Several(drawn)
+        found = calls.settle(HOST, [Row(*row) for row in tried.rows], tried.followers, tried.goals,
+                             tried.guaranteed)
+        told = f"{tried.rows}, {tried.followers}, {tried.goals}, {tried.guaranteed}: {found}"
+        if found.stuck is not None:
+            goal = tried.goals[found.stuck]
+            same(tried.meeting(found.numbers, found.stuck, range(goal.first, goal.last + 1)), [],
+                 told)
+        for place, (goal, each) in enumerate(zip(tried.goals, found.numbers)):
+            assert goal.first <= each <= goal.last, told
+            if found.is_settled:
+                same(tried.meeting(found.numbers, place, range(goal.first, each + 1)), [each], told)
+        assert found.is_settled or found.stuck is not None, told
+
+
+def test_requests_of_two_pods(calls):
+    """Two containers of one class: the class has both requests, and each is the least beside the
+    other. By the line 100 and 39 are weights of 2590 and of 978 thousandths."""
+    by = WeightFormula.REQUEST_LINEAR
+    rows = [*SMALL, Row(1, 1, None, 0), Row(5, 1, None, 20)]
+    goals = [OwnerGoal(4, 5, 4, 1, 0, 256000), OwnerGoal(6, 5, 6, 1, 0, 256000)]
+    numbers, is_settled, stuck = calls.settle(HOST, rows, {row: Follower(by)
+                                                           for row in (1, 3, 4, 5, 6)}, goals)
+    same((is_settled, stuck), (True, None))
+    # (10 of 20 slices for the class are those of 899 thousandths)
+    assert numbers[0] + numbers[1] >= 899 > 0, numbers
+    same(calls.settle(HOST, rows, {}, []), Settled([], True, None))
 
 
 @pytest.mark.parametrize("amount, first, last, least", [
@@ -114,26 +222,35 @@ def test_requests_beside_brute_force(calls, seed):
 def test_small(calls, amount, first, last, least):
     """A class of one container beside a group of weight 39, by the line."""
     by = WeightFormula.REQUEST_LINEAR
-    found = calls.least_setting(HOST, SMALL, 4, amount, {row: Follower(by) for row in (1, 3, 4)},
-                                first, last)
+    found = least_of(calls, SMALL, {row: Follower(by) for row in (1, 3, 4)},
+                     OwnerGoal(4, amount, 4, 1, first, last))
     same(found, least)
 
 
 def test_refusals(calls):
-    """A group that is no row, a row that follows beside it, and columns of another length."""
+    """A group or an owner that is no row, one beside the other, and columns of another length."""
     by = {2: Follower(WeightFormula.UNIT_WEIGHT)}
-    same(number_of(calls.least_setting, HOST, SMALL, 5, 1, {}, 0, 9), (20, None))
-    same(number_of(calls.least_setting, HOST, SMALL, 4, 1, by, 0, 9), (20, None))
+    for group, owner in ((5, 4), (4, 5), (2, 4), (4, 2), (2**32 - 1, 4)):
+        same(number_of(calls.settle, HOST, SMALL, by, [OwnerGoal(4, 1, 4, 0, 0, 9),
+                                                       OwnerGoal(group, 1, owner, 0, 0, 9)]),
+             (20, None))
     # (its slice 10 costs 19/w, and slice 11 of row 1 21/100)
-    same(calls.least_setting(HOST, SMALL, 2, 10, by, 1, 10000), 91)
-    same(calls.least_setting(HOST, SMALL, 0, 20, by, 1, 10000), 1)
-    least = c.U64(7)
-    columns = arbiter.Columns.of(SMALL)
+    same(least_of(calls, SMALL, by, OwnerGoal(2, 10, 2, 2, 1, 10000)), 91)
+    same(least_of(calls, SMALL, by, OwnerGoal(0, 20, 2, 2, 1, 10000)), 1)
+    # (a highest row that is not above the owner's: no row has the number)
+    same(least_of(calls, SMALL, by, OwnerGoal(2, 19, 2, 9, 1, 10000)), None)
+    stuck, columns = c.U64(7), arbiter.Columns.of(SMALL)
     words = [word for each in columns.all for word in columns_.given(each)]
-    for lengths in ((4, 5, 5), (5, 4, 5), (5, 5, 6)):
-        more = [word for each, kind in zip(lengths, (columns_.U32, columns_.U64, columns_.U64))
-                for word in columns_.given(columns_.zeros(kind, each))]
-        same(calls.calls.arbiter_least_setting(
-            *map(c.U64, arbiter.Library.host(HOST)), *words, c.U32(4), c.U64(1), *more, c.U64(0),
-            c.U64(9), ctypes.byref(least)), 50)
-    same(least.value, 7)
+    kinds = [getattr(columns_, f"U{bits}") for bits in (32, 64, 64, 32, 64, 32, 32, 64, 64)]
+    numbers = columns_.zeros(columns_.U64, 2)
+    for wrong, kind in enumerate(kinds):
+        for less in (0, 1, 3, 4, 6):
+            lengths = [(5 if at < 3 else 2) if at != wrong else less for at in range(len(kinds))]
+            if lengths[wrong] == (5 if wrong < 3 else 2):
+                continue
+            more = [word for each, of in zip(lengths, kinds)
+                    for word in columns_.given(columns_.zeros(of, each))]
+            same(calls.calls.arbiter_settle(
+                *map(c.U64, arbiter.Library.host(HOST)), *words, *more, c.U32(0),
+                *columns_.given(numbers), ctypes.byref(stuck)), 50, f"{kind} of {wrong}")
+    same((stuck.value, numbers.tolist()), (7, [0, 0]))

@@ -220,7 +220,7 @@ static void nothing(void)
     IS(5, arbiter_figures(HOST, ALL(0), amounts, 0, weights, 0, flags, 0, parents, 0, limits, 0, demands, 0));
     IS(5, arbiter_book(HOST, ALL(0), limits, 0, demands, 0, amounts, 0, amounts, 0, amounts, 0, amounts, 0, amounts, 0, amounts, 0, amounts, 0));
     IS(5, arbiter_least_weight(HOST, ALL(0), UINT32_MAX, UINT64_MAX, &number));
-    IS(5, arbiter_least_setting(HOST, ALL(0), UINT32_MAX, UINT64_MAX, places, 0, limits, 0, demands, 0, 0, UINT64_MAX, &number));
+    IS(5, arbiter_settle(HOST, ALL(0), places, 0, limits, 0, demands, 0, places, 0, limits, 0, places, 0, places, 0, limits, 0, limits, 0, 1, amounts, 0, &number));
     IS(5, arbiter_refused_row(ALL(0), &row));
     IS(5, arbiter_hold(HOST, ALL(0), flags, 0, amounts, 0, amounts, 0, amounts, 0, flags, 0, amounts, 0, amounts, 0, places, 0));
     IS(5, arbiter_serve(HOST, ALL(0), flags, 0, amounts, 0, amounts, 0));
@@ -264,7 +264,7 @@ static void millions(void)
     IS(4, arbiter_guarantee(HOST, ALL(n), 0, &number));
     IS(4, arbiter_figures(HOST, ALL(n), amounts, n, nums, n, flags, n, places, n, dens, n, more, n));
     IS(4, arbiter_least_processors(HOST, ALL(n), 0, 1, &number));
-    IS(4, arbiter_least_setting(HOST, ALL(n), 0, 1, places, n, nums, n, dens, n, 0, 1, &number));
+    IS(4, arbiter_settle(HOST, ALL(n), places, n, nums, n, dens, n, places, n, nums, n, places, n, places, n, nums, n, dens, n, 1, amounts, n, &number));
     uint64_t *held = mapped(n * 8), *round = mapped(n * 8);
     uint8_t *hungry = mapped(n);
     IS(4, arbiter_hold(HOST, ALL(n), hungry, n, held, n, round, n, amounts, n, flags, n, nums, n, dens, n, places, n));
@@ -430,7 +430,10 @@ static void numbers(void)
             IS(answer, arbiter_guarantee(HOST, ALL(3), (uint32_t)group, &number));
             IS(answer, arbiter_least_weight(HOST, ALL(3), (uint32_t)group, ends[other], &number));
             IS(answer, arbiter_least_processors(HOST, ALL(3), (uint32_t)group, ends[other], &number));
-            IS(answer, arbiter_least_setting(HOST, ALL(3), (uint32_t)group, ends[each], no_formulas, 3, ends, 3, ends, 3, ends[each], ends[other], &number));
+            uint32_t goal[1] = {(uint32_t)group};
+            uint64_t asked[1] = {ends[each]}, last[1] = {ends[other]}, set[1] = {7};
+            IS(answer, arbiter_settle(HOST, ALL(3), no_formulas, 3, ends, 3, ends, 3, goal, 1, asked, 1, goal, 1, goal, 1, asked, 1, last, 1, other % 2, set, 1, &number));
+            demand(answer ? *set == 7 : number == NONE || number == 0, __LINE__);
             IS(group ? answer : 10, arbiter_least_limit(HOST, ALL(3), (uint32_t)group, ends[other], &number));
             number = arbiter_weight_of_shares(ends[other], (uint32_t)ends[each]);
             demand(ends[each] == 1 || ends[each] == 2 ? number >= 1 && number <= 10000 : (uint32_t)ends[each] == 1 || (uint32_t)ends[each] == 2 || number == 0, __LINE__);

@@ -495,12 +495,14 @@ static void hold_setting(struct host host, struct rows rows, uint32_t group, uin
 {
     size_t n = rows.parents_length;
     uint32_t *formulas = guard_block(n * 4, 0);
-    uint64_t *none = guard_block(n * 8, 1), least = 77;
+    uint64_t *none = guard_block(n * 8, 1), asked[1] = {amount}, first[1] = {1}, last[1] = {10000}, set[1] = {77}, stuck = 77;
+    uint32_t own[1] = {group};
 
     memset(formulas, 0, n * 4), memset(none, 0, n * 8);
     formulas[group] = ARBITER_UNIT_WEIGHT;
-    demand(counted(arbiter_least_setting(HOST(host), ROWS(rows), group, amount, formulas, n, none, n, none, n, 1, 10000, &least)) == 0, "no least setting");
-    demand(least == (weight ? weight : NONE), "a least setting that is no least weight");
+    demand(counted(arbiter_settle(HOST(host), ROWS(rows), formulas, n, none, n, none, n, own, 1, asked, 1, own, 1, own, 1, first, 1, last, 1, 0,
+                                  set, 1, &stuck)) == 0, "nothing is settled");
+    demand(weight ? stuck == NONE && *set == weight : stuck == 0, "a setting that is no least weight");
     guard_drop(formulas), guard_drop(none);
 }
 

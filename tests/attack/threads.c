@@ -18,7 +18,7 @@
 
 struct answers {
     uint64_t carries[MOST], sums[6][MOST], left[MOST], cells[9][MOST];
-    uint64_t amounts[MOST], nums[MOST], dens[MOST], wants[MOST], mosts[MOST], weights[MOST], withheld[MOST], rest, least[5];
+    uint64_t amounts[MOST], nums[MOST], dens[MOST], wants[MOST], mosts[MOST], weights[MOST], withheld[MOST], rest, least[6];
     uint32_t places[MOST], groups[MOST], blamed[MOST], actives[MOST], count, met, row, numbers[CALLS];
     uint8_t flags[MOST], reasons[MOST], tights[MOST];
     /* of a round and its scheduler, of goals, and of a script */
@@ -69,6 +69,7 @@ static void ask(const struct tree *tree, struct answers *found)
 {
     size_t n = tree->n;
     uint32_t last = (uint32_t)n - 1, *numbers = found->numbers;
+    uint64_t first = 1, asked = 3;
 
     memset(found, 0, sizeof *found);
     numbers[0] = arbiter_plan(HOST, ROWS, found->amounts, n);
@@ -98,7 +99,8 @@ static void ask(const struct tree *tree, struct answers *found)
     numbers[17] = arbiter_limit_others(HOST, ROWS, found->amounts, n, tree->hungry, n, found->amounts, n, 0, found->limited, n, &found->met);
     numbers[18] = arbiter_serve(HOST, ROWS, tree->hungry, n, found->served, n, found->parts, n);
     numbers[19] = arbiter_goals(HOST, ROWS, found->amounts, n, 1, found->halves, n, found->come_to, n);
-    numbers[20] = arbiter_least_setting(HOST, ROWS, last, 3, no_formulas, n, tree->demands, n, tree->demands, n, 1, 10000, &found->least[4]);
+    numbers[20] = arbiter_settle(HOST, ROWS, no_formulas, n, tree->demands, n, tree->demands, n, &last, 1, &asked, 1, &last, 1, &last, 1, &first, 1,
+                                 &asked, 1, 1, &found->least[4], 1, &found->least[5]);
     atomic_fetch_add(&calls, CALLS);
 }
 
