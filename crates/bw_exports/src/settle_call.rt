@@ -149,7 +149,7 @@ fn settled_of(
 /// Each number begins as the first of its range, and becomes the least with which its goal is met,
 /// the others as they are then, goal after goal. `stuck` is the greatest number of 64 bits once
 /// none changes: all goals are met then. It is the place of a goal that no number of its range
-/// meets beside the others. It is the number of goals if numbers still change after 200 passes, or
+/// meets beside the others. It is the number of goals if numbers still change after 50 passes, or
 /// if logarithms do not tell a weight, which no test has seen. A pass makes two plans for each
 /// number that stays, one where that is the first of its range, and else one for each halving.
 ///

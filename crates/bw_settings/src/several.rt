@@ -10,7 +10,7 @@ use bw_model::Instance;
 use std::alloc::{AllocError, Global};
 
 /// Greatest number of passes over the goals.
-pub const MAX_PASSES: u32 = 200;
+pub const MAX_PASSES: u32 = 50;
 
 /// The end of passes over goals.
 #[derive(Clone, Copy, Debug, PartialEq, Eq)]
