@@ -116,7 +116,7 @@ none_busy [] idle = refl
 none_busy (x ∷ ps) idle =
     omega (arith, ap busy idle.0, none_busy ps idle.1, sum_by-cons busy x ps)
 
-none_run : (k : ℕ) (ps : List (Option Run)) → AllByRecursion (λ x. x ≡ None) ps
+pub none_run : (k : ℕ) (ps : List (Option Run)) → AllByRecursion (λ x. x ≡ None) ps
     → over_runs k one ps ≡ 0
 none_run k [] idle = refl
 none_run k (x ∷ ps) idle =

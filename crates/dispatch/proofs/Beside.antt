@@ -27,6 +27,7 @@ use Rattle.dispatch.specs.Steps.{is_due}
 use Rattle.dispatch.specs.Windows.{of_run, over_runs}
 use Rattle.dispatch.proofs.Backlog.{account_set, busy, free_one, one}
 use Rattle.dispatch.proofs.BacklogPicks.{run_of_same, run_of_other}
+use Rattle.dispatch.proofs.BacklogRuns.{none_run}
 use Rattle.dispatch.proofs.BacklogTime.{aged_runs, passed_at}
 use Rattle.dispatch.proofs.Counts.{length_set}
 use Rattle.dispatch.proofs.Exact.{is_due_of}
@@ -150,17 +151,6 @@ few_runs k (q ∷ ps) =
       few_runs k ps,
       sum_by-cons (of_run k one) q ps,
       sum_by-cons busy q ps,
-    )
-
-none_runs : (k : ℕ) (ps : List (Option Run)) → AllByRecursion (λ q. q ≡ None) ps
-    → over_runs k one ps ≡ 0
-none_runs k [] idle = refl
-none_runs k (q ∷ ps) idle =
-    omega (
-      arith,
-      ap (of_run k one) idle.0,
-      none_runs k ps idle.1,
-      sum_by-cons (of_run k one) q ps,
     )
 
 -- ---- each state of a run, of a leaf i and of one j that waits
@@ -838,10 +828,10 @@ lead_is_due s i j events idle short ne known_i known_j start run =
       cj = (account_at s j).share.charged
 
       none_i : s.slice * over_runs i one s.processors ≡ s.slice * 0
-      none_i = ap (λ m. s.slice * m) (none_runs i s.processors idle)
+      none_i = ap (λ m. s.slice * m) (none_run i s.processors idle)
 
       none_j : s.slice * over_runs j one s.processors ≡ s.slice * 0
-      none_j = ap (λ m. s.slice * m) (none_runs j s.processors idle)
+      none_j = ap (λ m. s.slice * m) (none_run j s.processors idle)
 
       first : Ahead s.slice overrun n a b ci cj i j 0 0 0 s
       first = record {
@@ -856,7 +846,7 @@ lead_is_due s i j events idle short ne known_i known_j start run =
         charge_j = omega (arith, none_j);
         lead = subst (λ (r : ℕ). (ci + 0 + (s.slice + overrun) * r) * b
             ≤ (cj + 0) * a + (most_ahead s.slice overrun n a b + 0 * (s.slice + overrun) * b))
-            (sym (none_runs i s.processors idle)) (omega (arith, start));
+            (sym (none_run i s.processors idle)) (omega (arith, start));
       }
 
       bound : (ci + (0 + used_in (λ k. k == i) s events)) * b
