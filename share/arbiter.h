@@ -247,7 +247,7 @@ uint32_t arbiter_least_processors(uint64_t processors, uint64_t period_us, uint6
  * that of `bases`, and no less than that of `floors`. So requests of containers make the weights of the containers, of their
  * pods and of the pods' classes. All else is as the rows say. A greater number gives its group no less. Numbers begin as
  * `firsts`. Each becomes the least that meets its goal, the others as they are then, goal after goal, until none changes, at
- * most 200 times. Each time makes two plans for a number that stays, and one where that is the first of its range.
+ * most 50 times. Each time makes two plans for a number that stays, and one where that is the first of its range.
  * Reads:
  *   formulas    the formula of arbiter_owned_weight by which the row's weight follows; 0 or any other number where it stays, as
  *               that of row 0 does
@@ -263,7 +263,7 @@ uint32_t arbiter_least_processors(uint64_t processors, uint64_t period_us, uint6
  * Writes:
  *   numbers  the number of each goal's owner
  *   stuck    the place of a goal that no number of its range meets beside the others; the number of goals where numbers change
- *            200 times, or logarithms do not tell a weight, which is of no number of shares; ARBITER_NO_LIMIT where all goals
+ *            50 times, or logarithms do not tell a weight, which is of no number of shares; ARBITER_NO_LIMIT where all goals
  *            are met, and each number is the least beside the others
  * Answers 0, or 50 where columns differ in length; 1 to 3 where the host is refused; 4 to 10 where the rows are refused; 20
  *   where a goal's group or its owner's row is no row, or neither of them is the other or below it. */

@@ -294,7 +294,7 @@ QUESTIONS = (
          " requests of containers make the weights of the containers, of their pods and of the"
          " pods' classes. All else is as the rows say. A greater number gives its group no less."
          " Numbers begin as `firsts`. Each becomes the least that meets its goal, the others as"
-         " they are then, goal after goal, until none changes, at most 200 times. Each time makes"
+         " they are then, goal after goal, until none changes, at most 50 times. Each time makes"
          " two plans for a number that stays, and one where that is the first of its range.",
          (HOST, ROWS,
           column("formulas", U32, "the formula of arbiter_owned_weight by which the row's weight"
@@ -311,7 +311,7 @@ QUESTIONS = (
           room("numbers", U64, "the number of each goal's owner"),
           result("stuck",
                  U64, "the place of a goal that no number of its range meets beside the others; the"
-                 " number of goals where numbers change 200 times, or logarithms do not tell a"
+                 " number of goals where numbers change 50 times, or logarithms do not tell a"
                  " weight, which is of no number of shares", NO_LIMIT,
                  "all goals are met, and each number is the least beside the others")),
          (*OF_PLAN, Refusal("20", "a goal's group or its owner's row is no row, or neither of them"

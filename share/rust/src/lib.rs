@@ -638,6 +638,80 @@ pub fn tune(host: Host, rows: &[Row], goals: &[u64], may: &[bool], guaranteed: b
     })
 }
 
+/// A goal of a group, and the number that an owner sets for it.
+#[derive(Clone, Copy, Debug, PartialEq, Eq)]
+pub struct OwnerGoal {
+    /// Row of the group.
+    pub group: u32,
+    /// Least slices of one period that the group is to get.
+    pub amount: u64,
+    /// Row whose number is set: the group, one above it or below it.
+    pub owner: u32,
+    /// Highest row that has the number too; the owner's for none.
+    pub top: u32,
+    /// Least number that may be set.
+    pub first: u64,
+    /// Greatest number that may be set.
+    pub last: u64,
+}
+
+/// Numbers that owners set for goals, one for each.
+#[derive(Clone, Debug, PartialEq, Eq)]
+pub enum Settling {
+    /// All goals are met, and each number is the least beside the others.
+    Settled(Vec<u64>),
+    /// No number of the range of the goal at this place meets it beside the others.
+    Stuck(u64),
+    /// Numbers still changed in the last pass, or logarithms do not tell a weight.
+    Unsettled,
+}
+
+/// The least numbers of their ranges that owners can set with which groups get at least so many slices, each the least beside
+/// the others.
+///
+/// `formulas` has the number of a formula of [`owned_weight`] for each row whose weight follows, and 0 for each other row. A row
+/// has the numbers of the goals whose owner's row it is, or lies below it and whose highest row is it or above it. Its number is
+/// what `bases` has and these, and no less than what `floors` has. If `guaranteed`, groups get their amounts whatever the others
+/// ask for.
+///
+/// # Errors
+/// As of [`plan`], then 20 where a goal's group or its owner's row is no row, or neither of them is the other or below it.
+pub fn settle(
+    host: Host,
+    rows: &[Row],
+    formulas: &[u32],
+    floors: &[u64],
+    bases: &[u64],
+    goals: &[OwnerGoal],
+    guaranteed: bool,
+) -> Result<Settling, Fault> {
+    let of_rows_of = |field: fn(&OwnerGoal) -> u32| -> Vec<u32> { goals.iter().map(field).collect() };
+    let numbers_of = |field: fn(&OwnerGoal) -> u64| -> Vec<u64> { goals.iter().map(field).collect() };
+    let (columns, mut numbers, mut stuck) = (Columns::of(rows), vec![0; goals.len()], 0);
+    let number = raw::settle(
+        host,
+        &columns,
+        formulas,
+        floors,
+        bases,
+        &of_rows_of(|each| each.group),
+        &numbers_of(|each| each.amount),
+        &of_rows_of(|each| each.owner),
+        &of_rows_of(|each| each.top),
+        &numbers_of(|each| each.first),
+        &numbers_of(|each| each.last),
+        u32::from(guaranteed),
+        &mut numbers,
+        &mut stuck,
+    );
+    of_rows(number, &columns)?;
+    Ok(match stuck {
+        raw::NO_LIMIT => Settling::Settled(numbers),
+        place if place < goals.len() as u64 => Settling::Stuck(place),
+        _ => Settling::Unsettled,
+    })
+}
+
 /// Goals with halves of others, and what goals come to at each row.
 ///
 /// `goals` and `guaranteed` are those of [`tune`]. Each leaf below the root with no goal at it or above it is to keep half of what
@@ -1123,6 +1197,31 @@ mod tests {
         assert_eq!(rest(200, 150, &[100, 300], &[50, 200]), Ok(Rest { amount: 400, guarantee: 400 }));
         assert_eq!(rest(200, 150, &[100], &[]), Err(fault(50, None)));
         assert_eq!(rest(1_000_000_001, 0, &[], &[]), Err(fault(9, None)));
+    }
+
+    #[test]
+    fn settles() {
+        let (host, rows) = (Host::default(), equal());
+        let goal = |group, amount| OwnerGoal {
+            group,
+            amount,
+            owner: group,
+            top: group,
+            first: 1,
+            last: 10000,
+        };
+        let both = [goal(1, 14), goal(2, 6)];
+        let asked = |goals: &[OwnerGoal], guaranteed| {
+            settle(host, &rows, &[0, 6, 6], &[0; 3], &[0; 3], goals, guaranteed)
+        };
+        for guaranteed in [false, true] {
+            assert_eq!(asked(&[], guaranteed), Ok(Settling::Settled(vec![])));
+            assert_eq!(asked(&both[..1], guaranteed), Ok(Settling::Settled(vec![208])));
+            // (slice 14 of row 1 costs 27/5, and slice 7 of row 2 13/2)
+            assert_eq!(asked(&both, guaranteed), Ok(Settling::Settled(vec![5, 2])));
+            assert_eq!(asked(&[goal(1, 14), goal(2, 7)], guaranteed), Ok(Settling::Stuck(0)));
+        }
+        assert_eq!(asked(&[goal(3, 1)], false), Err(fault(20, None)));
     }
 
     #[test]
