@@ -123,8 +123,12 @@ def of_tree(library, host, rows, chance):
     yield "guarantee", (host, rows, group)
     for call in ("least_weight", "least_limit", "least_processors"):
         yield call, (host, rows, group, amount)
-    for followers in ({}, {len(rows) - 1: arbiter.Follower(arbiter.WeightFormula.UNIT_WEIGHT)}):
-        yield "least_setting", (host, rows, group, amount, followers, 1, 10000)
+    follower = arbiter.Follower(arbiter.WeightFormula.UNIT_WEIGHT)
+    goals = [arbiter.OwnerGoal(group, amount, group, group, 1, 10000),
+             arbiter.OwnerGoal(0, 1, len(rows) - 1, 0, 0, 60)]
+    yield from (("settle", (host, rows, followers, goals[:count], guaranteed))
+                for count, guaranteed in ((0, False), (1, True), (2, False))
+                for followers in ({}, {len(rows) - 1: follower}))
 
 
 def of_owned():
@@ -208,7 +212,7 @@ def test_random_trees(both):
         rows = some_rows(chance)
         more = compare(both, of_tree(both[0], host, rows, chance))
         met, refused = met + more[0], refused + more[1]
-    assert met == 33 * TREES and met / 4 < refused < met * 3 / 4
+    assert met == 37 * TREES and met / 4 < refused < met * 3 / 4
 
 
 def test_no_tree(both):
@@ -235,7 +239,7 @@ def test_examples(both, path):
     told = both[0].script(host, text)
     assert len(told.names) > 1
     asked = [("script", (host, text)), *of_tree(both[0], host, told.columns, random.Random(SEED))]
-    assert compare(both, asked)[0] == 34
+    assert compare(both, asked)[0] == 38
 
 
 def test_many_groups(both):

@@ -59,6 +59,20 @@ class Range(NamedTuple):
     written: Callable[[int], str]
     # Why no greater number is asked for.
     most: str
+    # The number that stands; None where none is set, or none in these units.
+    standing: int | None = None
+
+    def parts_from(self, number: int) -> list[tuple[int, int]]:
+        """The parts, without the numbers below one."""
+        return [(max(first, number), last) for first, last in self.parts if last >= number]
+
+
+class Followers(NamedTuple):
+    """The groups whose weights follow settings that weigh some groups, and for each of these the
+    highest group whose number has its own among what it sums."""
+
+    groups: Mapping[str, Follower]
+    tops: Mapping[str, str]
 
 
 class Workload(NamedTuple):
@@ -109,10 +123,11 @@ class Owned:
         """The formula by which the setting that weighs a group makes its weight."""
         raise NotImplementedError
 
-    def followers(self, path: str) -> dict[str, Follower]:
-        """The groups whose weights follow the setting that weighs a group, while it stays within
-        one part of its range."""
-        return {path: Follower(self.formula)}
+    def followers(self, paths: Sequence[str]) -> Followers | None:
+        """The groups whose weights follow the settings that weigh some groups, while these stay
+        within one part of their ranges, and no less than they are. None where no sums tell them."""
+        return Followers({path: Follower(self.formula) for path in paths},
+                         {path: path for path in paths})
 
     @property
     def rule(self) -> str:

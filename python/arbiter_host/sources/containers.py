@@ -233,7 +233,7 @@ class ContainerSource(Measurable):
         cpus = "-" if group.quota is None else cpus_text(Fraction(1000 * group.quota, group.period))
         return [Range("cpu-shares", str(shares) if shares > 0 else "-",
                       [(units.MIN_SHARES, units.MAX_SHARES)], str,
-                      f"{units.MAX_SHARES} are the most"),
+                      f"{units.MAX_SHARES} are the most", shares if shares > 0 else None),
                 Range("cpus", cpus, [(LEAST_CPUS, 1000 * self.host.processors)],
                       lambda each: cpus_text(Fraction(each)), f"{self.host.processors} are all")]
 

@@ -14,7 +14,7 @@ from collections.abc import Iterable, Iterator, Mapping, Sequence, Set
 from contextlib import suppress
 from dataclasses import dataclass, replace
 from fractions import Fraction
-from typing import Any
+from typing import Any, NamedTuple
 
 from arbiter import Follower, Library, LimitFormula
 from arbiter_host.base import demands, names, units
@@ -23,7 +23,7 @@ from arbiter_host.base.faults import HostFault, NoHost, naming
 from arbiter_host.base.model import (MAX_GROUPS, NO_POD, Group, Model, PodNames, check_count,
                                      checked)
 from arbiter_host.base.names import NOWHERE, shown
-from arbiter_host.base.owned import Amounts, Owned, Range, Setting, Workload
+from arbiter_host.base.owned import Amounts, Followers, Owned, Range, Setting, Workload
 from arbiter_host.sources.conditions import (ANTI_AFFINITY, OF_OTHERS, NodeFacts,
                                              node_facts)
 from arbiter_host.sources.data import field, loads, table, tables, text_field
@@ -48,6 +48,17 @@ MOST_REPLICAS = 10000
 ABOVE_ALL = 1 << 60
 # A request of so many thousandths has the greatest shares; no greater one weighs more.
 MOST_REQUEST = units.MAX_SHARES * 1000 // 1024
+
+
+class Summed(NamedTuple):
+    """The request of a pod by those of some containers: its least one, and what it has beside them;
+    as it is, whether it is their sum, and whether the pod's class sums it."""
+
+    floor: int
+    base: int
+    request: int
+    is_sum: bool
+    is_in_class: bool
 
 
 def made_by(maker: dict[str, Any]) -> dict[str, Any]:
@@ -502,24 +513,53 @@ class PodSource(Measurable):
         return [(pod.quality, pod.amounts.request, *(pod.given(each).request for each in pod.parts))
                 for pod in self.pods]
 
-    def followers(self, path: str) -> dict[str, Follower]:
-        """The container, its pod and the pod's class. A pod that requests an amount itself keeps
-        it, and a class of pods that request nothing has no sum."""
-        pod, number, amounts = self.part(path)
+    def followers(self, paths: Sequence[str]) -> Followers | None:
+        """The containers, their pods and the pods' classes. A pod that requests an amount itself
+        keeps it, and a class of pods that request nothing has no sum. None where init containers
+        keep the number of one of several pods up, or of one pod beside several containers."""
         by_runtime, by_kubelet = (units.OF_REQUESTS[each] for each in (
             self.options.runtime, self.options.kubelet))
-        followers = {path: Follower(by_runtime)}
+        found = {path: Follower(by_runtime) for path in paths}
+        tops = {path: path for path in paths}
+        own: dict[str, list[str]] = {}
+        for path in paths:
+            own.setdefault(names.parent_path(path), []).append(path)
+        summed = [self.summed(some) for some in own.values()]
+        if len(paths) > 1 and not all(each is None or each.is_sum for each in summed):
+            return None
+        beside: Counter[str] = Counter()
+        floors: Counter[str] = Counter()
+        for (parent, some), each in zip(own.items(), summed):
+            if each is None:
+                continue
+            found[parent] = Follower(by_kubelet, each.floor, each.base)
+            top = names.parent_path(parent) if each.is_in_class else parent
+            tops.update(dict.fromkeys(some, top))
+            if each.is_in_class:
+                beside[top] += each.base - each.request
+                floors[top] += each.floor - each.request
+        others = self.requested_in("Burstable")
+        found.update({top: Follower(by_kubelet, others + floors[top], others + beside[top])
+                      for top in beside})
+        return Followers(found, tops)
+
+    def summed(self, paths: Sequence[str]) -> Summed | None:
+        """The sum of some containers of one pod; None where its weight follows none."""
+        pod = self.part(paths[0])[0]
         if pod.own.request is not None or pod.quality == "BestEffort":
-            return followers
-        least, most = (pod.with_amounts(number, Amounts(each, amounts.limit)).amounts.request or 0
-                       for each in (0, ABOVE_ALL))
-        parent, beside = names.parent_path(path), most - ABOVE_ALL
-        followers[parent] = Follower(by_kubelet, least, beside)
-        if pod.quality == "Burstable":
-            others = self.requested_in(pod.quality) - (pod.amounts.request or 0)
-            followers[names.parent_path(parent)] = Follower(by_kubelet, others + least,
-                                                            others + beside)
-        return followers
+            return None
+        parts = [self.part(path)[1:] for path in paths]
+
+        def amount(request: int) -> int:
+            after = pod
+            for number, amounts in parts:
+                after = after.with_amounts(number, Amounts(request, amounts.limit))
+            return after.amounts.request or 0
+
+        request, base = pod.amounts.request or 0, amount(ABOVE_ALL) - len(parts) * ABOVE_ALL
+        asked = sum(amounts.request or 0 for _, amounts in parts)
+        return Summed(amount(0), base, request, base + asked == request,
+                      pod.quality == "Burstable")
 
     def requested_in(self, quality: str) -> int:
         """Thousandths that the pods of a class request."""
@@ -534,7 +574,7 @@ class PodSource(Measurable):
         parts = [(0, 0), (1, request - 1), (request, request)]
         limits = [(least, least), (least + 1, limit)]
         return [Range("request", f"{now}m", [each for each in parts if each[0] <= each[1]],
-                      amount_text, f"{request}m is {of_request}"),
+                      amount_text, f"{request}m is {of_request}", now),
                 Range("limit", amount_text(amounts.limit),
                       [each for each in limits if each[0] <= each[1] <= limit],
                       amount_text, f"{limit}m is {of_limit}")]

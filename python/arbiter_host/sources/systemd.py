@@ -169,7 +169,7 @@ class Units(Owned):
         group, most = self.plain.groups[path], 10000 * self.plain.host.processors
         limit = None if group.quota is None else Fraction(10000 * group.quota, group.period)
         return [Range("CPUWeight", str(group.weight), [(units.MIN_WEIGHT, units.MAX_WEIGHT)], str,
-                      f"{units.MAX_WEIGHT} is the greatest"),
+                      f"{units.MAX_WEIGHT} is the greatest", group.weight),
                 Range("CPUQuota", "-" if limit is None else percent(limit), [(1, most)],
                       lambda each: percent(Fraction(each)),
                       f"{percent(Fraction(most))} are all CPUs")]

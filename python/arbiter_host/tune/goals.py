@@ -168,21 +168,12 @@ class Goals:
         """Plans under settings of the source."""
         return {}
 
-    @functools.cached_property
-    def found(self) -> dict[tuple[int, int, frozenset[Setting]], int | None]:
-        """The least values that were asked for: by the row of the goal's group, that of the
-        setting, and the other settings."""
-        return {}
-
-    def asking_beside(self, rows: Sequence[Row], goal: Goal) -> Sequence[Row]:
-        """Rows of groups under which a goal is to be met. Whatever others ask for, a group gets no
-        less than where all that are not under it ask for the most, but pause containers."""
-        if not self.is_guaranteed:
-            return rows
-        inside = {each.row for each in walk([goal.group])}
-        return [each if at in inside or group.children else each._replace(
-            demand=0 if group.group is not None and group.group.is_pause else units.MAX_DEMAND)
-            for at, (each, group) in enumerate(zip(rows, self.before.groups))]
+    def asking(self, rows: Sequence[Row]) -> Sequence[Row]:
+        """Rows of groups under which goals are to be met. Of guarantees pause containers ask for
+        nothing whatever the others do, so that their limit is 0."""
+        return [each._replace(limit=0) if self.is_guaranteed and group.group is not None
+                and group.group.is_pause else each
+                for each, group in zip(rows, self.before.groups)]
 
     def amount(self, after: Plan, row: int) -> int:
         """The measure of a group's goal in a plan."""

@@ -1,14 +1,17 @@
 """Settings that people own, such as requests, with which goals are met.
 
-They are raised one after another, each to the least value by a call of the library, whose contract
-is exact. A limit that is in the way is raised with what weighs its group. Where that is not enough,
-requests of others are lowered, unless demands are requests.
+They are raised together, each to the least value beside the others, by a call of the library, whose
+contract is exact. Where it has no such values, they are raised one after another: a limit that is
+in the way is raised with what weighs its group. Where that is not enough, requests of others are
+lowered, unless demands are requests.
 """
 from __future__ import annotations
 
-from collections.abc import Sequence
+from collections.abc import Mapping, Sequence
 from dataclasses import dataclass, replace
+from typing import NamedTuple
 
+from arbiter import OwnerGoal
 from arbiter_host.base import owned, search, units
 from arbiter_host.base.model import Model
 from arbiter_host.base.names import few, last_name, shown
@@ -28,6 +31,14 @@ LOWERED = ("; requests of others are lowered to one level, the greatest that was
            " raises; not proved to be the greatest")
 FOLLOW = "; the plan has the weights of {} too, which follow from sums of requests"
 NOR = "; nor does one where others request 1m"
+
+
+class Asked(NamedTuple):
+    """A goal, the row of the setting that it can be met by, and one part of its values."""
+
+    goal: Goal
+    row: int
+    part: tuple[int, int]
 
 
 @dataclass(frozen=True)
@@ -86,30 +97,74 @@ class Raised:
         changed = self.changed
         return changed.ranges(list(changed.plain.groups)[row - 1])
 
-    def least(self, goal: Goal, row: int, of: Range) -> int | None:
-        """The least value of what weighs a row that meets one goal: by the library's call, which
-        is exact, for each part of its values. Each is asked for once."""
-        others, found = (each for each in self.every if each.path != self.goals.before.groups[
-            row].path or each.key != of.key), self.goals.found
-        key = (goal.group.row, row, frozenset(others))
-        if key not in found and goal.group.row not in self.goals.beyond:
-            found[key] = next((value for first, last in of.parts if (value := self.with_value(
-                row, of, first).least_from(goal, row, first, last)) is not None), None)
-        return found.get(key)
-
-    def least_from(self, goal: Goal, row: int, first: int, last: int) -> int | None:
-        """The least value of one part of what weighs a row, of which these have the first."""
+    def settled(self, asked: Sequence[Asked]) -> Sequence[int] | Asked | None:
+        """The least numbers of parts with which goals are met, each beside the others, by one call
+        of the library; the first that no number meets beside the others; None where neither is
+        told. These have the first number of each part, or a lesser one."""
         model, before = self.model, self.goals.before
         assert model.owned is not None, "the model is that of a source"
         paths = [".", *model.groups]
-        rows, followers = {path: at for at, path in enumerate(paths)}, model.owned.followers(
-            paths[row])
-        library = before.engine.library
-        with asking("least setting"):
-            return library.least_setting(
-                before.planned_host, self.goals.asking_beside(model.rows(library), goal),
-                goal.group.row, goal.amount,
-                {rows[path]: each for path, each in followers.items()}, first, last)
+        found = model.owned.followers([paths[each.row] for each in asked])
+        if found is None:
+            return None
+        rows, library = {path: at for at, path in enumerate(paths)}, before.engine.library
+        with asking("settings"):
+            numbers, is_settled, stuck = library.settle(
+                before.planned_host, self.goals.asking(model.rows(library)),
+                {rows[path]: each for path, each in found.groups.items()},
+                [OwnerGoal(each.goal.group.row, each.goal.amount, each.row,
+                           rows[found.tops[paths[each.row]]], *each.part) for each in asked],
+                self.goals.is_guaranteed)
+        return numbers if is_settled else None if stuck is None else asked[stuck]
+
+    def least(self, goal: Goal, row: int, of: Range) -> int | None:
+        """The least value of what weighs a row that meets one goal, by a call of the library for
+        each part of its values."""
+        if goal.group.row in self.goals.beyond:
+            return None
+        for part in of.parts:
+            found = self.with_value(row, of, part[0]).settled([Asked(goal, row, part)])
+            if isinstance(found, list):
+                return int(found[0])
+        return None
+
+    def all_settled(self) -> Raised | None:
+        """These with the least values that meet the goals of all groups with such settings, each
+        beside the others, and no less than these have. None where no such values are told, or the
+        node has less than is requested then.
+
+        Where no value of one part of a range meets its goal, the next part is tried.
+        """
+        changed, plan = self.changed, self.plan()
+        asked: dict[int, list[Asked]] = {}
+        for goal in sorted(self.goals.goals, key=lambda each: self.goals.amount(
+                plan, each.group.row) >= each.amount):
+            row = self.row_of(goal)
+            if isinstance(row, int) and row not in asked:
+                of = changed.weighing(self.goals.before.groups[row].path)
+                if of.standing is not None or self.goals.amount(plan, goal.group.row) < goal.amount:
+                    asked[row] = [Asked(goal, row, part)
+                                  for part in of.parts_from(of.standing or 0)]
+        if not all(asked.values()) or not self.goals.beyond.isdisjoint(
+                each[0].goal.group.row for each in asked.values()):
+            return None
+        ranges = {row: changed.weighing(self.goals.before.groups[row].path) for row in asked}
+        while True:
+            first = [each[0] for each in asked.values()]
+            found = self.with_all(ranges, [each.part[0] for each in first]).settled(first)
+            if not isinstance(found, Asked):
+                known = None if found is None else self.with_all(ranges, found)
+                return known if known is not None and known.is_met else None
+            del asked[found.row][0]
+            if not asked[found.row]:
+                return None
+
+    def with_all(self, ranges: Mapping[int, Range], values: Sequence[int]) -> Raised:
+        """These with other values of what weighs some rows."""
+        known = self
+        for (row, of), value in zip(ranges.items(), values):
+            known = known if value == of.standing else known.with_value(row, of, value)
+        return known
 
     def least_limit(self, goal: Goal, row: int, of: Range) -> int | None:
         """The least value of a limit of a row that meets one goal, by plans. It is guessed to be
@@ -123,11 +178,16 @@ class Raised:
             lambda each: self.reaches(goal, row, of, each))) is not None), None)
 
     def is_least(self, goal: Goal, row: int) -> bool:
-        """Whether what weighs a row is all that is set of it, and the least that meets a goal."""
+        """Whether what weighs a row is all that is set of it, and the least that meets a goal. Only
+        the value and the one below it are tried of its part: no lesser one is enough if that is
+        not."""
         of = self.ranges(row)[0]
-        value = self.least(goal, row, of)
-        return value is not None and self.settings[row] == self.only([]).with_value(
-            row, of, value).settings[row]
+        value = of.standing
+        if value is None or {each.key for each in self.settings[row]} != {of.key}:
+            return False
+        parts = [(max(first, min(value - 1, last)) if last >= value else first, min(last, value))
+                 for first, last in of.parts if first <= value]
+        return self.least(goal, row, of._replace(parts=parts)) == value
 
     def reaches(self, goal: Goal, row: int, of: Range, value: int) -> bool:
         """Whether the plan with a value of a setting meets one goal."""
@@ -207,12 +267,18 @@ class Raised:
 
 
 def raised(start: Raised) -> Raised | str:
-    """Settings that are raised one after another until all goals are met."""
+    """Settings that are raised until all goals are met: together, or else one after another, and
+    together again after each limit that is raised."""
+    lifted: set[Setting] | None = None
     for _ in range(MOST_RAISES):
         place = start.goals.short(start.plan())
         if place is None:
             return start
-        more = start.raised(start.goals.goals[place])
+        limits = {each for each in start.every if each.key == start.source.keys[1]}
+        known = start.all_settled() if limits != lifted else None
+        if known is not None:
+            return known
+        more, lifted = start.raised(start.goals.goals[place]), limits
         if isinstance(more, str):
             return more
         start = more
