@@ -330,6 +330,15 @@ void BPF_PROG(plan_dequeue, struct task_struct *p, u64 flags)
     tell(here);
 }
 
+/* Sets what is left of a running task's slice. (Kernels before Linux 6.19 have no call for it.) */
+static __always_inline void set_slice(struct task_struct *p, u64 slice)
+{
+    if (bpf_ksym_exists(scx_bpf_task_set_slice))
+        scx_bpf_task_set_slice(p, slice);
+    else
+        p->scx.slice = slice;
+}
+
 /* Hands a picked task to the CPU on which this runs. The kernel waits until it has arrived. */
 static __always_inline void hand_over(u32 number, u64 slice)
 {
@@ -369,7 +378,7 @@ void BPF_PROG(plan_dispatch, s32 cpu, struct task_struct *prev)
     if (prev && (prev->scx.flags & SCX_TASK_QUEUED) && !is_exempt(prev))
         before = number_of(prev);
     if (before && is_extended(prev, before)) {
-        scx_bpf_task_set_slice(prev, MOMENT_NS);
+        set_slice(prev, MOMENT_NS);
         return;
     }
     if (takes_unplanned(on, cpu, now))
@@ -395,7 +404,7 @@ void BPF_PROG(plan_dispatch, s32 cpu, struct task_struct *prev)
     /* (read anew: else the verifier followed all above once more for each of its kinds) */
     prev = (struct task_struct *)ctx[1];
     if (found && found == on->about && prev)
-        scx_bpf_task_set_slice(prev, slice);
+        set_slice(prev, slice);
     else if (found)
         hand_over(found, slice);
     if (found)

@@ -3,7 +3,9 @@
  *
  * A section is some stages. Each changes one leaf, whose place in the trees is set after it, in one
  * place: the verifier follows each call by itself. What a section is about is in `here`, where its
- * values are no constants. All of this file runs with `lock`.
+ * values are no constants. A stage is a function: of what it had in registers and on its stack nothing
+ * is left in the loop. (Else each path through a stage is a state of the loop of its own, which that
+ * of Linux 6.18 follows to the end.) All of this file runs with `lock`.
  */
 #ifndef ARBITER_SECTIONS_H
 #define ARBITER_SECTIONS_H
@@ -31,7 +33,7 @@ static __always_inline void look_again(struct on_cpu *here, struct task *task)
 
 /* A stage does what it is named for, sets the next one, and returns the row of the leaf that has
  * changed: `NOBODY` if none has. */
-static __always_inline u32 do_leave(struct on_cpu *here)
+static __noinline u32 do_leave(struct on_cpu *here)
 {
     struct task *task = task_at(here->about);
 
@@ -49,7 +51,7 @@ static __always_inline bool is_awaited(struct on_cpu *on, u32 number)
 
 /* The kernel takes a task back: it waits nowhere, and is counted still. One that its CPU has not
  * got yet has used nothing. */
-static __always_inline u32 do_withdraw(struct on_cpu *here)
+static __noinline u32 do_withdraw(struct on_cpu *here)
 {
     struct task *task = task_at(here->about);
     bool is_due = is_awaited(on_cpu(task->cpu), here->about);
@@ -72,7 +74,7 @@ static __always_inline u32 do_withdraw(struct on_cpu *here)
 
 /* One of another leaf leaves that first. One that comes after a long sleep begins beside what
  * others have used: their slices are cut. */
-static __always_inline u32 do_arrive(struct on_cpu *here)
+static __noinline u32 do_arrive(struct on_cpu *here)
 {
     struct task *task = task_at(here->about);
     struct leaf *leaf = leaf_of(here->about_row);
@@ -99,7 +101,7 @@ static __always_inline u32 do_arrive(struct on_cpu *here)
     return task->row;
 }
 
-static __always_inline u32 do_push(struct on_cpu *here)
+static __noinline u32 do_push(struct on_cpu *here)
 {
     struct task *task = task_at(here->about);
 
@@ -111,7 +113,7 @@ static __always_inline u32 do_push(struct on_cpu *here)
 
 /* Chooses a task that waits for a CPU, once the leaves are due whose time has come. A leaf at a
  * limit is put aside. */
-static __always_inline u32 do_choose(struct on_cpu *here)
+static __noinline u32 do_choose(struct on_cpu *here)
 {
     struct best *best = &here->best;
     u32 row = soonest[1], spent;
@@ -146,7 +148,7 @@ static __always_inline u32 after_other(struct on_cpu *here, u32 own)
 
 /* Decides what is done with a choice. The task whose slice has ended may go on, or give way, or
  * have another CPU's task give way. A CPU whose slice was ended and that finds nobody looks again. */
-static __always_inline u32 do_decide(struct on_cpu *here, u32 own)
+static __noinline u32 do_decide(struct on_cpu *here, u32 own)
 {
     struct task *task = task_at(here->about);
     struct leaf *leaf = leaf_of(task->row);
@@ -185,7 +187,7 @@ static __always_inline u32 do_decide(struct on_cpu *here, u32 own)
 }
 
 /* Ends the slice of another CPU, and charges what was used of it. That CPU is picked for. */
-static __always_inline u32 do_end_other(struct on_cpu *here)
+static __noinline u32 do_end_other(struct on_cpu *here)
 {
     struct on_cpu *on = on_cpu(here->cpu);
     u32 ended = on->task;
@@ -202,7 +204,7 @@ static __always_inline u32 do_end_other(struct on_cpu *here)
     return task->row;
 }
 
-static __always_inline u32 do_run(struct on_cpu *here, u32 own)
+static __noinline u32 do_run(struct on_cpu *here, u32 own)
 {
     u32 number = here->chosen, cpu = here->cpu;
     struct on_cpu *on = on_cpu(cpu);
@@ -249,7 +251,7 @@ static __noinline u32 least_uncut(void)
 }
 
 /* Before a leaf wakes that is far behind the slices of others are cut. */
-static __always_inline u32 do_cut(struct on_cpu *here)
+static __noinline u32 do_cut(struct on_cpu *here)
 {
     u32 cpu = here->cuts && here->picked_for >= MOST_CPUS ? least_uncut() : MOST_CPUS;
 
@@ -263,39 +265,48 @@ static __always_inline u32 do_cut(struct on_cpu *here)
     return NOBODY;
 }
 
+/* Does a stage, and sets the place of the leaf that it changed. Returns whether there was one. */
+static __noinline bool do_stage(struct on_cpu *here, u32 own)
+{
+    u32 row;
+
+    switch (here->stage) {
+    case ARRIVE:
+        row = do_arrive(here);
+        break;
+    case PUSH:
+        row = do_push(here);
+        break;
+    case CHOOSE:
+        row = do_choose(here);
+        break;
+    case DECIDE:
+        row = do_decide(here, own);
+        break;
+    case RUN:
+        row = do_run(here, own);
+        break;
+    case END_OTHER:
+        row = do_end_other(here);
+        break;
+    case CUT:
+        row = do_cut(here);
+        break;
+    default:
+        return false;
+    }
+    if (row < NOBODY)
+        play_leaf(row);
+    return true;
+}
+
 static __noinline int work(struct on_cpu *here, u32 own)
 {
     u32 times;
 
     bpf_for(times, 0, MOST_STAGES) {
-        u32 row = NOBODY;
-        switch (here->stage) {
-        case ARRIVE:
-            row = do_arrive(here);
+        if (!do_stage(here, own))
             break;
-        case PUSH:
-            row = do_push(here);
-            break;
-        case CHOOSE:
-            row = do_choose(here);
-            break;
-        case DECIDE:
-            row = do_decide(here, own);
-            break;
-        case RUN:
-            row = do_run(here, own);
-            break;
-        case END_OTHER:
-            row = do_end_other(here);
-            break;
-        case CUT:
-            row = do_cut(here);
-            break;
-        default:
-            return 0;
-        }
-        if (row < NOBODY)
-            play_leaf(row);
     }
     return 0;
 }
