@@ -140,6 +140,7 @@ extern s32 scx_bpf_select_cpu_dfl(struct task_struct *p, s32 prev, u64 flags, bo
 extern void scx_bpf_dsq_insert(struct task_struct *p, u64 queue, u64 slice, u64 flags) __ksym;
 extern s32 scx_bpf_create_dsq(u64 queue, s32 node) __ksym;
 extern bool scx_bpf_dsq_move_to_local(u64 queue) __ksym;
+extern s32 scx_bpf_dsq_nr_queued(u64 queue) __ksym;
 extern bool scx_bpf_task_set_slice(struct task_struct *p, u64 slice) __ksym __weak;
 extern void scx_bpf_kick_cpu(s32 cpu, u64 flags) __ksym;
 extern u32 scx_bpf_reenqueue_local(void) __ksym;

@@ -361,7 +361,10 @@ static __always_inline void set_alarm(u32 cpu, u64 slice)
 /* Whether a CPU takes a task without a number before others. Its turn is shorter than a tick. */
 static __always_inline bool takes_unplanned(struct on_cpu *on, u32 cpu, u64 now)
 {
-    if (!is_unplanned_next(on, now) || !scx_bpf_dsq_move_to_local(UNPLANNED))
+    s32 waiting = unplanned ? scx_bpf_dsq_nr_queued(UNPLANNED) : 0;
+
+    if (waiting <= 0 || !is_unplanned_next(on, now, waiting)
+        || !scx_bpf_dsq_move_to_local(UNPLANNED))
         return false;
     set_alarm(cpu, TURN_NS);
     return true;

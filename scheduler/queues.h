@@ -13,13 +13,19 @@
 /* Twice the longest right spine of a heap of all tasks. */
 #define MOST_SPINE 40
 /* The kernel ends a scheduler whose task waits for 20 s. One that waits for half of it has a short
- * turn, of each CPU one in this time. It is charged as any. */
+ * turn, of each CPU one in `TURNS_NS`. With each second that it waits longer these are twice as many,
+ * up to so many doublings: then all that have a number have a turn in 20 s. It is charged as any. */
 #define TIMEOUT_MS 20000
 #define LONGEST_WAIT_NS 10000000000ULL
 #define TURN_NS 50000ULL
-#define TURNS_NS 500000ULL
-/* A CPU takes a task without a number before others once in this time, for as short a turn. */
+#define TURNS_NS 2000000ULL
+#define SECOND_NS 1000000000ULL
+#define MOST_DOUBLED 5
+/* A CPU takes a task without a number before others once in this time, for as short a turn. Where
+ * many wait it is more often, so that each has a turn in some seconds, but no more than in the
+ * least time. */
 #define UNPLANNED_NS 2000000ULL
+#define LEAST_UNPLANNED_NS 150000ULL
 /* The least slice where a limit leaves less: a timer ends it. */
 #define LEAST_SLICE_NS 250000ULL
 /* Who wakes interrupts a task of its leaf that is ahead by this, and is before others by as much. */
@@ -534,12 +540,35 @@ static __noinline u32 ahead_of(u32 number)
     return found;
 }
 
-/* Whether a CPU takes a task without a number before others, if one waits. */
-static __always_inline bool is_unplanned_next(struct on_cpu *on, u64 now)
+/* When the next turn of a kind may be: so long after the last one. What a slice took of that time is
+ * made up for. */
+static __always_inline u64 next_turn(u64 last, u64 now, u64 each)
 {
-    if (!unplanned || now < on->unplanned_ns)
+    return (last + GIVEN_NS > now ? last : now - GIVEN_NS) + each;
+}
+
+/* Notes a turn of a task that waited for long. */
+static __always_inline void note_turn(struct on_cpu *on, u32 number)
+{
+    u64 late = (time_ns - task_at(number)->since_ns - LONGEST_WAIT_NS) / SECOND_NS;
+
+    on->late_ns = next_turn(on->late_ns, time_ns,
+                TURNS_NS >> (late < MOST_DOUBLED ? late : MOST_DOUBLED));
+    late_turns++;
+}
+
+/* Whether a CPU takes a task without a number before others, where so many wait. */
+static __always_inline bool is_unplanned_next(struct on_cpu *on, u64 now, u64 waiting)
+{
+    u64 each = LONGEST_WAIT_NS / 2 * cpus_there / (waiting + 1);
+
+    if (now < on->unplanned_ns)
         return false;
-    on->unplanned_ns = now + UNPLANNED_NS;
+    if (each >= UNPLANNED_NS)
+        on->unplanned_ns = now + UNPLANNED_NS;
+    else
+        on->unplanned_ns = next_turn(on->unplanned_ns, now,
+                         each < LEAST_UNPLANNED_NS ? LEAST_UNPLANNED_NS : each);
     return true;
 }
 

@@ -211,8 +211,7 @@ static __noinline u32 do_run(struct on_cpu *here, u32 own)
 
     if (here->chosen_late) {
         note(here, EVENT_LATE, task_at(number)->row, 0, 0, 0);
-        on->late_ns = time_ns + TURNS_NS;
-        late_turns++;
+        note_turn(on, number);
     }
     run(here, number, cpu, here->chosen_due, here->chosen_late);
     here->stage = DONE;

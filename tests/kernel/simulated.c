@@ -66,7 +66,7 @@ struct bpf_spin_lock { int is_held; };
 #define SIGNAL (2 * MICRO)
 /* After so long in the queue of a scheduler the kernel ends it.  */
 #define WATCHDOG (TIMEOUT_MS * MILLI)
-#define MOST_JOBS 70000
+#define MOST_JOBS 90000
 #define MOST_CORES 64
 #define MOST_ROWS MOST_LEAVES
 #define MOST_GROUPS 256
@@ -345,7 +345,7 @@ static void dispatch(u32 cpu, bool goes) {
         dispatch_bypassed(cpu);
         return;
     }
-    if (is_unplanned_next(on, now) && unnumbered_count) {
+    if (unnumbered_count && is_unplanned_next(on, now, unnumbered_count)) {
         take_unplanned(cpu);
         if (goes)
             enqueue(last, cpu, false);
