@@ -456,19 +456,36 @@ void BPF_PROG(plan_update_idle, s32 cpu, bool is_idle)
     bpf_spin_unlock(&lock);
 }
 
-/* A number for a task; 0 if there is none left. */
-static __always_inline u32 take_number(void)
+/* A number for a task of a leaf; 0 if there is none left, or none for a new one of that leaf. */
+static __always_inline u32 take_number(u32 row, bool is_new)
 {
-    u32 number;
+    u32 number = 0;
 
     bpf_spin_lock(&lock);
-    number = first_free;
+    if (!is_new || has_number(row)) {
+        number = first_free;
+        if (number)
+            first_free = task_at(number)->newer;
+        else if (numbers < MOST_TASKS)
+            number = numbers++;
+    }
     if (number)
-        first_free = task_at(number)->newer;
-    else if (numbers < MOST_TASKS)
-        number = numbers++;
+        count_number(number, row);
     bpf_spin_unlock(&lock);
     return number;
+}
+
+/* The row of the group that a task is made in. (The kernel's calls take no group of such a place.) */
+static __always_inline u32 row_of_made(struct scx_init_task_args *args)
+{
+    struct cgroup *group = bpf_cgroup_from_id(BPF_CORE_READ(args, cgroup, kn, id));
+    u32 row = 0;
+
+    if (group) {
+        row = row_of_group(group);
+        bpf_cgroup_release(group);
+    }
+    return row;
 }
 
 SEC("struct_ops.s/plan_init_task")
@@ -481,7 +498,7 @@ s32 BPF_PROG(plan_init_task, struct task_struct *p, struct scx_init_task_args *a
 
     if (!kept)
         return -ENOMEM;
-    number = take_number();
+    number = take_number(row_of_made(args), args->fork);
     *kept = number;
     holder = bpf_map_lookup_elem(&holders, &number);
     if (!number || !holder) {
@@ -516,6 +533,8 @@ void BPF_PROG(plan_exit_task, struct task_struct *p, struct scx_exit_task_args *
     if (own)
         bpf_task_release(own);
     bpf_spin_lock(&lock);
+    leaf_of(task_at(number)->made_in)->numbered--;
+    numbered--;
     task_at(number)->newer = first_free;
     first_free = number;
     bpf_spin_unlock(&lock);

@@ -92,7 +92,8 @@ struct leaf {
     __s32 there;
     __s32 running;
     __s32 waiting;
-    __u32 pad;
+    /* Tasks with a number that were made in it. */
+    __u32 numbered;
     /* The clock of the task of it that was picked last. */
     __u64 task_clock;
     /* What it used, what its tasks waited in sum, and how long one or more waited: up to

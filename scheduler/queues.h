@@ -82,6 +82,9 @@ struct task {
     u32 has_mask;
     /* Whether it has not run since it woke. */
     u32 has_woken;
+    /* The leaf that it was made in, whose number it has. */
+    u32 made_in;
+    u32 pad;
     u64 since_ns;
     /* How much of its time was charged, and that over its weight. */
     u64 charged_ns;
@@ -101,12 +104,30 @@ OF_TASKS struct task tasks[MOST_TASKS];
 OF_TASKS struct mask masks[MOST_TASKS];
 /* The masks of trees; none is empty. */
 OF_TASKS struct mask tree_masks[MOST_MASKS + 1];
+/* The tasks that have a number. */
+GUARDED u32 numbered;
 /* Turns of tasks that waited for long, picks of one CPU for another, and tasks without a number. */
 u64 late_turns, handed_over, unplanned;
 
 static __always_inline struct task *task_at(u32 number)
 {
     return &tasks[WITHIN(number, MOST_TASKS)];
+}
+
+/* ---- Numbers */
+
+/* Whether a task that is made in a leaf gets a number: no leaf takes more than it leaves, so that no
+ * crowd has all. */
+static __always_inline bool has_number(u32 row)
+{
+    return leaf_of(row)->numbered < MOST_TASKS - 1 - numbered;
+}
+
+static __always_inline void count_number(u32 number, u32 row)
+{
+    task_at(number)->made_in = row;
+    leaf_of(row)->numbered++;
+    numbered++;
 }
 
 /* ---- Heaps */
@@ -544,7 +565,7 @@ static __noinline u32 ahead_of(u32 number)
  * made up for. */
 static __always_inline u64 next_turn(u64 last, u64 now, u64 each)
 {
-    return (last + GIVEN_NS > now ? last : now - GIVEN_NS) + each;
+    return (last + QUANTUM_NS > now ? last : now - QUANTUM_NS) + each;
 }
 
 /* Notes a turn of a task that waited for long. */
@@ -560,11 +581,11 @@ static __always_inline void note_turn(struct on_cpu *on, u32 number)
 /* Whether a CPU takes a task without a number before others, where so many wait. */
 static __always_inline bool is_unplanned_next(struct on_cpu *on, u64 now, u64 waiting)
 {
-    u64 each = LONGEST_WAIT_NS / 2 * cpus_there / (waiting + 1);
+    u64 each = LONGEST_WAIT_NS * cpus_there / (waiting + 1);
 
     if (now < on->unplanned_ns)
         return false;
-    if (each >= UNPLANNED_NS)
+    if (each >= SLICE_NS)
         on->unplanned_ns = now + UNPLANNED_NS;
     else
         on->unplanned_ns = next_turn(on->unplanned_ns, now,

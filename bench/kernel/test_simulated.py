@@ -267,10 +267,13 @@ CASES = {
     # crowds that all want: each task has a turn before the kernel ends the scheduler
     **{f"{count} tasks on {cpus} CPUs": Case(
         cpus, (f"a,100,0,{cpus},{ALWAYS}:g={500 * cpus}", f"a,100,0,{count},{ALWAYS}:g={400 * cpus}"),
-        lacks={1: most}, seconds=40) for count, cpus, most in ((8000, 1, 30), (65000, 2, 700))},
+        lacks={1: most}, seconds=40) for count, cpus, most in ((8000, 1, 30), (65000, 2, 60))},
     "12000 tasks without a number": Case(
         2, (f"a,100,0,2,{ALWAYS}:g=1000", "t,100,10000,65533,1,999999999,999999999,-1:g=100",
             f"+a,100,10000,12000,{ALWAYS}"), lacks={1: 120}, seconds=40),
+    "a crowd that would have all numbers": Case(
+        2, ("t,100,10000,70000,1,999999999,999999999,-1:g=100", f"a,95,0,2,{ALWAYS}:g=950",
+            f"a,95,0,4,{ALWAYS}:g=950"), {2: (100, 1), 3: (100, 1)}, {2: 20, 3: 20}, seconds=10),
     # all leaves that there may be
     "4095 leaves": Case(
         2, (f"a,100000,0,2,{ALWAYS}:g=1000", *(f"a,24,0,1,{ALWAYS}:g=0.244" for _ in range(4094))),

@@ -94,7 +94,7 @@ struct core {
     /* The job that it has, and the one that it had last.  */
     struct job *job, *last;
     s64 slice;
-    u64 since, tick, kick;
+    u64 since, tick, kick, alarm;
     /* The job that leaves it still, when the kernel hands that over, and the number that it took.
      */
     struct job *leaving;
@@ -126,7 +126,7 @@ struct seen {
     u32 delay_count, delays[MOST_DELAYS];
 };
 
-static struct job jobs[MOST_JOBS];
+static struct job jobs[MOST_JOBS], *jobs_by_number[MOST_TASKS];
 static struct core cores[MOST_CORES];
 static struct seen rows_seen[MOST_ROWS], groups_seen[MOST_GROUPS];
 static u32 job_count, core_count, row_count = 1, group_count = 1, budget_count = 1;
@@ -232,8 +232,7 @@ static void set_on_for(u32 cpu, struct job *job, u64 slice) {
     job->cpu = cpu;
     core->slice = slice;
     core->since = now;
-    if (slice < GIVEN_NS && now + slice < core->kick)
-        core->kick = now + slice;
+    core->alarm = slice < GIVEN_NS ? now + slice : NONE;
 }
 
 static void set_on(u32 cpu, struct job *job) {
@@ -369,7 +368,7 @@ static void dispatch(u32 cpu, bool goes) {
     if (goes && (found != before || !before))
         enqueue(last, cpu, false);
     if (found && (found == before || !task_at(found)->is_passing))
-        set_on(cpu, &jobs[found - 1]);
+        set_on(cpu, jobs_by_number[found]);
     else if (!found)
         take_unplanned(cpu);
 }
@@ -390,7 +389,7 @@ static void end_leaving(u32 cpu) {
     else if (taken->state != RUNS || taken->cpu != cpu)
         kick(cpu);
     else if (!taken->is_passing)
-        set_on(cpu, &jobs[core->taken - 1]);
+        set_on(cpu, jobs_by_number[core->taken]);
 }
 
 /* Where a task of turns is in its turn.  */
@@ -556,7 +555,8 @@ static u64 next_event(u64 beat) {
         next = rows_seen[row].changes_at < next ? rows_seen[row].changes_at : next;
     for (u32 cpu = 0; cpu < core_count; cpu++) {
         struct core *core = &cores[cpu];
-        u64 kick = core->is_taken || core->leaving ? NONE : core->kick;
+        u64 kick = core->kick < core->alarm ? core->kick : core->alarm;
+        kick = core->is_taken || core->leaving ? NONE : kick;
         next = core->leaving && core->leaves_at < next ? core->leaves_at : next;
         u64 ends = ends_at(core), first = core->tick < kick ? core->tick : kick;
         first = ends < first ? ends : first;
@@ -816,9 +816,11 @@ static void run_cores(void) {
             end_leaving(cpu);
         if (ends_at(core) <= now)
             end_work(cpu);
-        if (core->kick > now || core->leaving)
+        if ((core->kick > now && core->alarm > now) || core->leaving)
             continue;
         core->kick = NONE;
+        if (core->alarm <= now)
+            core->alarm = NONE;
         if (!core->job || core->slice <= 0)
             dispatch(cpu, core->job != NULL);
     }
@@ -947,7 +949,11 @@ static void add_jobs(struct job model, u64 count_of_jobs) {
     for (; count_of_jobs; count_of_jobs--) {
         struct job *job = &jobs[job_count++];
         *job = model;
-        job->number = job_count < MOST_TASKS ? job_count : 0;
+        job->number = has_number(job->row) ? numbered + 1 : 0;
+        if (job->number) {
+            count_number(job->number, job->row);
+            jobs_by_number[job->number] = job;
+        }
         unplanned += !job->number;
         if (!job->is_bound)
             job->cpu = chance(core_count);
@@ -1126,7 +1132,8 @@ int main(int count_of_words, char **words) {
     rows_seen[0].amount = 1;
     rows_seen[0].changes_at = NONE;
     for (u32 cpu = 0; cpu < core_count; cpu++) {
-        cores[cpu] = (struct core){ .tick = TICK + cpu * MICRO, .kick = NONE, .changes = NONE };
+        cores[cpu] = (struct core){ .tick = TICK + cpu * MICRO, .kick = NONE, .alarm = NONE,
+                                     .changes = NONE };
         set_idle(on_cpu(cpu), true);
         on_cpu(cpu)->is_there = 1;
     }
