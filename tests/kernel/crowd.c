@@ -9,6 +9,10 @@
        Prints `uses CLOCK US..` once a second, from AT on: what the group of each cpu.stat has used.
        It goes before all tasks.
 
+   crowd takes CPU ON_MS OFF_MS START END
+       Has a CPU for itself as a real-time task: for ON_MS, after OFF_MS without it, and so on.
+       Prints `took NS`.
+
    START, END, AT and CLOCK are nanoseconds of CLOCK_MONOTONIC.  */
 #define _GNU_SOURCE
 #include <fcntl.h>
@@ -24,6 +28,7 @@
 #include <time.h>
 #include <unistd.h>
 
+#define MILLI 1000000LL
 #define SECOND 1000000000LL
 #define STACK 4096
 #define MOST_TOLD 4
@@ -112,7 +117,28 @@ static int uses(int count, char **words) {
     return 0;
 }
 
+static int takes(char **words) {
+    struct sched_param first = { .sched_priority = 40 };
+    int64_t on = atoll(words[1]) * MILLI, off = atoll(words[2]) * MILLI;
+    int64_t at = atoll(words[3]), took = 0;
+    cpu_set_t set;
+    CPU_ZERO(&set);
+    CPU_SET(atoi(words[0]), &set);
+    if (sched_setaffinity(0, sizeof set, &set) || sched_setscheduler(0, SCHED_FIFO, &first))
+        perror("crowd: takes");
+    while ((at += off) < atoll(words[4])) {
+        sleep_until(at);
+        int64_t from = read_clock(CLOCK_MONOTONIC), now = from;
+        for (at += on; now < at; now = read_clock(CLOCK_MONOTONIC))
+            ;
+        took += now - from;
+    }
+    return printf("took %lld\n", (long long)took) < 0;
+}
+
 int main(int count, char **words) {
+    if (count == 7 && strcmp(words[1], "takes") == 0)
+        return takes(words + 2);
     if (count > 4 && strcmp(words[1], "uses") == 0)
         return uses(count - 2, words + 2);
     if (count == 6)
