@@ -87,7 +87,7 @@ pub fn instance_where(
     instance_of(alloc, host, columns)
 }
 
-/// What a caller gives: a host, the rows of a tree, and whether the other columns fit the rows.
+/// A host, the rows of a tree, and whether a caller's other columns fit the rows.
 #[derive(Clone, Copy)]
 pub struct Request<'a> {
     /// Whether each of the caller's other columns has the rows' length.

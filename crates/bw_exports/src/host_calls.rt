@@ -1,4 +1,4 @@
-//! What operators write, in slices of a host's period and back, and the host that is planned,
+//! Slices of a host's period for what operators write, and back, and the host that is planned,
 //! called from C.
 ghost use Rattle.std.specs.Prelude.{◌≡◌, ◌<◌, Ok, ◌≢◌};
 ghost use Rattle.bw_columns.specs.Demand.{slices_for};

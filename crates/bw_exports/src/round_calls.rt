@@ -1,4 +1,4 @@
-//! What a round of a loop asks for, and what the last rounds came to, called from C.
+//! Demands of a round of a loop, and judgements of its last rounds, called from C.
 ghost use Rattle.std.specs.Prelude.{◌≡◌, ◌<◌, ◌∷◌, [], length};
 ghost use Rattle.bw_columns.specs.Asked.{are_of_length};
 ghost use Rattle.bw_owned.specs.Round.{AreRoundColumns};
