@@ -28,7 +28,7 @@ aims_in measure groups amounts owners tops firsts lasts =
       lasts = lasts;
     }
 
--- The number of what came of goals, of which there are so many: the greatest number where numbers
+-- The number of an end of passes over so many goals: the greatest number where numbers
 -- are settled, the place of a goal that is stuck, and else the number of goals.
 abbrev pub settling_number : ℕ → Settling → ℕ
 settling_number count Settled = NO_LIMIT
@@ -36,7 +36,7 @@ settling_number count (Stuck k) = k
 settling_number count Unsettled = count
 settling_number count Untold = count
 
--- numbers of owners for goals, and what came of them
+-- numbers of owners for goals, and the end of the passes over these
 pub record IsSettlingOf (groups : Groups) (follows : Follows) (aims : Aims) (numbers : List ℕ)
     (settling : Settling) : Type 0 where
   pub aims_are : AreAims groups.rows aims

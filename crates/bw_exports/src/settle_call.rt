@@ -52,7 +52,7 @@ fn are_fit(rows: usize, count: usize, following: &Following<'_>, goals: &Goals<'
     rows_are_fit(rows, following) && goals_are_fit(count, goals)
 }
 
-// The number of what came of goals, of which there are so many.
+// The number of an end of passes over so many goals.
 fn settling_number(count: usize, settling: Settling) -> u64
     ensures { result ≡ settling_number count settling }
 {
@@ -63,7 +63,7 @@ fn settling_number(count: usize, settling: Settling) -> u64
     }
 }
 
-// What came of goals, and the numbers of their owners.
+// The end of passes over goals, and the numbers of their owners.
 #[derive(Drop)]
 struct Found {
     settling: Settling,

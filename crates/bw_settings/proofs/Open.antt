@@ -114,7 +114,8 @@ module _ (grow : WeightsGrow) (groups : Groups) (follows : Follows) (aims : Aims
           | inr out ↦ elim given [
             | inl by ↦ absurd (no_zero by.0 (by.1 ∙ those_out h inside out))
             | inr none ↦
-                subst (λ v. IsWeightBy (weight_of groups.rows h) (get_or follows.formulas h 0) v weight)
+                subst (λ v. IsWeightBy (weight_of groups.rows h) (get_or follows.formulas h 0) v
+                weight)
                 (without_open n h out)
                 (subst (λ w. IsWeightBy (weight_of groups.rows h) (get_or follows.formulas h 0)
                 (number_with groups.rows follows aims (set numbers k 0) h) w)

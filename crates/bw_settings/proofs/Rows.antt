@@ -56,13 +56,15 @@ module _ (lighter : LighterHasNoMore) (grow : WeightsGrow) (groups : Groups) (fo
   reloaded = record {
     tree = record {
       as_many = two.numbered.as_many ∙ sym one.numbered.as_many;
-      parents = λ h. (tree_kept groups follows.formulas (number_at follows more) (length groups.rows) b
-          two.numbered).parents h
-          ∙ sym ((tree_kept groups follows.formulas (number_at follows number) (length groups.rows) a
-          one.numbered).parents h);
+      parents = λ h.
+          (tree_kept groups follows.formulas (number_at follows more) (length groups.rows)
+          b two.numbered).parents h
+          ∙ sym ((tree_kept groups follows.formulas (number_at follows number) (length groups.rows)
+          a one.numbered).parents h);
     };
-    demands = λ h. demand_kept groups follows.formulas (number_at follows more) (length groups.rows) b
-        two.numbered h
+    demands = λ h.
+        demand_kept groups follows.formulas (number_at follows more) (length groups.rows)
+        b two.numbered h
         ∙ sym (demand_kept groups follows.formulas (number_at follows number) (length groups.rows) a
         one.numbered h);
     limits = λ h. limit_kept groups follows.formulas (number_at follows more) (length groups.rows) b
@@ -120,7 +122,7 @@ module _ (lighter : LighterHasNoMore) (grow : WeightsGrow) (groups : Groups) (fo
       way_gains a b one.valid two.valid reloaded xs ys is_plan is_other lighter group
       (omega (arith, inside, one.numbered.as_many)) (λ h h_in above. heavier h h_in) beside
 
-  -- The same where all that are not under the group ask for the most.
+  -- Those in which all that are not under the group ask for the most.
   busy_reloaded : IsReloaded (busy_groups a group) (busy_groups b group)
   busy_reloaded = record {
     tree = busy_tree a b one.valid two.valid group reloaded.tree reloaded.demands;
@@ -229,7 +231,8 @@ module _ (groups : Groups) (formulas : List ℕ) (number_of : ℕ → ℕ) (h we
         (sym (weight_elsewhere k other))
   ]
 
-  pub one_more_follows : IsWeightBy (weight_of groups.rows h) (slice_index formulas h) (number_of h) weight
+  pub one_more_follows : IsWeightBy (weight_of groups.rows h) (slice_index formulas h)
+      (number_of h) weight
       → IsNumberedTo groups formulas number_of (h + 1)
       (with_row others h weight (row_of others.rows h).limit)
   one_more_follows by = record {

@@ -64,12 +64,12 @@ abbrev pub counts_in : List Row → Aims → ℕ → ℕ → Bool
 counts_in rows aims h k =
     is_under rows h (slice_index aims.owners k) && is_under rows (slice_index aims.tops k) h
 
--- what a row has of one goal's number
+-- the part of one goal's number that a row has
 abbrev pub part_in : List Row → Aims → List ℕ → ℕ → ℕ → ℕ
 part_in rows aims numbers h k =
     (if counts_in rows aims h k then slice_index numbers k else 0)
 
--- what a row has of all numbers
+-- the sum of all numbers that a row has
 abbrev pub summed : List Row → Aims → List ℕ → ℕ → ℕ
 summed rows aims numbers h =
     sum_by (part_in rows aims numbers h) (range_with_len 0 (length aims.owners))

@@ -7,7 +7,8 @@ use Rattle.bw_settings.proofs.given.answer_at.Goals.{then-enough, else-enough}
 pub returns : goal.returns
 returns c =
     let made : IsNumbered c.args.instance.now c.args.following.now.formulas.now
-    (number_at (follows_of c.args.following.now) c.args.number) c.in-Made.other = rw c.in-Made.is at c.in_ok-instance_at.ensures in
+    (number_at (follows_of c.args.following.now) c.args.number) c.in-Made.other =
+    rw c.in-Made.is at c.in_ok-instance_at.ensures in
     elim c.if-enough.branch [
       | then-enough w ↦ rw w.result-is (record {
         others = c.in-Made.other;

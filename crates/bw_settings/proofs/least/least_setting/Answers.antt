@@ -7,6 +7,6 @@ use Rattle.bw_settings.proofs.least.least_setting.Goals as goal
 pub returns-in-TooLittle : goal.returns-in-TooLittle
 returns-in-TooLittle c =
     let none : (lesser : ℕ) → lesser ≤ c.args.last
-    → GivesAt c.args.measure c.args.instance.now (follows_of c.args.following.now) c.args.group c.args.amount
-    lesser → ⊥ = rw c.in-TooLittle.is at c.in_ok-answer_at.ensures in
+    → GivesAt c.args.measure c.args.instance.now (follows_of c.args.following.now) c.args.group
+    c.args.amount lesser → ⊥ = rw c.in-TooLittle.is at c.in_ok-answer_at.ensures in
     λ number first last gives. none number last gives

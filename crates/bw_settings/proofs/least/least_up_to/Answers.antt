@@ -8,8 +8,8 @@ pub loop-low-preserved : goal.loop-low-preserved
 loop-low-preserved c =
     let none : (lesser : ℕ)
     → lesser ≤ c.loop-low.low + (c.loop-low.high - c.loop-low.low) / 2
-    → GivesAt c.args.measure c.args.instance.now (follows_of c.args.following.now) c.args.group c.args.amount
-    lesser → ⊥ = rw c.in-TooLittle.is at c.in_ok-answer_at.ensures in
+    → GivesAt c.args.measure c.args.instance.now (follows_of c.args.following.now) c.args.group
+    c.args.amount lesser → ⊥ = rw c.in-TooLittle.is at c.in_ok-answer_at.ensures in
     record {
       first = omega (arith, c.loop-low.invariant.first);
       order = omega (arith, c.loop-low-test.true);
