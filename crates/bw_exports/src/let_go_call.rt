@@ -27,10 +27,10 @@ fn are_fit(
 
 /// Which groups a loop lets go of, since limits do harm to them, and why.
 ///
-/// `backs` and `turns` are those of [`crate::swings_call::arbiter_swings`]: of the limit of each
+/// `backs` and `turns` are those of [`crate::round_calls::arbiter_swings`]: of the limit of each
 /// group, and of what it asks for. `moved` has by how much its use changed in the last rounds,
 /// `left` what it left of its plans, and `guessed` what it used where its hunger was a guess, all
-/// in slices. `lost` and `guesses` are those of [`crate::judged_call::arbiter_judged`].
+/// in slices. `lost` and `guesses` are those of [`crate::round_calls::arbiter_judged`].
 ///
 /// The answer is 0 if `go` and `reason` are written: 1 in `go` for a group that goes, else 0.
 /// `reason` is the first of these. 1: a limit went back for 60 rounds. Of the groups whose demand

@@ -133,14 +133,14 @@ fn settled_of(
 /// The least numbers of their ranges that owners can set, with which groups get at least so many
 /// slices: each is the least beside the others.
 ///
-/// The rows are those of [`crate::plan_call::arbiter_plan`]. A goal has its group, the slices of a
+/// The rows are those of [`crate::plan_calls::arbiter_plan`]. A goal has its group, the slices of a
 /// period that it is to get, and the row of its owner's number: the group, one above it or below
 /// it. The plan is to give them or, if `guaranteed` is not 0, the group is to get them whatever the
 /// groups ask for that are not under it. The number is one from the goal's `firsts` to its `lasts`.
 /// The owner's row has it, and those above it up to the row of `tops`.
 ///
 /// `formulas` has the number of a formula for each row whose weight follows, as
-/// [`crate::owned_weight_call::arbiter_owned_weight`] has it, and 0 or any other number for a row
+/// [`crate::owned_calls::arbiter_owned_weight`] has it, and 0 or any other number for a row
 /// whose weight stays. A row's number is what `bases` has and the numbers that it has of goals, up
 /// to the greatest one, and no less than what `floors` has. So the request of a container is that
 /// of the container, and with those of the others that of its pod and of the pod's class. The
