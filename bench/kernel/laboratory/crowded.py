@@ -133,7 +133,8 @@ def told(host: Host, lines: Sequence[str]) -> dict[str, Any]:
     words = [line.split() for line in lines]
     rows = [[int(each) for each in line[1:]] for line in words if line[:1] == ["uses"]]
     found = {line[0]: " ".join(line[1:]) for line in words
-             if line[:1] in (["kernel"], ["state"], ["counts"], ["said"], ["kernel-said"])}
+             if line[:1] in (["kernel"], ["state"], ["counts"], ["plugged"], ["said"],
+                              ["kernel-said"])}
     return {"found": found, "crowds": [line for line in lines if line.startswith("crowd ")],
             "points": {name: points(host, rows, phase) for name, phase in host.phases.items()},
             "pieces": {line[1]: line[2:] for line in words if line[:1] == ["pieces"]},
