@@ -601,7 +601,7 @@ def test_a_quota_in_the_way(ctl, folder):
 
 
 BUSY = ["--want", "busy", "--period", "100ms"]
-A, B, C = (f"kubepods/burstable/x:{name}/c" for name in "abc")
+A, B, C, E = (f"kubepods/burstable/x:{name}/c" for name in "abce")
 
 
 def test_requests_of_others_are_lowered(ctl, folder):
@@ -636,6 +636,38 @@ def test_only_a_request_of_another_may_change(ctl, folder):
     assert found["settings"]["told"].endswith(tune_settings.FOLLOW.format("burstable, x:b"))
     way = asked(ctl, source, "x/a/c=750m", words=words)["settings"]
     assert changes(way) == {B: ("300m", "28m")} and after_sets(ctl, source, way, BUSY)[A] >= 750
+
+
+@pytest.mark.parametrize("more", [[], ["--guaranteed"]])
+def test_requests_are_raised_together(ctl, folder, more):
+    """Each request is the least beside the others: with one thousandth less its goal is not met, by
+    the plan of all that are busy, of which each group has its guarantee."""
+    source = node_of(folder, a="50m", b="60m", c="300m", e="100m")
+    goals = {A: 300, B: 250, E: 120}
+    way = asked(ctl, source, *(f"{path}={least}m" for path, least in goals.items()),
+                words=["--want", "busy", *more])["settings"]
+    assert way["told"] == tune_settings.BESIDE + goals_.NEEDED
+    assert {path: now for path, (now, _) in changes(way).items()} == {
+        A: "50m", B: "60m", E: "100m"}
+    found = after_sets(ctl, source, way, BUSY)
+    assert all(found[path] >= least for path, least in goals.items()), found
+    for place, each in enumerate(way["changes"]):
+        less = f"{each['group']}.request={int(each['then'][:-1]) - 1}m"
+        sets = [*way["set"][:place], less, *way["set"][place + 1:]]
+        assert after_sets(ctl, source, {"set": sets}, BUSY)[each["group"]] < goals[each["group"]]
+
+
+def test_requests_of_pods_whose_init_containers_ask_for_more(ctl, folder):
+    """No sum of the class tells its number then: requests are raised one after another."""
+    source = node_of(folder, a="50m", b="60m", c="300m")
+    told = json.loads(source.read_text())
+    for pod in told["items"][:2]:
+        pod["spec"]["initContainers"] = [{"name": "i", "resources": {"requests": {"cpu": "200m"}}}]
+    source.write_text(json.dumps(told))
+    way = asked(ctl, source, "x/a/c=300m", "x/b/c=300m", words=["--want", "busy"])["settings"]
+    assert way["told"] == tune_settings.BESIDE + goals_.NEEDED
+    found = after_sets(ctl, source, way, BUSY)
+    assert found[A] >= 300 and found[B] >= 300
 
 
 def test_requests_that_demands_follow_are_not_lowered(ctl, folder):
