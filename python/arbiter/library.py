@@ -354,8 +354,9 @@ class Library:
         many slices of one period, each the least beside the others.
 
         The plan is to give them, or they are to be guaranteed. The weights of `followers` follow
-        the numbers of goals that are set at or below them. All else is as the rows say. Refused as a plan is, then 20 NotFound if a group or an owner's row
-        is no row, or neither of the two is the other or below it.
+        the numbers of goals that are set at or below them. All else is as the rows say. Refused as
+        a plan is, then 20 NotFound if a group or an owner's row is no row, or neither of the two is
+        the other or below it.
         """
         columns = Columns.of(rows)
         formulas, floors, bases = (zeros(kind, len(columns)) for kind in (U32, U64, U64))

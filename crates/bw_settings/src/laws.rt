@@ -1,6 +1,8 @@
-//! Law of what owners set for goals, the contract of a function that does nothing.
+//! Laws of what owners set for goals, each the contract of a function that does nothing.
+ghost use Rattle.std.specs.Prelude.{◌≡◌};
 ghost use Rattle.bw_settings.specs.Settings.{GreaterSettingsGiveNoLess};
 
+use crate::several::MAX_PASSES;
 use bw_owned::weights_grow;
 use bw_plan::there_is_one_plan;
 use bw_questions::laws::lighter_has_no_more;
@@ -17,3 +19,8 @@ pub fn greater_settings_give_no_less()
     lighter_has_no_more();
     weights_grow();
 }
+
+/// Law: the numbers of several owners are settled in at most 50 passes, or not at all.
+pub fn passes_are_few()
+    ensures { MAX_PASSES ≡ 50 }
+{}

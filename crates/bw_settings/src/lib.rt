@@ -19,5 +19,5 @@ mod several;
 
 pub use following::Following;
 pub use goals::Goals;
-pub use laws::greater_settings_give_no_less;
+pub use laws::{greater_settings_give_no_less, passes_are_few};
 pub use several::{MAX_PASSES, Settling, settle};

@@ -1211,8 +1211,10 @@ mod tests {
             last: 10000,
         };
         let both = [goal(1, 14), goal(2, 6)];
+        // (a row whose formula is 0 keeps its weight)
         let asked = |goals: &[OwnerGoal], guaranteed| {
-            settle(host, &rows, &[0, 6, 6], &[0; 3], &[0; 3], goals, guaranteed)
+            let formulas = [0, 6, if goals.len() > 1 { 6 } else { 0 }];
+            settle(host, &rows, &formulas, &[0; 3], &[0; 3], goals, guaranteed)
         };
         for guaranteed in [false, true] {
             assert_eq!(asked(&[], guaranteed), Ok(Settling::Settled(vec![])));
