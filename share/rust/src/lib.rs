@@ -1211,17 +1211,17 @@ mod tests {
             last: 10000,
         };
         let both = [goal(1, 14), goal(2, 6)];
-        // (a row whose formula is 0 keeps its weight)
         let asked = |goals: &[OwnerGoal], guaranteed| {
-            let formulas = [0, 6, if goals.len() > 1 { 6 } else { 0 }];
-            settle(host, &rows, &formulas, &[0; 3], &[0; 3], goals, guaranteed)
+            settle(host, &rows, &[0, 6, 6], &[0; 3], &[0; 3], goals, guaranteed)
         };
         for guaranteed in [false, true] {
             assert_eq!(asked(&[], guaranteed), Ok(Settling::Settled(vec![])));
-            assert_eq!(asked(&both[..1], guaranteed), Ok(Settling::Settled(vec![208])));
+            // (slice 14 of row 1 costs 27/3, and slice 7 of row 2, whose number is 0, 13)
+            assert_eq!(asked(&both[..1], guaranteed), Ok(Settling::Settled(vec![3])));
             // (slice 14 of row 1 costs 27/5, and slice 7 of row 2 13/2)
             assert_eq!(asked(&both, guaranteed), Ok(Settling::Settled(vec![5, 2])));
-            assert_eq!(asked(&[goal(1, 14), goal(2, 7)], guaranteed), Ok(Settling::Stuck(0)));
+            assert_eq!(asked(&[goal(1, 14), goal(2, 7)], guaranteed), Ok(Settling::Unsettled));
+            assert_eq!(asked(&[goal(1, 21)], guaranteed), Ok(Settling::Stuck(0)));
         }
         assert_eq!(asked(&[goal(3, 1)], false), Err(fault(20, None)));
     }
