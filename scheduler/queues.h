@@ -424,7 +424,9 @@ static __noinline int look_at(struct on_cpu *here, u32 number)
 
     if (!tree->waiting)
         return 0;
-    if (time_ns >= on_cpu(here->cpu)->late_ns && is_late(oldest))
+    /* (of all trees that which waits for longest, or a crowd in one would keep others from a turn) */
+    if (time_ns >= on_cpu(here->cpu)->late_ns && is_late(oldest)
+        && (!here->best.late || task_at(oldest)->since_ns < task_at(here->best.late)->since_ns))
         here->best.late = oldest;
     if (is_earlier(due, here->best.due)
         || (due < NOBODY && due == here->best.due

@@ -268,6 +268,9 @@ CASES = {
     **{f"{count} tasks on {cpus} CPUs": Case(
         cpus, (f"a,100,0,{cpus},{ALWAYS}:g={500 * cpus}", f"a,100,0,{count},{ALWAYS}:g={400 * cpus}"),
         lacks={1: most}, seconds=40) for count, cpus, most in ((8000, 1, 30), (65000, 2, 60))},
+    "crowds that are bound to some CPUs and to one": Case(
+        4, (f"a,100,0,2,{ALWAYS}:g=500", "a,100,0,15000,0,0,0,m3:g=400",
+            "a,100,0,15000,0,0,0,0:g=400"), lacks={1: 8}, seconds=40),
     "12000 tasks without a number": Case(
         2, (f"a,100,0,2,{ALWAYS}:g=1000", "t,100,10000,65533,1,999999999,999999999,-1:g=100",
             f"+a,100,10000,12000,{ALWAYS}"), lacks={1: 120}, seconds=40),
