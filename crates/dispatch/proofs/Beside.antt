@@ -1,13 +1,12 @@
 -- How far a leaf gets ahead of one that waits throughout, beside guarantees.
 use Rattle.std.proofs.Common.{◌≡◌, ◌≢◌, ℕ, suc, ◌+◌, ◌-◌, ◌*◌, ◌<◌, ◌≤◌, ◌==◌, ◌&&◌, ◌⊎◌, inl, inr}
 use Rattle.std.proofs.Common.{List, [], ◌∷◌, length, Bool, true, false, Option, None, Some}
-use Rattle.std.proofs.Common.{slice_get, refl, ap, sym, subst, ◌∙◌, arith, nat_lt}
+use Rattle.std.proofs.Common.{slice_get, refl, ap, sym, subst, ◌∙◌, arith}
 use Rattle.std.proofs.Common.{if◌then◌else◌}
-use Rattle.std.specs.List.{sum_by, AllByRecursion}
+use Rattle.std.specs.List.{sum_by}
 use Rattle.std.proofs.Math.Nat.{mul-le-mul_right}
 use Rattle.std.proofs.lemmas.Bool.{eq-eqb, ne_eqb, eqb-true, eqb-false}
 use Rattle.std.proofs.lemmas.List.{length-map}
-use Rattle.std.proofs.lemmas.List.Sums.{sum_by-cons}
 use Rattle.dispatch.specs.declared.leaves.Leaf.{Leaf}
 use Rattle.dispatch.specs.declared.reservation.Account.{Account}
 use Rattle.dispatch.specs.declared.reservation.Run.{Run}
@@ -16,12 +15,11 @@ use Rattle.dispatch.specs.declared.reservation.Step.TheVariants.{Pass, Wake, Pic
 use Rattle.dispatch.specs.declared.reservation.Step.TheVariants.{Give, Leave, Cut, Stop, Refill}
 use Rattle.dispatch.specs.Beside.{due_pick, due_picks, WaitsBeside, IsRunBeside, LeadIsDue}
 use Rattle.dispatch.specs.Groups.{used_by, used_at, used_in}
-use Rattle.dispatch.specs.Reservation.{Reservations, WHOLE, account_at, after, aged, terms_of}
-use Rattle.dispatch.specs.Reservation.{capped, capped_owed, cut, ended, given, left, passed, picked}
-use Rattle.dispatch.specs.Reservation.{quantum_of, rate_of, settled_owed, state_ended, stopped}
-use Rattle.dispatch.specs.Reservation.{with_account, woken, Allows, IsDue, MayPick, leaves_of}
+use Rattle.dispatch.specs.Reservation.{Reservations, account_at, after, aged, terms_of}
+use Rattle.dispatch.specs.Reservation.{cut, ended, given, left, passed, picked}
+use Rattle.dispatch.specs.Reservation.{state_ended, stopped}
+use Rattle.dispatch.specs.Reservation.{with_account, woken, Allows, IsDue, MayPick}
 use Rattle.dispatch.specs.Reservation.{Waits, paid_by}
-use Rattle.dispatch.specs.Rule as shares
 use Rattle.dispatch.specs.Runs.{most_ahead}
 use Rattle.dispatch.specs.Steps.{is_due}
 use Rattle.dispatch.specs.Windows.{of_run, over_runs}
@@ -33,125 +31,9 @@ use Rattle.dispatch.proofs.Counts.{length_set}
 use Rattle.dispatch.proofs.Exact.{is_due_of}
 use Rattle.dispatch.proofs.Leads.{lead_picked, lead_ended}
 use Rattle.dispatch.proofs.Totals.{sum_set}
-
--- ---- leaves
-
--- the share of a leaf after an event: its amount stays, and its charge is no less
-record More (was is : Account) : Type 0 where
-  amount : is.share.amount ≡ was.share.amount
-  charged : was.share.charged ≤ is.share.charged
-
--- its charge stays too
-record Same (was is : Account) : Type 0 where
-  amount : is.share.amount ≡ was.share.amount
-  charged : is.share.charged ≡ was.share.charged
-
-same_set : (s : Reservations) (k x : ℕ) (a : Account) → k < length s.accounts
-    → Same (account_at s k) a → Same (account_at s x) (account_at (with_account s k a) x)
-same_set s k x a known same = elim (account_set s.accounts k x a known) [
-  | inl h ↦
-      let from : account_at s x ≡ account_at s k = ap (account_at s) h.0 in
-      record {
-        amount = ap (λ (y : Account). y.share.amount) h.1
-            ∙ (same.amount ∙ ap (λ (y : Account). y.share.amount) (sym from));
-        charged = ap (λ (y : Account). y.share.charged) h.1
-            ∙ (same.charged ∙ ap (λ (y : Account). y.share.charged) (sym from));
-      }
-  | inr h ↦ record {
-    amount = ap (λ (y : Account). y.share.amount) h.1;
-    charged = ap (λ (y : Account). y.share.charged) h.1;
-  }
-]
-
-more_set : (s : Reservations) (k x : ℕ) (a : Account) → k < length s.accounts
-    → More (account_at s k) a → More (account_at s x) (account_at (with_account s k a) x)
-more_set s k x a known more = elim (account_set s.accounts k x a known) [
-  | inl h ↦
-      let from : account_at s x ≡ account_at s k = ap (account_at s) h.0 in
-      record {
-        amount = ap (λ (y : Account). y.share.amount) h.1
-            ∙ (more.amount ∙ ap (λ (y : Account). y.share.amount) (sym from));
-        charged = omega (
-          arith,
-          more.charged,
-          ap (λ (y : Account). y.share.charged) h.1,
-          ap (λ (y : Account). y.share.charged) from,
-        );
-      }
-  | inr h ↦ record {
-    amount = ap (λ (y : Account). y.share.amount) h.1;
-    charged = omega (arith, ap (λ (y : Account). y.share.charged) h.1);
-  }
-]
-
-more_of : (a b : Account) → Same a b → More a b
-more_of a b same = record { amount = same.amount; charged = omega (arith, same.charged) }
-
-lifted_more : (c : ℕ) (o : Option ℕ) (top : ℕ) → c ≤ shares.lifted c o top
-lifted_more c None top = omega arith
-lifted_more c (Some l) top = omega arith
-
-woken_more : (s : Reservations) (tasks : ℕ) (a : Account) → More a (woken s tasks a)
-woken_more s tasks a = record { amount = refl; charged = by_test (shares.has_tasks a.share) } where
-  by_test : (b : Bool) → a.share.charged ≤ (if◌then◌else◌ {A = ℕ} b a.share.charged
-      (shares.lifted a.share.charged
-      (shares.level s.slice a.share.amount (leaves_of s.accounts))
-      (shares.greatest a.share.amount (leaves_of s.accounts))))
-  by_test true = omega arith
-  by_test false =
-      lifted_more a.share.charged (shares.level s.slice a.share.amount (leaves_of s.accounts))
-      (shares.greatest a.share.amount (leaves_of s.accounts))
-
-either_share : (b : Bool) (s : Reservations) (a : Account)
-    → (if◌then◌else◌ {A = Account} b (cut s a) a).share ≡ a.share
-either_share true s a = refl
-either_share false s a = refl
-
-ended_share : (s : Reservations) (run : Run) (used : ℕ) (remains : Bool) (a : Account)
-    → (ended s run used remains a).share ≡ shares.ended s.slice used remains a.share
-ended_share s run used remains a =
-    let now : Account = record a {
-      share = shares.ended s.slice used remains a.share;
-      owed = settled_owed (quantum_of s) run.paid (WHOLE * run.age)
-          (capped_owed (terms_of s) a);
-    } in
-    either_share (nat_lt (rate_of now) (rate_of a)) s now
-
-left_same : (s : Reservations) (a : Account) → Same a (left s a)
-left_same s a =
-    let now : Account = record (capped (terms_of s) a) {
-      share = record a.share { waiting = a.share.waiting - 1 };
-    } in
-    let is : (left s a).share ≡ now.share =
-    either_share (nat_lt (rate_of now) (rate_of a)) s now in
-    record {
-      amount = ap (λ (l : Leaf). l.amount) is;
-      charged = ap (λ (l : Leaf). l.charged) is;
-    }
-
-stopped_same : (s : Reservations) (stops : Bool) (a : Account) → Same a (stopped s stops a)
-stopped_same s true a = record { amount = refl; charged = refl }
-stopped_same s false a = record { amount = refl; charged = refl }
-
--- ---- runs
-
-small_run : (k : ℕ) (q : Option Run) → of_run k one q ≤ busy q
-small_run k None = omega arith
-small_run k (Some run) = by_test (run.leaf == k) where
-  by_test : (b : Bool) → (if◌then◌else◌ {A = ℕ} b 1 0) ≤ 1
-  by_test true = omega arith
-  by_test false = omega arith
-
-few_runs : (k : ℕ) (ps : List (Option Run)) → over_runs k one ps ≤ sum_by busy ps
-few_runs k [] = omega arith
-few_runs k (q ∷ ps) =
-    omega (
-      arith,
-      small_run k q,
-      few_runs k ps,
-      sum_by-cons (of_run k one) q ps,
-      sum_by-cons busy q ps,
-    )
+use Rattle.dispatch.proofs.BesideLeaves.{More, Same}
+use Rattle.dispatch.proofs.BesideLeaves.{same_set, more_set, more_of, woken_more, ended_share}
+use Rattle.dispatch.proofs.BesideLeaves.{left_same, stopped_same, few_runs}
 
 -- ---- each state of a run, of a leaf i and of one j that waits
 

@@ -6,6 +6,7 @@ mod BacklogPicks
 mod BacklogRuns
 mod BacklogTime
 mod Beside
+mod BesideLeaves
 mod Counts
 mod Deadlines
 mod Demands

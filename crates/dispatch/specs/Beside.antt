@@ -34,9 +34,9 @@ IsRunBeside i j s [] = Unit {0}
 IsRunBeside i j s (e ∷ es) =
     Allows s e × WaitsBeside i j s e × IsRunBeside i j (after s e) es
 
--- No leaf i gets further ahead of one that waits throughout than where none has a guarantee, but for
--- a quantum for each pick at which i was due. So what is no guarantee is divided by the amounts. At
--- first no processor runs a task, and i is not ahead.
+-- No leaf i gets further ahead of one that waits throughout than where none has a guarantee, but
+-- for a quantum for each pick at which i was due. So what is no guarantee is divided by the
+-- amounts. At first no processor runs a task, and i is not ahead.
 abbrev pub LeadIsDue : Type 0
 LeadIsDue = (s : Reservations) (i j : ℕ) (events : List Step)
     → AllByRecursion (λ q. q ≡ None) s.processors → s.slice ≤ s.quantum → i ≢ j
