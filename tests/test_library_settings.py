@@ -134,16 +134,18 @@ class Several:
         self.rows = [[None, 100, None, 0]]
         for row in range(1, drawn.randint(3, 9)):
             self.rows.append([drawn.randrange(row), drawn.randint(1, 60),
-                              drawn.choice((None, None, None, drawn.randint(0, 20))),
-                              drawn.choice((0, drawn.randint(0, 25)))])
+                              drawn.choice((*[None] * 6, drawn.randint(0, 20))),
+                              drawn.choice((0, *[drawn.randint(5, 25)] * 4))])
         for parent in {row[0] for row in self.rows[1:]}:
             self.rows[parent][3] = 0
         self.followers = {
-            row: Follower(drawn.choice(tuple(WeightFormula)), drawn.choice((0, 0, 40)),
-                          drawn.choice((0, 0, 25, NO_LIMIT - 30)))
+            row: Follower(drawn.choice((*WeightFormula, *[WeightFormula.UNIT_WEIGHT] * 9)),
+                          drawn.choice((0, 0, 0, 20)), drawn.choice((0, 0, 0, 9, NO_LIMIT - 30)))
             for row in range(1, len(self.rows)) if drawn.random() < 0.8}
-        self.goals = [self.goal(drawn) for _ in range(drawn.randint(1, 4))]
         self.guaranteed = drawn.random() < 0.3
+        self.goals = [self.goal(drawn) for _ in range(drawn.randint(1, 4))]
+        self.goals = [goal._replace(amount=self.amount(drawn, place))
+                      for place, goal in enumerate(self.goals)]
 
     def above(self, row):
         """A row and those above it."""
@@ -152,10 +154,18 @@ class Several:
     def goal(self, drawn):
         owner = drawn.randrange(1, len(self.rows))
         below = [row for row in range(len(self.rows)) if owner in self.above(row)]
-        first = drawn.choice((0, 1, drawn.randint(0, 60)))
-        return OwnerGoal(drawn.choice((owner, owner, *below, *self.above(owner))),
-                         drawn.choice((0, 1, 3, 6, 12)), owner, drawn.choice(self.above(owner)),
-                         first, first + drawn.randint(0, 30))
+        first = drawn.choice((0, 1, 1, drawn.randint(0, 60)))
+        return OwnerGoal(drawn.choice((owner, owner, *below, *self.above(owner))), 0, owner,
+                         drawn.choice(self.above(owner)), first, first + drawn.randint(0, 40))
+
+    def amount(self, drawn, place):
+        """An amount near those of the first and the last number of one goal."""
+        numbers = [goal.first for goal in self.goals]
+        least = got(self.weighed(numbers), self.goals[place].group, self.guaranteed)
+        numbers[place] = self.goals[place].last
+        most = got(self.weighed(numbers), self.goals[place].group, self.guaranteed)
+        return drawn.choice((0, least, min(least + 1, most), (least + most + 1) // 2, most,
+                             most + (drawn.random() < 0.2)))
 
     def has(self, row, goal):
         """Whether a row has the number of a goal: on the way up from its owner's to the top."""
