@@ -10,6 +10,8 @@ from support import scheduler_lacks
 # A verifier ends at a million. That of Linux 6.18 did so in three parts, when what a stage of a
 # section left in registers and on the stack made a state of each of its paths.
 MOST = 250_000
+# Types of this machine's kernel, which its verifier compares.
+TYPES = "/sys/kernel/btf/vmlinux"
 
 
 @pytest.fixture(scope="module", name="parts")
@@ -20,6 +22,8 @@ def parts_that_were_followed():
     lacks = scheduler_lacks()
     if lacks:
         pytest.skip(lacks)
+    if not os.path.exists(TYPES):
+        pytest.skip(f"no {TYPES}")
     try:
         return verified.followed()
     except KernelFault as fault:
