@@ -96,6 +96,11 @@ static uint64_t number_for(const char *name, struct chance *chance)
     /* most rows follow no formula: a row that does, and is not on the way of the group, refuses the call */
     if (!strcmp(name, "formulas"))
         return each % 40 ? 0 : each % 8;
+    /* most goals are of the first rows, and their owner's row is the root, above each of them */
+    if (!strcmp(name, "groups"))
+        return each % 80 ? each % 2 : each % 30;
+    if (!strcmp(name, "owners"))
+        return each % 80 ? 0 : each % 30;
     if (!strcmp(name, "weights"))
         return 1 + each % 10000;
     if (!strcmp(name, "limits") || !strcmp(name, "limit") || !strcmp(name, "own"))
